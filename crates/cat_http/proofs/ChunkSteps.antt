@@ -40,7 +40,7 @@ content_snoc [] c = append-nil c.content
 content_snoc (d ∷ cs) c = ap (λ s. d.content ++ s) (content_snoc cs c) ∙ sym (append_assoc d.content (content_of cs) c.content)
 
 -- the line of size 0
-zero_line : ChunkLine
+abbrev zero_line : ChunkLine
 zero_line = record { digits = 48 ∷ []; pad = []; extension = None }
 
 zero_is : IsChunkLine zero_line
@@ -51,7 +51,7 @@ zero_is = record {
 }
 
 module _ (stream body mid : List ℕ) (raw : ℕ) (s : StandsBehind stream body mid raw) (few : length body ≤ 1048576) where
-  front : List ℕ
+  abbrev front : List ℕ
   front = chunks_then s.chunks []
 
   all_is : stream ≡ front ++ mid
@@ -133,7 +133,7 @@ module _ (stream body mid : List ℕ) (raw : ℕ) (s : StandsBehind stream body 
 
   -- the limit is inside a size line
   pub line_unfinished : (seen back : List ℕ) → raw + length seen ≡ 2097152 → 2097152 < length stream → mid ≡ seen ++ back → MayBecomeChunkLine seen → IsLargeChunked stream
-  line_unfinished seen back at long is (more, l, line, reads) =
+  line_unfinished seen back at long is (more, l, (line, reads)) =
       let n = 2097152 - raw in
       let c : List ℕ = replicate (chunk_size l) 0 in
       let len : length seen ≡ n = omega arith in
@@ -227,7 +227,7 @@ module _ (stream body mid : List ℕ) (raw : ℕ) (s : StandsBehind stream body 
               let fill : List ℕ = replicate (chunk_size l - n) 0 in
               let len : length seen ≡ n = length-take-le n after (omega (arith, more)) in (
                 seen ++ fill,
-                omega (arith, length-append seen fill, length-replicate (chunk_size l - n) 0, len),
+                omega (arith, length-append seen fill, length-replicate {A = ℕ} (chunk_size l - n) 0, len),
                 ap (take n) (append_assoc seen fill (13 ∷ 10 ∷ [])) ∙ take_at seen (fill ++ 13 ∷ 10 ∷ []) n len,
               )
         ]
@@ -265,7 +265,7 @@ module _ (stream body mid : List ℕ) (raw : ℕ) (s : StandsBehind stream body 
 
       pub no_cr : raw + length (print_chunk_line l) + chunk_size l < 2097152 → get_or after (chunk_size l) 0 ≢ 13 → IsBadChunked stream
       no_cr inside other =
-          data_refused (chunk_size l) inside (λ c rest len same. other (sym same ∙ get_or_at c 13 (10 ∷ rest) (chunk_size l) 0 len))
+          data_refused (chunk_size l) inside (λ c rest len same. other (sym same ∙ get_or_at c 13 (10 ∷ rest) 0 (chunk_size l) len))
 
       pub no_lf : raw + length (print_chunk_line l) + (chunk_size l + 1) < 2097152 → get_or after (chunk_size l + 1) 0 ≢ 10 → IsBadChunked stream
       no_lf inside other =

@@ -8,3 +8,4 @@ pub mod PutLemmas
 pub mod OneWay
 pub mod ChunkLemmas
 pub mod ChunkSteps
+pub mod ChunkBuffer

@@ -10,6 +10,7 @@ use Rattle.httparse.specs.Spans.{IsHeaderWithin, span_bytes, header_bytes, name_
 use Rattle.httparse.specs.declared.spans.HeaderSpan.{HeaderSpan}
 use Rattle.httparse.specs.declared.spans.RequestSpans.{RequestSpans}
 use Rattle.httparse.proofs.GrammarLemmas.{ReadsRequest-append}
+use Rattle.cat_http.proofs.StreamLemmas.{range_same}
 use Rattle.cat_http.specs.Message.{message_at}
 use Rattle.cat_http.specs.Fields.{body_length}
 use Rattle.cat_http.specs.Next.{fields_of, IsHead, IsRequest, IsTooLarge, IsMalformed, IsBody, IsBadBody, IsLargeBody}
@@ -22,11 +23,6 @@ use Rattle.cat_http.specs.Head.{FoundHead}
 use Rattle.cat_http.specs.Outcome.{OutcomeOf}
 use Rattle.cat_http.specs.declared.fields.BodyLength.TheVariants as size
 use Rattle.cat_http.specs.declared.next.Outcome.TheVariants as outcome
-
--- a part of the first bytes is the same in both
-pub range_same : (xs ys : List ℕ) (m a b : ℕ) → take m xs ≡ take m ys → b ≤ m → slice_range xs a b ≡ slice_range ys a b
-range_same xs ys m a b same within =
-    between_is xs a b ∙ ap (drop a) (sym (take-take b m xs within) ∙ ap (take b) same ∙ take-take b m ys within) ∙ sym (between_is ys a b)
 
 fields_same : (xs ys : List ℕ) (m : ℕ) (hs : List HeaderSpan) → take m xs ≡ take m ys → All (IsHeaderWithin m) hs
     → map (header_bytes xs) hs ≡ map (header_bytes ys) hs

@@ -1,4 +1,4 @@
-ghost use Rattle.std.specs.Prelude.{◌≡◌, ◌+◌, ◌^◌, ◌<◌, ◌≤◌, min, length, take, None};
+ghost use Rattle.std.specs.Prelude.{◌≡◌, ◌≢◌, ◌+◌, ◌^◌, ◌<◌, ◌≤◌, min, length, take, None};
 ghost use Rattle.cat_io.specs.Causes.{Rose};
 ghost use Rattle.cat_http.specs.Streams.{KeepsStream};
 ghost use Rattle.cat_http.specs.ChunkedRead.{EndIs};
@@ -46,7 +46,8 @@ pub fn read_chunk_end<S: Source>(
 fn end_in(bytes: &[u8], at: usize, limit: usize) -> EndRead
     requires few { at + 2 < 2 ^ 64 }
     requires enough { min (at + 2) (limit + 1) ≤ length bytes.now }
-    ensures { EndIs result bytes.now at (length bytes.now) limit None }
+    ensures is { EndIs result bytes.now at (length bytes.now) limit None }
+    ensures no_fault { result ≢ EndRead.Fault }
 {
     if at < limit && bytes[at] != b'\r' {
         return EndRead::Malformed;

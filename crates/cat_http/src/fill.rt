@@ -75,16 +75,18 @@ pub fn fill_line<S: Source>(
     ensures grows { end.old ≤ end.new }
     ensures within { end.new ≤ length bytes.new }
     ensures more { result ≡ Filled.More → end.old < end.new }
-    ensures ends { result ≡ Filled.End → IsAtEnd (S.left source.new) × (end.new ≤ limit) }
+    ensures ends { result ≡ Filled.End → IsAtEnd (S.left source.new) × (end.new ≡ end.old) }
     ensures fault { result ≡ Filled.Fault → Rose (S.faults source.old) (S.faults source.new) }
     ensures later { S.faults source.old ≤ S.faults source.new }
     ensures front { take end.old bytes.new ≡ take end.old bytes.old }
     ensures stream { KeepsStream (S.left source.old) (S.left source.new) (take end.old bytes.old) (take end.new bytes.new) }
 {
+    let first = *end;
     'reads: loop {
         let before = *end;
         match fill(source, bytes, end) {
             Filled::More => {}
+            Filled::End if before > first => return Filled::More,
             other => return other,
         }
         if *end > limit || has_line_feed(&bytes[before..*end]) {

@@ -7,6 +7,7 @@ invariant-reads g l = record {
   within : l.end ≤ length l.bytes;
   len : length l.bytes ≡ length l.fn.bytes;
   grows : l.fn.end ≤ l.end;
+  first : l.first ≡ l.fn.end;
   some : l.end ≤ l.limit;
   later : g.S.Source.faults l.fn.source ≤ g.S.Source.faults l.source;
   front : take l.fn.end l.bytes ≡ take l.fn.end l.fn.bytes;
