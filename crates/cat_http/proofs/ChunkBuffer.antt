@@ -113,22 +113,22 @@ module _ (old new : Option (List ℕ)) (given b : List ℕ) (start kept at e lim
 
   pub line_refused_answer : NeverHasChunkLine (slice_range b at (min e limit)) → AnswerOf answer.Malformed old new given b start e
   line_refused_answer never = answer_from answer.Malformed old new given b body (slice_range b at e) (at - start) start e stands (λ stream ys told s.
-    let m = min e limit in
-    line_refused stream body (slice_range b at e ++ ys) (at - start) s few (slice_range b at m) (slice_range b m e ++ ys)
-    (omega (arith, slice_len b at m (omega arith) (omega arith))) (cut_at ys m (omega arith) (omega arith)) never)
+      let m = min e limit in
+      line_refused stream body (slice_range b at e ++ ys) (at - start) s few (slice_range b at m) (slice_range b m e ++ ys)
+      (omega (arith, slice_len b at m (omega arith) (omega arith))) (cut_at ys m (omega arith) (omega arith)) never)
 
   pub line_cut_answer : IsAtEnd new → e ≤ limit → HasNoChunkLine (slice_range b at e) → AnswerOf answer.Malformed old new given b start e
   line_cut_answer end short none = answer_from answer.Malformed old new given b body (slice_range b at e) (at - start) start e stands (λ stream ys told s.
-    let nothing : ys ≡ [] = at_end new ys told end in
-    let all : slice_range b at e ++ ys ≡ slice_range b at e = ap (λ t. slice_range b at e ++ t) nothing ∙ append-nil (slice_range b at e) in
-    line_cut stream body (slice_range b at e ++ ys) (at - start) s few
-    (omega (arith, stream_len stream body (slice_range b at e ++ ys) (at - start) s few, mid_len ys, ap length nothing)) (subst HasNoChunkLine (sym all) none))
+      let nothing : ys ≡ [] = at_end new ys told end in
+      let all : slice_range b at e ++ ys ≡ slice_range b at e = ap (λ t. slice_range b at e ++ t) nothing ∙ append-nil (slice_range b at e) in
+      line_cut stream body (slice_range b at e ++ ys) (at - start) s few
+      (omega (arith, stream_len stream body (slice_range b at e ++ ys) (at - start) s few, mid_len ys, ap length nothing)) (subst HasNoChunkLine (sym all) none))
 
   pub line_unfinished_answer : limit < e → MayBecomeChunkLine (slice_range b at limit) → AnswerOf answer.TooLarge old new given b start e
   line_unfinished_answer long may = answer_from answer.TooLarge old new given b body (slice_range b at e) (at - start) start e stands (λ stream ys told s.
-    line_unfinished stream body (slice_range b at e ++ ys) (at - start) s few (slice_range b at limit) (slice_range b limit e ++ ys)
-    (omega (arith, slice_len b at limit reach (omega arith))) (omega (arith, stream_len stream body (slice_range b at e ++ ys) (at - start) s few, mid_len ys))
-    (cut_at ys limit reach (omega arith)) may)
+      line_unfinished stream body (slice_range b at e ++ ys) (at - start) s few (slice_range b at limit) (slice_range b limit e ++ ys)
+      (omega (arith, slice_len b at limit reach (omega arith))) (omega (arith, stream_len stream body (slice_range b at e ++ ys) (at - start) s few, mid_len ys))
+      (cut_at ys limit reach (omega arith)) may)
 
   module _ (l : ChunkLine) (line : IsChunkLine l) (len n begins : ℕ) (is_data : begins ≡ at + len) (is_len : len ≡ length (print_chunk_line l)) (is_size : n ≡ chunk_size l)
       (here : slice_range b at begins ≡ print_chunk_line l) (inside : begins ≤ e) (data_reach : begins ≤ limit) where
@@ -151,38 +151,38 @@ module _ (old new : Option (List ℕ)) (given b : List ℕ) (start kept at e lim
 
     pub sum_answer : 1048576 < kept + n → AnswerOf answer.TooLarge old new given b start e
     sum_answer large = answer_from answer.TooLarge old new given b body (slice_range b at e) (at - start) start e stands (λ stream ys told s.
-      sum_large stream body (slice_range b at e ++ ys) (at - start) s few l line (after ys) (mid_is ys) (omega (arith, body_len)))
+        sum_large stream body (slice_range b at e ++ ys) (at - start) s few l line (after ys) (mid_is ys) (omega (arith, body_len)))
 
     pub data_unfinished_answer : limit < e → limit < begins + n + 2 → (begins + n < limit → get_or b (begins + n) 0 ≡ 13) → AnswerOf answer.TooLarge old new given b start e
     data_unfinished_answer long past cr = answer_from answer.TooLarge old new given b body (slice_range b at e) (at - start) start e stands (λ stream ys told s.
-      data_unfinished stream body (slice_range b at e ++ ys) (at - start) s few l line (after ys) (mid_is ys) (omega (arith, total stream ys s))
-      (omega arith) (limit - begins) (omega arith) (omega arith)
-      (λ passed. ap (λ k. get_or (after ys) k 0) (sym is_size) ∙ get_at ys n (omega arith) ∙ cr (omega arith)))
+        data_unfinished stream body (slice_range b at e ++ ys) (at - start) s few l line (after ys) (mid_is ys) (omega (arith, total stream ys s))
+        (omega arith) (limit - begins) (omega arith) (omega arith)
+        (λ passed. ap (λ k. get_or (after ys) k 0) (sym is_size) ∙ get_at ys n (omega arith) ∙ cr (omega arith)))
 
     module _ (allowed : kept + n ≤ 1048576) where
       pub data_cut_answer : IsAtEnd new → e < begins + n + 2 → e ≤ limit → AnswerOf answer.Malformed old new given b start e
       data_cut_answer end lacks short = answer_from answer.Malformed old new given b body (slice_range b at e) (at - start) start e stands (λ stream ys told s.
-        let nothing : ys ≡ [] = at_end new ys told end in
-        data_cut stream body (slice_range b at e ++ ys) (at - start) s few l line (after ys) (mid_is ys) (omega (arith, body_len))
-        (omega (arith, total stream ys s, ap length nothing)) (omega (arith, after_len ys, ap length nothing)))
+          let nothing : ys ≡ [] = at_end new ys told end in
+          data_cut stream body (slice_range b at e ++ ys) (at - start) s few l line (after ys) (mid_is ys) (omega (arith, body_len))
+          (omega (arith, total stream ys s, ap length nothing)) (omega (arith, after_len ys, ap length nothing)))
 
       pub end_refused_answer : (stop : ℕ) → stop ≡ begins + n → ((stop < e) × (stop < limit) × (get_or b stop 0 ≢ 13)) ⊎ ((stop + 1 < e) × (stop + 1 < limit) × (get_or b (stop + 1) 0 ≢ 10))
           → AnswerOf answer.Malformed old new given b start e
       end_refused_answer stop is_stop (inl other) = answer_from answer.Malformed old new given b body (slice_range b at e) (at - start) start e stands (λ stream ys told s.
-        no_cr stream body (slice_range b at e ++ ys) (at - start) s few l line (after ys) (mid_is ys) (omega (arith, body_len)) (omega (arith, other.1))
-        (λ same. other.2 (ap (λ k. get_or b k 0) is_stop ∙ sym (get_at ys n (omega (arith, other.0))) ∙ ap (λ k. get_or (after ys) k 0) is_size ∙ same)))
+          no_cr stream body (slice_range b at e ++ ys) (at - start) s few l line (after ys) (mid_is ys) (omega (arith, body_len)) (omega (arith, other.1))
+          (λ same. other.2 (ap (λ k. get_or b k 0) is_stop ∙ sym (get_at ys n (omega (arith, other.0))) ∙ ap (λ k. get_or (after ys) k 0) is_size ∙ same)))
       end_refused_answer stop is_stop (inr other) = answer_from answer.Malformed old new given b body (slice_range b at e) (at - start) start e stands (λ stream ys told s.
-        let place : stop + 1 ≡ begins + (n + 1) = omega arith in
-        no_lf stream body (slice_range b at e ++ ys) (at - start) s few l line (after ys) (mid_is ys) (omega (arith, body_len)) (omega (arith, other.1))
-        (λ same. other.2 (ap (λ k. get_or b k 0) place ∙ sym (get_at ys (n + 1) (omega (arith, other.0))) ∙ ap (λ k. get_or (after ys) (k + 1) 0) is_size ∙ same)))
+          let place : stop + 1 ≡ begins + (n + 1) = omega arith in
+          no_lf stream body (slice_range b at e ++ ys) (at - start) s few l line (after ys) (mid_is ys) (omega (arith, body_len)) (omega (arith, other.1))
+          (λ same. other.2 (ap (λ k. get_or b k 0) place ∙ sym (get_at ys (n + 1) (omega (arith, other.0))) ∙ ap (λ k. get_or (after ys) (k + 1) 0) is_size ∙ same)))
 
     module _ (stop next : ℕ) (is_stop : stop ≡ begins + n) (is_next : next ≡ stop + 2) (has : next ≤ e) (fits : next ≤ limit) (cr : get_or b stop 0 ≡ 13) (lf : get_or b (stop + 1) 0 ≡ 10) where
       ends_here : (ys : List ℕ) → after ys ≡ slice_range b begins stop ++ 13 ∷ 10 ∷ (slice_range b next e ++ ys)
       ends_here ys =
           ap (λ t. t ++ ys) (slice_split b begins stop e (omega arith) (omega arith)
-            ∙ ap (λ t. slice_range b begins stop ++ t)
-              (slice_more b stop e (stop + 1) (omega arith) within refl ∙ ap (λ t. get_or b stop 0 ∷ t) (slice_more b (stop + 1) e next (omega arith) within (omega arith))
-                ∙ ap (λ x. x ∷ get_or b (stop + 1) 0 ∷ slice_range b next e) cr ∙ ap (λ x. 13 ∷ x ∷ slice_range b next e) lf))
+          ∙ ap (λ t. slice_range b begins stop ++ t)
+          (slice_more b stop e (stop + 1) (omega arith) within refl ∙ ap (λ t. get_or b stop 0 ∷ t) (slice_more b (stop + 1) e next (omega arith) within (omega arith))
+          ∙ ap (λ x. x ∷ get_or b (stop + 1) 0 ∷ slice_range b next e) cr ∙ ap (λ x. 13 ∷ x ∷ slice_range b next e) lf))
           ∙ append_assoc (slice_range b begins stop) (13 ∷ 10 ∷ slice_range b next e) ys
 
       data_len : length (slice_range b begins stop) ≡ n
@@ -190,16 +190,16 @@ module _ (old new : Option (List ℕ)) (given b : List ℕ) (start kept at e lim
 
       pub whole_answer : n ≡ 0 → AnswerOf (answer.Whole kept next) old new given b start e
       whole_answer none = answer_from (answer.Whole kept next) old new given b body (slice_range b at e) (at - start) start e stands (λ stream ys told s.
-        let empty : slice_range b begins stop ≡ [] = Rattle.std.proofs.lemmas.List.nil_from_length (slice_range b begins stop) (omega (arith, data_len)) in
-        ends_whole stream body (slice_range b at e ++ ys) (at - start) s few l line (after ys) (mid_is ys) (slice_range b next e ++ ys) (omega arith)
-        (ends_here ys ∙ ap (λ t. t ++ 13 ∷ 10 ∷ (slice_range b next e ++ ys)) empty) (omega arith))
+          let empty : slice_range b begins stop ≡ [] = Rattle.std.proofs.lemmas.List.nil_from_length (slice_range b begins stop) (omega (arith, data_len)) in
+          ends_whole stream body (slice_range b at e ++ ys) (at - start) s few l line (after ys) (mid_is ys) (slice_range b next e ++ ys) (omega arith)
+          (ends_here ys ∙ ap (λ t. t ++ 13 ∷ 10 ∷ (slice_range b next e ++ ys)) empty) (omega arith))
 
       next_stands : 0 < n → StandsBehindOf old new given (body ++ slice_range b begins stop) (slice_range b next e) (next - start)
       next_stands some = stands_from old new given body (slice_range b at e) (body ++ slice_range b begins stop) (slice_range b next e) (at - start) (next - start) stands (λ stream ys s.
-        let raw : at - start + (length (print_chunk_line l) + chunk_size l + 2) ≡ next - start = omega arith in
-        subst (StandsBehind stream (body ++ slice_range b begins stop) (slice_range b next e ++ ys)) raw
-        (one_more stream body (slice_range b at e ++ ys) (at - start) s few l line (after ys) (mid_is ys) (slice_range b begins stop) (slice_range b next e ++ ys)
-        (omega arith) (omega (arith, data_len)) (ends_here ys)))
+          let raw : at - start + (length (print_chunk_line l) + chunk_size l + 2) ≡ next - start = omega arith in
+          subst (StandsBehind stream (body ++ slice_range b begins stop) (slice_range b next e ++ ys)) raw
+          (one_more stream body (slice_range b at e ++ ys) (at - start) s few l line (after ys) (mid_is ys) (slice_range b begins stop) (slice_range b next e ++ ys)
+          (omega arith) (omega (arith, data_len)) (ends_here ys)))
 
       -- the data was moved behind the body
       module _ (b' : List ℕ) (moves : b' ≡ copy_within b begins stop (start + kept)) where
@@ -241,8 +241,8 @@ module _ (old new : Option (List ℕ)) (given b : List ℕ) (start kept at e lim
             let stop' : start + kept' ≡ start + kept + n = omega arith in
             let carried : body ++ slice_range b begins stop ≡ slice_range b' start (start + kept') =
             sym (ap (slice_range b' start) stop' ∙ slice_split b' start (start + kept) (start + kept + n) (omega arith) (omega arith)
-              ∙ ap (λ t. t ++ slice_range b' (start + kept) (start + kept + n)) (range_same b' b (start + kept) start (start + kept) front_in (omega arith))
-              ∙ ap (λ t. body ++ t) data_in) in
+            ∙ ap (λ t. t ++ slice_range b' (start + kept) (start + kept + n)) (range_same b' b (start + kept) start (start + kept) front_in (omega arith))
+            ∙ ap (λ t. body ++ t) data_in) in
             let rest : slice_range b next e ≡ slice_range b' next e = ap (take (e - next)) (sym back_in) in
             subst (λ u. StandsBehindOf old new given (slice_range b' start (start + kept')) u (next - start)) rest
             (subst (λ t. StandsBehindOf old new given t (slice_range b next e) (next - start)) carried (next_stands some))

@@ -59,7 +59,7 @@ chunks_split [] rest = refl
 chunks_split (c ∷ cs) rest =
     ap (λ s. print_chunk_line c.line ++ (c.content ++ 13 ∷ 10 ∷ s)) (chunks_split cs rest)
     ∙ sym (append_assoc (print_chunk_line c.line) (c.content ++ 13 ∷ 10 ∷ chunks_then cs []) rest
-      ∙ ap (λ s. print_chunk_line c.line ++ s) (append_assoc c.content (13 ∷ 10 ∷ chunks_then cs []) rest))
+    ∙ ap (λ s. print_chunk_line c.line ++ s) (append_assoc c.content (13 ∷ 10 ∷ chunks_then cs []) rest))
 
 -- bytes that are alike a known front and then some are that front and then others
 alike : (front mid whole : List ℕ) (all : ℕ) → length front ≤ all → take all (front ++ mid) ≡ take all whole
@@ -73,20 +73,25 @@ alike front mid whole all fits same =
       drop raw whole,
       sym (take-append-drop raw whole) ∙ ap (λ s. s ++ drop raw whole) begin,
       sym (drop-take raw n whole) ∙ ap (λ k. drop raw (take k whole)) (sym sum) ∙ ap (drop raw) (sym same) ∙ ap (λ k. drop raw (take k (front ++ mid))) sum
-      ∙ drop-take raw n (front ++ mid) ∙ ap (take n) (drop_at front mid raw refl),
+          ∙ drop-take raw n (front ++ mid) ∙ ap (take n) (drop_at front mid raw refl),
     )
 
 -- a body within the limits isn't too large
 pub body_not_large : (bytes b r : List ℕ) → IsChunkedBody bytes b r → IsLargeChunked bytes → ⊥
 body_not_large bytes b r x (inl y) =
-    omega (arith, x.small, ap length x.reads.carried, y.large,
-      sum_bounded x.reads.chunks y.chunks x.reads.last y.next (13 ∷ 10 ∷ r) y.after x.reads.are y.are x.reads.line x.reads.zero y.line (sym x.reads.printed ∙ y.printed))
+    omega (
+      arith,
+      x.small,
+      ap length x.reads.carried,
+      y.large,
+      sum_bounded x.reads.chunks y.chunks x.reads.last y.next (13 ∷ 10 ∷ r) y.after x.reads.are y.are x.reads.line x.reads.zero y.line (sym x.reads.printed ∙ y.printed),
+    )
 body_not_large bytes b r x (inr y) =
     let last = print_chunk_line x.reads.last in
     let front = chunks_then x.reads.chunks [] ++ (last ++ 13 ∷ 10 ∷ []) in
     let joined : (s : List ℕ) → chunks_then x.reads.chunks (last ++ 13 ∷ 10 ∷ s) ≡ front ++ s =
     λ s. chunks_split x.reads.chunks (last ++ 13 ∷ 10 ∷ s)
-      ∙ sym (append_assoc (chunks_then x.reads.chunks []) (last ++ 13 ∷ 10 ∷ []) s ∙ ap (λ t. chunks_then x.reads.chunks [] ++ t) (append_assoc last (13 ∷ 10 ∷ []) s)) in
+    ∙ sym (append_assoc (chunks_then x.reads.chunks []) (last ++ 13 ∷ 10 ∷ []) s ∙ ap (λ t. chunks_then x.reads.chunks [] ++ t) (append_assoc last (13 ∷ 10 ∷ []) s)) in
     let all : bytes ≡ front ++ r = x.reads.printed ∙ joined r in
     let fits : length front ≤ 2097152 = omega (arith, x.short, ap length all, length-append front r) in
     let other = alike front r y.whole 2097152 fits (ap (take 2097152) (sym all) ∙ y.same) in

@@ -182,8 +182,15 @@ module _ (stream body mid : List ℕ) (raw : ℕ) (s : StandsBehind stream body 
     one_more c rest some len here =
         let chunk : Chunk = record { line = l; content = c } in
         let longer : length (chunks_then (s.chunks ++ chunk ∷ []) []) ≡ raw + (length (print_chunk_line l) + chunk_size l + 2) =
-        omega (arith, ap length (chunks_snoc s.chunks chunk []), ap length (chunks_split s.chunks (print_chunk_line l ++ (c ++ 13 ∷ 10 ∷ []))),
-          length-append front (print_chunk_line l ++ (c ++ 13 ∷ 10 ∷ [])), length-append (print_chunk_line l) (c ++ 13 ∷ 10 ∷ []), length-append c (13 ∷ 10 ∷ []), s.count) in
+        omega (
+          arith,
+          ap length (chunks_snoc s.chunks chunk []),
+          ap length (chunks_split s.chunks (print_chunk_line l ++ (c ++ 13 ∷ 10 ∷ []))),
+          length-append front (print_chunk_line l ++ (c ++ 13 ∷ 10 ∷ [])),
+          length-append (print_chunk_line l) (c ++ 13 ∷ 10 ∷ []),
+          length-append c (13 ∷ 10 ∷ []),
+          s.count,
+        ) in
         record {
           chunks = s.chunks ++ chunk ∷ [];
           are = are_snoc s.chunks chunk s.are (record { line = line; some = some; size = len });
@@ -198,10 +205,10 @@ module _ (stream body mid : List ℕ) (raw : ℕ) (s : StandsBehind stream body 
     data_unfinished long fits n at inside cr =
         inr (line_and_data l filled.0 line filled.1 (omega arith) long
         (ap (λ k. take k (print_chunk_line l ++ (filled.0 ++ 13 ∷ 10 ∷ []))) sum
-          ∙ take_past (print_chunk_line l) (filled.0 ++ 13 ∷ 10 ∷ []) (length (print_chunk_line l)) n refl (omega (arith, filled_len, filled.1))
-          ∙ ap (λ t. print_chunk_line l ++ t) filled.2
-          ∙ sym (ap (take (2097152 - raw)) is ∙ ap (λ k. take k (print_chunk_line l ++ after)) sum
-            ∙ take_past (print_chunk_line l) after (length (print_chunk_line l)) n refl (omega (arith, more))))
+        ∙ take_past (print_chunk_line l) (filled.0 ++ 13 ∷ 10 ∷ []) (length (print_chunk_line l)) n refl (omega (arith, filled_len, filled.1))
+        ∙ ap (λ t. print_chunk_line l ++ t) filled.2
+        ∙ sym (ap (take (2097152 - raw)) is ∙ ap (λ k. take k (print_chunk_line l ++ after)) sum
+        ∙ take_past (print_chunk_line l) after (length (print_chunk_line l)) n refl (omega (arith, more))))
         (omega (arith, length-append (print_chunk_line l) (filled.0 ++ 13 ∷ 10 ∷ []), filled_len, filled.1)))
       where
         sum : 2097152 - raw ≡ length (print_chunk_line l) + n
@@ -220,7 +227,7 @@ module _ (stream body mid : List ℕ) (raw : ℕ) (s : StandsBehind stream body 
                 c,
                 len,
                 ap (λ k. take k (c ++ 13 ∷ 10 ∷ [])) next ∙ take_past c (13 ∷ 10 ∷ []) size 1 len (omega arith)
-                ∙ ap (λ b. c ++ b ∷ []) (sym (cr past)) ∙ sym (take_more after size 0 (omega (arith, more))) ∙ ap (λ k. take k after) (sym next),
+                    ∙ ap (λ b. c ++ b ∷ []) (sym (cr past)) ∙ sym (take_more after size 0 (omega (arith, more))) ∙ ap (λ k. take k after) (sym next),
               )
           | inr before ↦
               let seen : List ℕ = take n after in
@@ -245,23 +252,23 @@ module _ (stream body mid : List ℕ) (raw : ℕ) (s : StandsBehind stream body 
       pub data_cut : length stream ≤ 2097152 → length after < chunk_size l + 2 → IsBadChunked stream
       data_cut short lacks =
           bad_at_end stream body mid raw s few short (λ item.
-            let x = after_item after (subst (Item (length body)) is item) in
-            omega (arith, ap length x.3, length-append x.0 (13 ∷ 10 ∷ x.1), x.2))
+          let x = after_item after (subst (Item (length body)) is item) in
+          omega (arith, ap length x.3, length-append x.0 (13 ∷ 10 ∷ x.1), x.2))
 
       -- a byte that isn't that of CR LF stands there
       pub data_refused : (i : ℕ) → raw + length (print_chunk_line l) + i < 2097152
           → ((c rest : List ℕ) → length c ≡ chunk_size l → get_or (c ++ 13 ∷ 10 ∷ rest) i 0 ≡ get_or after i 0 → ⊥) → IsBadChunked stream
       data_refused i inside differs =
           bad_before stream body mid raw s few (omega arith) (λ mid' same item.
-            let n = 2097152 - raw in
-            let k = length (print_chunk_line l) in
-            let other = front_stays (print_chunk_line l) after mid mid' n (omega arith) is same in
-            let there : get_or other.0 i 0 ≡ get_or after i 0 =
-            sym (get_or-append-add (print_chunk_line l) other.0 i 0) ∙ ap (λ t. get_or t (k + i) 0) (sym other.1)
-            ∙ sym (get_or-take n mid' (k + i) 0 (omega arith)) ∙ ap (λ t. get_or t (k + i) 0) same ∙ get_or-take n mid (k + i) 0 (omega arith)
-            ∙ ap (λ t. get_or t (k + i) 0) is ∙ get_or-append-add (print_chunk_line l) after i 0 in
-            let x = after_item other.0 (subst (Item (length body)) other.1 item) in
-            differs x.0 x.1 x.2 (ap (λ t. get_or t i 0) (sym x.3) ∙ there))
+          let n = 2097152 - raw in
+          let k = length (print_chunk_line l) in
+          let other = front_stays (print_chunk_line l) after mid mid' n (omega arith) is same in
+          let there : get_or other.0 i 0 ≡ get_or after i 0 =
+          sym (get_or-append-add (print_chunk_line l) other.0 i 0) ∙ ap (λ t. get_or t (k + i) 0) (sym other.1)
+          ∙ sym (get_or-take n mid' (k + i) 0 (omega arith)) ∙ ap (λ t. get_or t (k + i) 0) same ∙ get_or-take n mid (k + i) 0 (omega arith)
+          ∙ ap (λ t. get_or t (k + i) 0) is ∙ get_or-append-add (print_chunk_line l) after i 0 in
+          let x = after_item other.0 (subst (Item (length body)) other.1 item) in
+          differs x.0 x.1 x.2 (ap (λ t. get_or t i 0) (sym x.3) ∙ there))
 
       pub no_cr : raw + length (print_chunk_line l) + chunk_size l < 2097152 → get_or after (chunk_size l) 0 ≢ 13 → IsBadChunked stream
       no_cr inside other =

@@ -60,7 +60,7 @@ impl Buffer {
         })
     }
 
-    /// The request that was read last; before the first it is one without bytes.
+    /// The request that `read_request` answered last.
     pub fn request(&self) -> Request<'_>
         ensures { result ≡ self.now.message }
     {
@@ -72,7 +72,7 @@ impl Buffer {
     }
 }
 
-/// What reading a request gave. Nothing is read after an answer other than `Request`.
+/// What reading a request gave. Only after `Request` are the buffer and the source fit to go on.
 #[derive(Clone, Copy, Debug, PartialEq, Eq)]
 pub enum Incoming {
     /// The buffer shows the request, and holds what was read past it.

@@ -68,6 +68,7 @@ impl Response {
             body: Body::NoMemory,
         }
     }
+
     ghost use Rattle.cat_http.specs.Reply.{close_line, body_part, body_length_of, body_bytes};
 
     fn close_line(&self) -> &[u8]

@@ -141,29 +141,29 @@ chunks-preserved g c = record {
   limit = c.in-Whole.ensures.is.1;
   small = omega (arith, c.if-size-kept.false, c.chunks.invariant.small);
   front = front_moved _ _ _ c.read_chunk_end.new.bytes c.args.start c.chunks.kept c.chunks.at c.read_chunk_end.new.end (c.args.start + 2097152) refl
-    c.chunks.invariant.order (omega (arith, c.chunks.invariant.before, c.in-Found.ensures.grows, c.in-Whole.ensures.grows)) c.in-Whole.ensures.within c.chunks.invariant.small c.chunks.invariant.limit
-    (stands_again _ _ _ _ _ c.chunks.bytes c.read_size_line.new.bytes c.read_chunk_end.new.bytes c.args.start c.chunks.kept c.chunks.at c.chunks.end c.read_size_line.new.end c.read_chunk_end.new.end
-    c.chunks.invariant.order c.chunks.invariant.before c.chunks.invariant.within c.in-Found.ensures.grows c.in-Found.ensures.within c.in-Found.ensures.front c.in-Found.ensures.stream
-    c.in-Whole.ensures.grows c.in-Whole.ensures.within c.in-Whole.ensures.front c.in-Whole.ensures.stream c.chunks.invariant.stream)
-    c.in-Found.ensures.is.1 c.in-Found.ensures.is.2.reads.0 c.in-Found.len c.in-Found.size (c.chunks.at + c.in-Found.len) refl c.in-Found.ensures.is.2.len_is c.in-Found.ensures.is.2.size_is
-    (line_here c.read_size_line.new.bytes c.read_chunk_end.new.bytes c.chunks.at c.in-Found.len c.in-Found.size _ c.read_size_line.new.end _ c.in-Found.ensures.is.2 c.in-Found.ensures.is.0 (omega arith) c.in-Whole.ensures.front)
-    (omega (arith, c.in-Found.ensures.is.0, c.in-Whole.ensures.grows)) (omega (arith, c.in-Found.ensures.is.0))
-    (c.chunks.at + c.in-Found.len + c.in-Found.size) (c.chunks.at + c.in-Found.len + c.in-Found.size + 2) refl refl c.in-Whole.ensures.is.0 c.in-Whole.ensures.is.1 c.in-Whole.ensures.is.2 c.in-Whole.ensures.is.3
-    c.copy_within.new.self c.copy_within.ensures.after
-    c.args.bytes.now
-    (front_kept c.args.bytes.now c.read_size_line.new.bytes c.read_chunk_end.new.bytes c.args.start c.read_size_line.new.end
-    (omega (arith, c.chunks.invariant.order, c.chunks.invariant.before, c.in-Found.ensures.grows)) c.in-Whole.ensures.front
-    (front_kept c.args.bytes.now c.chunks.bytes c.read_size_line.new.bytes c.args.start c.chunks.end (omega (arith, c.chunks.invariant.order, c.chunks.invariant.before)) c.in-Found.ensures.front c.chunks.invariant.front));
+      c.chunks.invariant.order (omega (arith, c.chunks.invariant.before, c.in-Found.ensures.grows, c.in-Whole.ensures.grows)) c.in-Whole.ensures.within c.chunks.invariant.small c.chunks.invariant.limit
+      (stands_again _ _ _ _ _ c.chunks.bytes c.read_size_line.new.bytes c.read_chunk_end.new.bytes c.args.start c.chunks.kept c.chunks.at c.chunks.end c.read_size_line.new.end c.read_chunk_end.new.end
+      c.chunks.invariant.order c.chunks.invariant.before c.chunks.invariant.within c.in-Found.ensures.grows c.in-Found.ensures.within c.in-Found.ensures.front c.in-Found.ensures.stream
+      c.in-Whole.ensures.grows c.in-Whole.ensures.within c.in-Whole.ensures.front c.in-Whole.ensures.stream c.chunks.invariant.stream)
+      c.in-Found.ensures.is.1 c.in-Found.ensures.is.2.reads.0 c.in-Found.len c.in-Found.size (c.chunks.at + c.in-Found.len) refl c.in-Found.ensures.is.2.len_is c.in-Found.ensures.is.2.size_is
+      (line_here c.read_size_line.new.bytes c.read_chunk_end.new.bytes c.chunks.at c.in-Found.len c.in-Found.size _ c.read_size_line.new.end _ c.in-Found.ensures.is.2 c.in-Found.ensures.is.0 (omega arith) c.in-Whole.ensures.front)
+      (omega (arith, c.in-Found.ensures.is.0, c.in-Whole.ensures.grows)) (omega (arith, c.in-Found.ensures.is.0))
+      (c.chunks.at + c.in-Found.len + c.in-Found.size) (c.chunks.at + c.in-Found.len + c.in-Found.size + 2) refl refl c.in-Whole.ensures.is.0 c.in-Whole.ensures.is.1 c.in-Whole.ensures.is.2 c.in-Whole.ensures.is.3
+      c.copy_within.new.self c.copy_within.ensures.after
+      c.args.bytes.now
+      (front_kept c.args.bytes.now c.read_size_line.new.bytes c.read_chunk_end.new.bytes c.args.start c.read_size_line.new.end
+      (omega (arith, c.chunks.invariant.order, c.chunks.invariant.before, c.in-Found.ensures.grows)) c.in-Whole.ensures.front
+      (front_kept c.args.bytes.now c.chunks.bytes c.read_size_line.new.bytes c.args.start c.chunks.end (omega (arith, c.chunks.invariant.order, c.chunks.invariant.before)) c.in-Found.ensures.front c.chunks.invariant.front));
   later = omega (arith, c.in-Found.ensures.later, c.in-Whole.ensures.later, c.chunks.invariant.later);
   stream = stands_moved _ _ _ c.read_chunk_end.new.bytes c.args.start c.chunks.kept c.chunks.at c.read_chunk_end.new.end (c.args.start + 2097152) refl
-    c.chunks.invariant.order (omega (arith, c.chunks.invariant.before, c.in-Found.ensures.grows, c.in-Whole.ensures.grows)) c.in-Whole.ensures.within c.chunks.invariant.small c.chunks.invariant.limit
-    (stands_again _ _ _ _ _ c.chunks.bytes c.read_size_line.new.bytes c.read_chunk_end.new.bytes c.args.start c.chunks.kept c.chunks.at c.chunks.end c.read_size_line.new.end c.read_chunk_end.new.end
-    c.chunks.invariant.order c.chunks.invariant.before c.chunks.invariant.within c.in-Found.ensures.grows c.in-Found.ensures.within c.in-Found.ensures.front c.in-Found.ensures.stream
-    c.in-Whole.ensures.grows c.in-Whole.ensures.within c.in-Whole.ensures.front c.in-Whole.ensures.stream c.chunks.invariant.stream)
-    c.in-Found.ensures.is.1 c.in-Found.ensures.is.2.reads.0 c.in-Found.len c.in-Found.size (c.chunks.at + c.in-Found.len) refl c.in-Found.ensures.is.2.len_is c.in-Found.ensures.is.2.size_is
-    (line_here c.read_size_line.new.bytes c.read_chunk_end.new.bytes c.chunks.at c.in-Found.len c.in-Found.size _ c.read_size_line.new.end _ c.in-Found.ensures.is.2 c.in-Found.ensures.is.0 (omega arith) c.in-Whole.ensures.front)
-    (omega (arith, c.in-Found.ensures.is.0, c.in-Whole.ensures.grows)) (omega (arith, c.in-Found.ensures.is.0))
-    (c.chunks.at + c.in-Found.len + c.in-Found.size) (c.chunks.at + c.in-Found.len + c.in-Found.size + 2) refl refl c.in-Whole.ensures.is.0 c.in-Whole.ensures.is.1 c.in-Whole.ensures.is.2 c.in-Whole.ensures.is.3
-    c.copy_within.new.self c.copy_within.ensures.after
-    _ (omega arith) (omega (arith, c.if-size-eq0.false));
+      c.chunks.invariant.order (omega (arith, c.chunks.invariant.before, c.in-Found.ensures.grows, c.in-Whole.ensures.grows)) c.in-Whole.ensures.within c.chunks.invariant.small c.chunks.invariant.limit
+      (stands_again _ _ _ _ _ c.chunks.bytes c.read_size_line.new.bytes c.read_chunk_end.new.bytes c.args.start c.chunks.kept c.chunks.at c.chunks.end c.read_size_line.new.end c.read_chunk_end.new.end
+      c.chunks.invariant.order c.chunks.invariant.before c.chunks.invariant.within c.in-Found.ensures.grows c.in-Found.ensures.within c.in-Found.ensures.front c.in-Found.ensures.stream
+      c.in-Whole.ensures.grows c.in-Whole.ensures.within c.in-Whole.ensures.front c.in-Whole.ensures.stream c.chunks.invariant.stream)
+      c.in-Found.ensures.is.1 c.in-Found.ensures.is.2.reads.0 c.in-Found.len c.in-Found.size (c.chunks.at + c.in-Found.len) refl c.in-Found.ensures.is.2.len_is c.in-Found.ensures.is.2.size_is
+      (line_here c.read_size_line.new.bytes c.read_chunk_end.new.bytes c.chunks.at c.in-Found.len c.in-Found.size _ c.read_size_line.new.end _ c.in-Found.ensures.is.2 c.in-Found.ensures.is.0 (omega arith) c.in-Whole.ensures.front)
+      (omega (arith, c.in-Found.ensures.is.0, c.in-Whole.ensures.grows)) (omega (arith, c.in-Found.ensures.is.0))
+      (c.chunks.at + c.in-Found.len + c.in-Found.size) (c.chunks.at + c.in-Found.len + c.in-Found.size + 2) refl refl c.in-Whole.ensures.is.0 c.in-Whole.ensures.is.1 c.in-Whole.ensures.is.2 c.in-Whole.ensures.is.3
+      c.copy_within.new.self c.copy_within.ensures.after
+      _ (omega arith) (omega (arith, c.if-size-eq0.false));
 }
