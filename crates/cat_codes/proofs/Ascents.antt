@@ -1,7 +1,6 @@
 -- Keys that ascend, one after the other.
-use Rattle.std.proofs.Common.{◌≡◌, ℕ, suc, zero, ◌&&◌, Bool, true, false, cond, List, [], ◌∷◌, ◌++◌, length, Option, Some, None, Ok, Err, refl, sym, ap, subst, ◌∙◌}
+use Rattle.std.proofs.Common.{◌≡◌, ℕ, suc, zero, true, cond, List, [], ◌∷◌, ◌++◌, Option, Some, None, Ok, Err, refl, sym, ap, ◌∙◌}
 use Rattle.std.specs.declared.cmp.Ordering.{Ordering}
-use Rattle.cat_codes.specs.declared.fault.FieldFault.{FieldFault}
 use Rattle.cat_codes.specs.declared.fault.FieldFault.TheVariants.{Range}
 use Rattle.cat_codes.specs.Read.{Read, ◌>>=◌}
 use Rattle.cat_codes.specs.Code.{Code, follows, last_key, ascends, pairs_at, last_of, keys_ascend, keys_at}

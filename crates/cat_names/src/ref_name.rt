@@ -1,6 +1,6 @@
 //! Names of references.
 
-ghost use Rattle.std.specs.Prelude.{◌≡◌, Err, IfOk, IsTrue, Ok, false};
+ghost use Rattle.std.specs.Prelude.{◌≡◌, IfOk, IsTrue, codes};
 ghost use Rattle.std.specs.List.{list_all};
 ghost use Rattle.cat_codes.specs.Read.{Reads};
 ghost use Rattle.cat_names.specs.NameFaults.{GivesName};
@@ -45,6 +45,16 @@ impl RefName {
         }
         Ok(RefName {
             text: Text::from_str(alloc, text)?,
+        })
+    }
+
+    /// The name of the default branch.
+    #[tactic(auto, unfolding(crate::specs::RefNames::is_reference_name))]
+    pub fn main(alloc: Global) -> Result<RefName, AllocError>
+        ensures { IfOk result (λ name. name ≡ codes "main") }
+    {
+        Ok(RefName {
+            text: Text::from_str(alloc, "main")?,
         })
     }
 

@@ -119,6 +119,7 @@ fn names_of_references_are_told_from_other_texts(rt: HostRuntime) {
     let Ok(name) = from_bytes::<RefName>(alloc, bytes) else {
         panic!(&rt; "not read");
     };
+    assert!(&rt; RefName::main(alloc).is_ok_and(|main| main == name));
     let Ok(again) = to_bytes(alloc, &name) else {
         panic!(&rt; "not written");
     };
