@@ -12,7 +12,7 @@ use Rattle.cat_http.specs.Streams.{KeepsStream}
 use Rattle.cat_http.specs.ChunkedRead.{StandsBehind, StandsBehindOf, AnswerIs, AnswerOf}
 use Rattle.cat_http.specs.declared.chunked.ChunkedRead.{ChunkedRead}
 use Rattle.cat_http.specs.declared.chunked.ChunkedRead.TheVariants as answer
-use Rattle.cat_http.proofs.StreamLemmas.{range_same, take_past}
+use Rattle.cat_http.proofs.StreamLemmas.{range_same}
 use Rattle.cat_http.proofs.ChunkSteps.{stream_len, line_refused, line_cut, line_unfinished, sum_large, ends_whole, one_more, data_unfinished, data_cut, no_cr, no_lf}
 
 -- a front that stays while more is read

@@ -4,7 +4,7 @@ use Rattle.std.specs.Prelude.{◌⊎◌}
 use Rattle.std.proofs.lemmas.List.{take_at, drop_at, take-take, take-append-drop, drop-take}
 use Rattle.httparse.specs.Grammar.{ChunkLine, IsChunkLine, chunk_size, print_chunk_line}
 use Rattle.httparse.proofs.ChunkLemmas.{chunk_line_unique}
-use Rattle.cat_http.specs.Chunked.{Chunk, IsChunk, AreChunks, chunks_then, content_of, ReadsChunked, IsChunkedBody, HasLargeSum, IsUnfinished, IsLargeChunked, IsBadChunked}
+use Rattle.cat_http.specs.Chunked.{Chunk, IsChunk, AreChunks, chunks_then, content_of, ReadsChunked, IsChunkedBody, HasLargeSum, IsLargeChunked, IsBadChunked}
 use Rattle.cat_http.specs.ChunkedRead.{StandsBehind}
 
 line_one : (l k : ChunkLine) (a b : List ℕ) → IsChunkLine l → IsChunkLine k → print_chunk_line l ++ a ≡ print_chunk_line k ++ b → (l ≡ k) × (a ≡ b)

@@ -1,6 +1,6 @@
 -- What the next line of a body in chunks and its data make of the stream.
 use Rattle.std.proofs.Common.{arith, ◌≡◌, ◌≢◌, ℕ, ◌+◌, ◌-◌, ◌<◌, ◌≤◌, List, [], ◌∷◌, ◌++◌, length, take, drop, get_or, replicate, sym, ap, ◌∙◌, refl, subst, append_assoc, length-append, inl, inr, IsTrue}
-use Rattle.std.specs.Prelude.{◌⊎◌, None}
+use Rattle.std.specs.Prelude.{None}
 use Rattle.std.specs.Char.{is_ascii_hexdigit}
 use Rattle.std.proofs.lemmas.Bool.{cases_lt}
 use Rattle.std.proofs.lemmas.List.{take_at, take-take, take-append-drop, take-append-le, take_more, length-take-le, length-replicate, append-nil, get_or-take, get_or-append-add, get_or_at}

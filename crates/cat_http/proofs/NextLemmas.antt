@@ -1,6 +1,6 @@
 -- From the spans of a head to the request of the stream.
-use Rattle.std.proofs.Common.{arith, ◌≡◌, ℕ, ◌+◌, ◌-◌, ◌<◌, ◌≤◌, List, [], ◌∷◌, ◌++◌, length, take, drop, map, sym, ap, ◌∙◌, refl, append_assoc, length-append, length-take, length-drop, suc, subst, inl, inr}
-use Rattle.std.specs.Prelude.{Option, Some, None, All, slice_range, ◌⊎◌}
+use Rattle.std.proofs.Common.{arith, ◌≡◌, ℕ, ◌+◌, ◌-◌, ◌<◌, ◌≤◌, List, [], ◌∷◌, ◌++◌, length, take, drop, map, sym, ap, ◌∙◌, refl, append_assoc, length-append, length-take, length-drop, suc, subst, inr}
+use Rattle.std.specs.Prelude.{Option, Some, None, All, slice_range}
 use Rattle.std.proofs.lemmas.List.{take-append-drop, length-take-le, drop-append-le, take-take, length-map}
 use Rattle.std.proofs.lemmas.List.Folds.{drop_split}
 use Rattle.std.proofs.lemmas.Slice.{between_is}

@@ -84,11 +84,10 @@ impl Response {
     fn body_part(&self) -> &[u8]
         ensures { result.now ≡ body_part self.now.head_only (body_bytes self.now.body) }
     {
-        if self.head_only {
-            b""
-        } else {
-            self.body.as_slice()
+        if !self.head_only {
+            return self.body.as_slice();
         }
+        b""
     }
 
     fn place_number(&self) -> Option<u64>

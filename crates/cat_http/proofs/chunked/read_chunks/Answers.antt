@@ -1,5 +1,4 @@
-use Rattle.std.proofs.Common.{arith, refl, ap, ◌≡◌, ◌+◌, ◌-◌, ◌≤◌, take}
-use Rattle.std.specs.Prelude.{slice_range}
+use Rattle.std.proofs.Common.{arith, refl, ◌+◌, ◌-◌}
 use Rattle.cat_http.proofs.ChunkBuffer.{stands_grow, stands_again, front_kept, line_here, line_refused_answer, line_cut_answer, line_unfinished_answer, sum_answer, data_unfinished_answer, data_cut_answer, end_refused_answer, whole_answer, front_moved, stands_moved}
 use Rattle.cat_http.proofs.chunked.read_chunks.Goals as goal
 
