@@ -1,9 +1,7 @@
 -- A request of one new content at a key of one element: the rules of namespaces cannot apply to it.
-use Rattle.std.specs.Prelude.{◌≡◌, refl, ℕ, List, [], ◌∷◌, Option, Some, None, Result, Ok, Err, Bool, true, false}
+use Rattle.std.specs.Prelude.{◌≡◌, refl, ℕ, List, [], ◌∷◌, Option, Some, None, true}
 use Rattle.std.specs.Option.{option_or}
 use Rattle.std.proofs.lemmas.List.{append-nil}
-use Rattle.cat_model.specs.declared.conflict.Conflict.{Conflict}
-use Rattle.cat_model.specs.declared.conflict.ConflictKind.{ConflictKind}
 use Rattle.cat_model.specs.declared.conflict.ConflictKind.TheVariants.{KeyExists}
 use Rattle.cat_model.specs.declared.entry.Entry.{Entry}
 use Rattle.cat_model.specs.declared.op.Op.TheVariants.{Put}

@@ -1,55 +1,27 @@
 -- Worked cases of limits and of records of one hash.
-use Rattle.std.specs.Prelude.{◌≡◌, refl, ℕ, List, [], ◌∷◌, Option, Some, None, Bool, true, false, codes, map, length, ◌==◌, if◌then◌else◌, Result, Ok, Err}
-use Rattle.std.specs.Option.{option_map}
+use Rattle.std.specs.Prelude.{◌≡◌, refl, ℕ, List, [], ◌∷◌, Option, Some, None, codes, map, length, ◌==◌, if◌then◌else◌, Result, Ok, Err}
 use Rattle.cat_codes.specs.Code.{u8_spelling, u16_spelling, u32_spelling, u64_spelling, i64_spelling, i32_spelling, list, ascending}
 use Rattle.cat_codes.specs.Texts.{text_code, short_text_code}
-use Rattle.cat_names.specs.Fields.{Key, hash_code, id_code, element_code, key_code}
-use Rattle.cat_names.specs.declared.hash.Hash.{Hash}
-use Rattle.cat_names.specs.declared.hash.ContentId.{ContentId}
-use Rattle.cat_model.specs.declared.ask.Ask.TheVariants as asks
-use Rattle.cat_model.specs.declared.conflict.ConflictKind.TheVariants.{KeyExists, KeyDoesNotExist, ValueDiffers, NamespaceAbsent, NamespaceNotEmpty, NotANamespace}
-use Rattle.cat_model.specs.declared.commit.Commit.{Commit}
+use Rattle.cat_names.specs.Fields.{hash_code, id_code, element_code, key_code}
 use Rattle.cat_model.specs.declared.limits.Quantity.TheVariants.{Log, Commits, Keys, Contents, Drafts}
-use Rattle.cat_model.specs.declared.limits.Limits.{Limits}
-use Rattle.cat_model.specs.declared.log_entry.LogEntry.{LogEntry}
-use Rattle.cat_model.specs.declared.op.Op.{Op}
-use Rattle.cat_model.specs.declared.op.Op.TheVariants.{Put, Delete, Unchanged}
-use Rattle.cat_model.specs.declared.command.Command.{Command}
-use Rattle.cat_model.specs.declared.command.Command.TheVariants as commands
-use Rattle.cat_model.specs.declared.reference.Kind.TheVariants.{Branch, Tag}
+use Rattle.cat_model.specs.declared.op.Op.TheVariants.{Delete, Unchanged}
+use Rattle.cat_model.specs.declared.reference.Kind.TheVariants.{Branch}
 use Rattle.cat_model.specs.declared.refusal.Refusal.{Refusal}
-use Rattle.cat_model.specs.declared.refusal.Refusal.TheVariants.{BadRequest, RefNotFound, ContentNotFound, Limit, Collision, NoRoute}
-use Rattle.cat_model.specs.declared.refusal.Reason.TheVariants.{NotABranch}
-use Rattle.cat_model.specs.declared.refusal.Missing.TheVariants.{Absent, Expired}
+use Rattle.cat_model.specs.declared.refusal.Refusal.TheVariants.{RefNotFound, Limit, Collision}
 use Rattle.cat_model.specs.declared.refusal.Refused.{Refused}
-use Rattle.cat_model.specs.declared.reply.Reply.{Reply}
-use Rattle.cat_model.specs.declared.reply.Reply.TheVariants as replies
 use Rattle.cat_model.specs.declared.reply.Told.{Told}
-use Rattle.cat_model.specs.declared.wanted.Wanted.{Wanted}
-use Rattle.cat_model.specs.declared.wanted.Wanted.TheVariants.{Read}
 use Rattle.cat_model.specs.Formats.{moment_code, kind_code, entry_code, meta_code, commit_code}
 use Rattle.cat_model.specs.Contents.{table_code, namespace_code, of_table, of_namespace, content_code}
-use Rattle.cat_model.specs.Limits.{program_limits}
 use Rattle.cat_model.specs.Namespaces.{emptied_fault}
 use Rattle.cat_model.specs.Judge.{changes_of, op_fault, judge}
-use Rattle.cat_model.specs.Chain.{entries, commit_of}
-use Rattle.cat_model.specs.State.{Digest, State, first_state, fresh_id}
+use Rattle.cat_model.specs.Chain.{entries}
+use Rattle.cat_model.specs.State.{Digest, fresh_id}
 use Rattle.cat_model.specs.Records.{commit_bytes, content_bytes, with_commit, with_content}
 use Rattle.cat_model.specs.Commits.{given_ops, given_request, request_commit, commit_opening, needs_commit_room, step_commit}
 use Rattle.cat_model.specs.Answer.{answer_reference, answer_content}
 use Rattle.cat_model.specs.Calls.{entry_made, call}
 use Rattle.cat_model.specs.Script.{Session, first_session, Outcomes, script}
-use Rattle.cat_model.specs.declared.reference.Reference.{Reference}
-use Rattle.cat_model.specs.declared.command.CommitRequest.{CommitRequest}
-use Rattle.cat_model.specs.declared.content.Content.{Content}
-use Rattle.cat_model.specs.Book.{Book, first_book, after_call, call_on}
-use Rattle.cat_model.specs.Calls.{Called}
-use Rattle.cat_model.specs.SinglePut.{is_single_put}
-use Rattle.cat_model.specs.Commits.{puts}
-use Rattle.cat_model.specs.declared.reference.Kind.{Kind}
-use Rattle.cat_model.specs.declared.reference.Effective.{Effective}
-use Rattle.cat_model.specs.declared.reference.Effective.TheVariants.{Named, Detached}
-use Rattle.cat_model.proofs.Rows.Words.{quick, clock, Request, short, main, H0, note, table, namespace, no_id, new, again, commit, put_new, put, both, read, look, after, said, head, Short, done, gives, points, told, not, refused_at, t1, t2, t9, a, a-t, m1, empty, limited, ample, ids, head_commit, parent_of_head, one}
+use Rattle.cat_model.proofs.Rows.Words.{quick, clock, Request, short, main, H0, table, no_id, new, again, commit, put_new, put, after, said, head, done, not, t1, t2, t9, m1, empty, limited, ample, one}
 
 limits_of_each_quantity : (said (limited (record ample { log = 1 })) (put_new None t1 m1 ∷ put_new None t1 m1 ∷ []) ≡ done 1 ∷ not (Some 1) (Limit Log 1) ∷ [])
     × (said (limited (record ample { commits = 1 })) (put_new None t1 m1 ∷ put_new None t1 m1 ∷ []) ≡ done 1 ∷ not (Some 1) (Limit Commits 1) ∷ [])

@@ -1,5 +1,5 @@
 -- Words for worked cases: requests and short forms of replies, with a digest that is quick to compute.
-use Rattle.std.specs.Prelude.{ℕ, ◌+◌, ◌*◌, ◌%◌, List, [], ◌∷◌, Option, Some, None, Result, Ok, Err, Bool, true, false, fold, map, codes, pos}
+use Rattle.std.specs.Prelude.{ℕ, ◌+◌, ◌*◌, ◌%◌, List, [], ◌∷◌, Option, Some, None, Result, Ok, Err, true, false, fold, map, codes, pos}
 use Rattle.std.specs.Option.{option_map, option_map_or}
 use Rattle.cat_names.specs.Fields.{Key}
 use Rattle.cat_names.specs.declared.hash.Hash.{Hash}
