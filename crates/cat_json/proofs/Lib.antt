@@ -1,0 +1,3 @@
+pub mod Items
+mod Options
+pub mod Utf8
