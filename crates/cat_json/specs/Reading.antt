@@ -1,9 +1,12 @@
 -- What a value of JSON stands for.
-use Rattle.std.specs.Prelude.{◌≡◌, ℕ, List, [], ◌∷◌, Option, Some, None, ⊤, Result, Ok, Err, unwrap_or, if◌then◌else◌}
+use Rattle.std.specs.Prelude.{◌≡◌, ℕ, List, [], ◌∷◌, Option, Some, None, IsTrue, ⊤, Result, Ok, Err, unwrap_or, if◌then◌else◌}
 use Rattle.serde_json.specs.Data.{Data, null, boolean, number, string, array, object, Items, no_items, item, Members, no_members, member}
 use Rattle.serde_json.specs.Find.{get, as_array, as_object}
 use Rattle.std.specs.Str.{is_utf8}
 use Rattle.serde_json.specs.Read.{read}
+use Rattle.std.specs.Ordering.{nat_cmp}
+use Rattle.std.specs.Cmp.Lexicographic.{slice_cmp}
+use Rattle.cat_codes.specs.Code.{ascends}
 use Rattle.std.specs.Borrow.{Bor}
 use Rattle.serde_json.specs.declared.value.Value.{Value}
 use Rattle.serde_json.specs.View.{view}
@@ -90,3 +93,7 @@ members_as read (member k d ms) = read d >>= λ x. members_as read ms >>= λ xs.
 
 abbrev pub map_as : {A : Type 0} → (Data → Option A) → Data → Option (List (List ℕ × A))
 map_as read d = as_object d >>= members_as read
+
+-- each name is above the one before
+abbrev pub Ascends : {A : Type 0} → List (List ℕ × A) → Type 0
+Ascends xs = IsTrue (ascends (slice_cmp nat_cmp) None xs)

@@ -1,6 +1,6 @@
 -- What is written for a value.
-use Rattle.std.specs.Prelude.{◌≡◌, ℕ, List, [], ◌∷◌, map, Option, Some, None, option_map, codes, Bool, true, false, ◌||◌, refl}
-use Rattle.serde_json.specs.Data.{Data, string, array, object, Items, no_items, item, Members, no_members, member, put}
+use Rattle.std.specs.Prelude.{◌≡◌, ℕ, List, [], ◌∷◌, map, Option, Some, None, option_map, Bool, true, false, ◌||◌, refl}
+use Rattle.serde_json.specs.Data.{Data, array, object, Members, no_members, member, put}
 use Rattle.serde_json.specs.View.{items_of, members_view}
 use Rattle.cat_json.specs.declared.write.Object.{Object}
 use Rattle.serde_json.specs.Written.{has_float, items_have_float, members_have_float}

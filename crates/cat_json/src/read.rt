@@ -1,15 +1,16 @@
 //! Reading values of JSON.
 
-ghost use Rattle.std.specs.Prelude.{◌≡◌, Option, option_map};
+ghost use Rattle.std.specs.Prelude.{◌≡◌, IfOk, Option, option_map};
 ghost use Rattle.serde_json.specs.Data.{Data};
 ghost use Rattle.serde_json.specs.Read.{read};
 ghost use Rattle.serde_json.specs.Find.{get};
-ghost use Rattle.serde_json.specs.View.{view, items_view};
-ghost use Rattle.cat_json.specs.Reading.{Gives, GivesView, GivesValue, json_of, body_as, present, absent, required, optional, defaulted, items_as, list_as};
+ghost use Rattle.serde_json.specs.View.{view, items_view, members_view};
+ghost use Rattle.cat_json.specs.Reading.{Gives, GivesView, GivesValue, json_of, body_as, present, absent, required, optional, defaulted, items_as, list_as, members_as, Ascends};
 
 use crate::fault::JsonFault;
 use cat_codes::seq::Seq;
-use serde_json::Value;
+use cat_codes::text::Text;
+use serde_json::{Map, Value};
 use std::alloc::Global;
 
 /// How values are read from JSON. A type of this crate or below is its own form; a form of a type
@@ -143,4 +144,20 @@ impl<F: ReadForm> ReadForm for Seq<F> {
             None => Err(JsonFault::Bad),
         }
     }
+}
+
+/// The members in the order of their names, each read by the form.
+fn pairs<F: ReadForm>(
+    alloc: Global,
+    members: &Map<String, Value>,
+) -> Result<Seq<(Text, F::Of)>, JsonFault>
+    ensures value { Gives result (members_as F.reads (members_view members.now.entries)) }
+    ensures ascending { IfOk result Ascends }
+{
+    let mut pairs = Seq::new(alloc);
+    for (name, found) in members.iter() {
+        let value = F::from_json(alloc, found)?;
+        pairs.push((Text::from_str(alloc, name.as_str())?, value))?;
+    }
+    Ok(pairs)
 }
