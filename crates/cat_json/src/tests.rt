@@ -3,6 +3,7 @@
 use crate::fault::JsonFault;
 use crate::read::{ReadForm, absent, defaulted, from_bytes, member, optional, required};
 use crate::write::{Object, list, to_text};
+use cat_codes::ascending::Ascending;
 use cat_codes::seq::Seq;
 use cat_codes::text::Text;
 use cat_names::hash::{ContentId, Hash};
@@ -93,6 +94,18 @@ fn ids_are_read_in_four_forms_and_hashes_in_either_case(rt: HostRuntime) -> Resu
     assert!(rt;
         text.as_str() == "\"2e1cfa82b035c26cbbbdae632cea070514eb8b773f616aaeaf668e2f0be8f10d\""
     );
+    Ok(())
+}
+
+#[test]
+fn a_map_is_read_in_the_order_of_its_names(rt: HostRuntime) -> Result<(), Fail> {
+    let alloc = rt.alloc();
+    let text = br#"{"b":[],"a\u0000":["x"],"a":["y"],"b":["z","z"]}"#;
+    let map = from_bytes::<Ascending<Text, Seq<Text>>>(alloc, text)?;
+    let again = to_text::<Ascending<Text, Seq<Text>>>(alloc, &map)?;
+    assert!(rt; again.as_str() == r#"{"a":["y"],"a\u0000":["x"],"b":["z","z"]}"#);
+    assert!(rt; is_bad::<Ascending<Text, Text>>(alloc, br#"{"a":["y"]}"#));
+    assert!(rt; is_bad::<Ascending<Text, Text>>(alloc, b"[]"));
     Ok(())
 }
 
