@@ -4,7 +4,6 @@ ghost use Rattle.std.specs.Prelude.{◌≡◌, IfOk, Some, refl};
 ghost use Rattle.serde_json.specs.Data.{string};
 ghost use Rattle.serde_json.specs.View.{view};
 ghost use Rattle.cat_model.specs.Contents.{content_code};
-ghost use Rattle.cat_model.specs.declared.content.Body.TheVariants.{IcebergTable, IcebergView, DeltaLakeTable};
 ghost use Rattle.cat_model.specs.declared.content.Body.TheVariants as bodies;
 ghost use Rattle.cat_content.specs.Forms.{kind_name as name_of, content_as, content_data, body_data, no_float_content, IsOfBytes};
 
@@ -44,7 +43,7 @@ impl WriteForm for KindForm {
 }
 
 fn table(alloc: Global, id: &ContentId, table: &IcebergTable) -> Result<Value, NoMemory>
-    ensures { IfOk result (λ v. view v ≡ body_data id.now (IcebergTable table.now)) }
+    ensures { IfOk result (λ v. view v ≡ body_data id.now (bodies.IcebergTable table.now)) }
 {
     Ok(Object::new(alloc)
         .with::<ContentId>("id", id)?
@@ -58,7 +57,7 @@ fn table(alloc: Global, id: &ContentId, table: &IcebergTable) -> Result<Value, N
 }
 
 fn view_of(alloc: Global, id: &ContentId, found: &IcebergView) -> Result<Value, NoMemory>
-    ensures { IfOk result (λ v. view v ≡ body_data id.now (IcebergView found.now)) }
+    ensures { IfOk result (λ v. view v ≡ body_data id.now (bodies.IcebergView found.now)) }
 {
     Ok(Object::new(alloc)
         .with::<ContentId>("id", id)?
@@ -70,7 +69,7 @@ fn view_of(alloc: Global, id: &ContentId, found: &IcebergView) -> Result<Value, 
 }
 
 fn delta(alloc: Global, id: &ContentId, table: &DeltaLakeTable) -> Result<Value, NoMemory>
-    ensures { IfOk result (λ v. view v ≡ body_data id.now (DeltaLakeTable table.now)) }
+    ensures { IfOk result (λ v. view v ≡ body_data id.now (bodies.DeltaLakeTable table.now)) }
 {
     Ok(Object::new(alloc)
         .with::<Seq<Text>>("checkpointLocationHistory", &table.checkpoint_locations)?
