@@ -29,8 +29,15 @@ fn instants_are_read_by_jiff_and_written_with_six_digits(rt: HostRuntime) -> Res
     let text = to_text::<MetaForm>(alloc, &meta)?;
     assert!(rt; text.as_str() == META_TEXT);
     assert!(rt; read::<MetaForm>(alloc, b"{}") == Err(JsonFault::Bad));
-    assert!(rt; read::<MetaForm>(alloc, br#"{"message":"","authorTime":"2024-02-03"}"#) == Err(JsonFault::Bad));
-    for text in ["1969-12-31T23:59:59.9999999Z", "2024-02-03T04:05:06", "9999-12-30T22:00:01Z"] {
+    assert!(rt;
+        read::<MetaForm>(alloc, br#"{"message":"","authorTime":"2024-02-03"}"#)
+            == Err(JsonFault::Bad)
+    );
+    for text in [
+        "1969-12-31T23:59:59.9999999Z",
+        "2024-02-03T04:05:06",
+        "9999-12-30T22:00:01Z",
+    ] {
         assert!(rt; read_instant(text).is_none());
     }
     let leap = read_instant("2016-12-31T23:59:60Z");
@@ -47,11 +54,15 @@ fn instants_are_read_by_jiff_and_written_with_six_digits(rt: HostRuntime) -> Res
     Ok(())
 }
 
-const META: &[u8] = br#"{"message":"m","authors":["a"],"allSignedOffBy":null,"allProperties":{"q":[],"p":["1","2"]},"authorTime":"2024-02-03T04:05:06.1234567Z"}"#;
+const META: &[u8] =
+    br#"{"message":"m","authors":["a"],"allSignedOffBy":null,"allProperties":{"q":[],"p":["1","2"]},"authorTime":"2024-02-03T04:05:06.1234567Z"}"#;
 
-const META_TEXT: &str = r#"{"allProperties":{"p":["1","2"],"q":[]},"allSignedOffBy":[],"authorTime":"2024-02-03T04:05:06.123456Z","authors":["a"],"message":"m"}"#;
+const META_TEXT: &str =
+    r#"{"allProperties":{"p":["1","2"],"q":[]},"allSignedOffBy":[],"authorTime":"2024-02-03T04:05:06.123456Z","authors":["a"],"message":"m"}"#;
 
-const COMMIT: &[u8] = b"\x4e\x43\x31\x2e\x1c\xfa\x82\xb0\x35\xc2\x6c\xbb\xbd\xae\x63\x2c\xea\x07\x05\x14\xeb\x8b\x77\x3f\x61\x6a\xae\xaf\x66\x8e\x2f\x0b\xe8\xf1\x0d\x00\x00\x00\x00\x00\x00\x00\x00\x01\x00\x00\x00\x00\x00\x0f\x42\x40\x00\x00\x00\x03\x6f\x6e\x65\x00\x00\x00\x00\x00\x00\x00\x00\x00\x00\x00\x00\x00\x00\x00\x00\x01\x01\x00\x02\x74\x31\x01\x01\x00\x00\x00\x00\x00\x00\x00\x01\x00\x00\x00\x00\x00\x00\x00\x00\xfc\xbe\x22\x8a\xdc\x7d\xb2\xe1\xca\x9c\x94\xf6\x62\xf8\x6c\x55\x25\x03\x8d\xe6\x26\x43\xeb\x70\xd5\xd7\x29\x0d\x91\xfb\xab\x0a";
+const COMMIT: &[u8] =
+    b"\x4e\x43\x31\x2e\x1c\xfa\x82\xb0\x35\xc2\x6c\xbb\xbd\xae\x63\x2c\xea\x07\x05\x14\xeb\x8b\x77\x3f\x61\x6a\xae\xaf\x66\x8e\x2f\x0b\xe8\xf1\x0d\x00\x00\x00\x00\x00\x00\x00\x00\x01\x00\x00\x00\x00\x00\x0f\x42\x40\x00\x00\x00\x03\x6f\x6e\x65\x00\x00\x00\x00\x00\x00\x00\x00\x00\x00\x00\x00\x00\x00\x00\x00\x01\x01\x00\x02\x74\x31\x01\x01\x00\x00\x00\x00\x00\x00\x00\x01\x00\x00\x00\x00\x00\x00\x00\x00\xfc\xbe\x22\x8a\xdc\x7d\xb2\xe1\xca\x9c\x94\xf6\x62\xf8\x6c\x55\x25\x03\x8d\xe6\x26\x43\xeb\x70\xd5\xd7\x29\x0d\x91\xfb\xab\x0a";
 
 // with the SHA-256 of the bytes above
-const COMMIT_TEXT: &str = r#"{"allProperties":{},"allSignedOffBy":[],"authors":[],"commitTime":"1970-01-01T00:00:01.000000Z","hash":"f92df14c291c55081a6374c5074b1394016591b1981cd32b3bddb20a3f86d5d4","message":"one","parentCommitHashes":["2e1cfa82b035c26cbbbdae632cea070514eb8b773f616aaeaf668e2f0be8f10d"]}"#;
+const COMMIT_TEXT: &str =
+    r#"{"allProperties":{},"allSignedOffBy":[],"authors":[],"commitTime":"1970-01-01T00:00:01.000000Z","hash":"f92df14c291c55081a6374c5074b1394016591b1981cd32b3bddb20a3f86d5d4","message":"one","parentCommitHashes":["2e1cfa82b035c26cbbbdae632cea070514eb8b773f616aaeaf668e2f0be8f10d"]}"#;
