@@ -15,7 +15,9 @@ use Rattle.uuid.specs.Text.{lower}
 use Rattle.uuid.proofs.RoundTrips.{parses_hyphenated}
 use Rattle.cat_names.specs.declared.hash.Hash.{Hash}
 use Rattle.cat_names.specs.declared.hash.ContentId.{ContentId}
-use Rattle.cat_json.specs.Names.{hash_as, id_as, hash_data, id_data, decoded, id_with}
+use Rattle.std.specs.Option.{option_map}
+use Rattle.cat_names.specs.Hashes.{decoded, id_of_bytes}
+use Rattle.cat_json.specs.Names.{hash_as, id_as, hash_data, id_data}
 use Rattle.cat_json.specs.Numbers.{small_natural, integer, small_integer, natural_data, integer_data}
 use Rattle.cat_json.specs.Reading.{◌>>=◌, items_as, list_as, members_as, map_as, Ascends}
 use Rattle.cat_json.specs.Writing.{list_data, map_data, put_all}
@@ -129,7 +131,7 @@ small_integer_back (pos n) h =
 small_integer_back (negsuc n) h = let small : n < 2 ^ 31 = search h in rw (lt-ltb n (2 ^ 31) small) refl
 
 pub id_back : (id : ContentId) → length id.bytes ≡ 16 → All (λ b. b < 256) id.bytes → id_as (id_data id) ≡ Some id
-id_back id len small = ap (λ (o : Option (List ℕ)). o >>= id_with) (sym (parses_hyphenated lower id.bytes (inl refl) len small))
+id_back id len small = ap (option_map id_of_bytes) (sym (parses_hyphenated lower id.bytes (inl refl) len small))
 
 pub hash_back : (h : Hash) → length h.bytes ≡ 32 → IsBytes h.bytes → hash_as (hash_data h) ≡ Some h
 hash_back h len small = ap decoded (decode_sized-encode_lower h.bytes 32 len small)

@@ -3,35 +3,21 @@ use Rattle.std.specs.Prelude.{◌≡◌, ℕ, List, Option, Some, None, Result, 
 use Rattle.serde_json.specs.Data.{Data, string, object, no_members}
 use Rattle.serde_json.specs.Find.{as_str}
 use Rattle.serde_json.specs.Written.{has_float}
-use Rattle.hex.specs.Hex.{decode_sized, encode_lower}
-use Rattle.hex.specs.declared.FromHexError.{FromHexError}
-use Rattle.uuid.specs.Text.{parsed, hyphenated_text, lower}
+use Rattle.hex.specs.Hex.{encode_lower}
+use Rattle.uuid.specs.Text.{hyphenated_text, lower}
 use Rattle.cat_names.specs.declared.hash.Hash.{Hash}
 use Rattle.cat_names.specs.declared.hash.ContentId.{ContentId}
 use Rattle.cat_names.specs.declared.key_fault.KeyFault.{KeyFault}
 use Rattle.cat_names.specs.declared.key_fault.KeyFault.TheVariants as keys
+use Rattle.cat_names.specs.Hashes.{hash_of, id_of}
 use Rattle.cat_names.specs.Fields.{Key, key_of}
 use Rattle.cat_json.specs.declared.fault.JsonFault.{JsonFault}
 use Rattle.cat_json.specs.declared.fault.JsonFault.TheVariants.{Bad, NoMemory}
 use Rattle.cat_json.specs.Reading.{◌>>=◌, required, list_as}
 use Rattle.cat_json.specs.Writing.{◌+>◌, list_data, no_float_items}
 
--- the hash that 64 hexadecimal digits stand for
-abbrev pub decoded : Result (List ℕ) FromHexError → Option Hash
-decoded (Ok bytes) = Some (record { bytes = bytes })
-decoded (Err e) = None
-
-abbrev pub hash_of : List ℕ → Option Hash
-hash_of text = decoded (decode_sized text 32)
-
 abbrev pub hash_as : Data → Option Hash
 hash_as d = as_str d >>= hash_of
-
-abbrev pub id_with : List ℕ → Option ContentId
-id_with bytes = Some (record { bytes = bytes })
-
-abbrev pub id_of : List ℕ → Option ContentId
-id_of text = parsed text >>= id_with
 
 abbrev pub id_as : Data → Option ContentId
 id_as d = as_str d >>= id_of

@@ -1,9 +1,8 @@
 //! Forms of hashes, ids and keys.
 
 ghost use Rattle.std.specs.Prelude.{◌≡◌, refl};
-ghost use Rattle.uuid.specs.Text.{parsed};
 ghost use Rattle.cat_json.specs.Reading.{Gives};
-ghost use Rattle.cat_json.specs.Names.{hash_of, id_of, key_as, hash_as, id_as, BecomesFault, hash_data, id_data, key_data, no_float_key};
+ghost use Rattle.cat_json.specs.Names.{key_as, hash_as, id_as, BecomesFault, hash_data, id_data, key_data, no_float_key};
 
 use crate::fault::JsonFault;
 use crate::read::{ReadForm, required};
@@ -18,36 +17,6 @@ use serde_json::Value;
 use std::alloc::Global;
 use uuid::Uuid;
 
-fn hash(text: &str) -> Option<Hash>
-    ensures { result ≡ hash_of text.now }
-{
-    let mut bytes = [0; 32];
-    match hex::decode_to_slice(text, &mut bytes) {
-        Ok(()) => Some(Hash { bytes }),
-        Err(_) => None,
-    }
-}
-
-fn uuid_of(text: &str) -> Option<Uuid>
-    ensures { result ≡ parsed text.now }
-{
-    match Uuid::parse_str(text) {
-        Ok(id) => Some(id),
-        Err(_) => None,
-    }
-}
-
-fn id(text: &str) -> Option<ContentId>
-    ensures { result ≡ id_of text.now }
-{
-    match uuid_of(text) {
-        Some(id) => Some(ContentId {
-            bytes: id.into_bytes(),
-        }),
-        None => None,
-    }
-}
-
 /// 64 hexadecimal digits of either case; written in lower case.
 impl ReadForm for Hash {
     type Of = Hash;
@@ -55,7 +24,7 @@ impl ReadForm for Hash {
     ghost reads = { hash_as };
 
     fn from_json(_alloc: Global, value: &Value) -> Result<Hash, JsonFault> {
-        match value.as_str().and_then(hash) {
+        match value.as_str().and_then(Hash::parse) {
             Some(hash) => Ok(hash),
             None => Err(JsonFault::Bad),
         }
@@ -81,7 +50,7 @@ impl ReadForm for ContentId {
     ghost reads = { id_as };
 
     fn from_json(_alloc: Global, value: &Value) -> Result<ContentId, JsonFault> {
-        match value.as_str().and_then(id) {
+        match value.as_str().and_then(ContentId::parse) {
             Some(id) => Ok(id),
             None => Err(JsonFault::Bad),
         }
