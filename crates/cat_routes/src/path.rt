@@ -1,5 +1,5 @@
 ghost use Rattle.std.specs.Prelude.{◌≡◌, IfOk, IsAscii};
-ghost use Rattle.percent_encoding.specs.Percent.{percent_encode};
+ghost use Rattle.cat_routes.specs.Parts.{escaped};
 
 use cat_codes::fault::NoMemory;
 use percent_encoding::{AsciiSet, percent_encode};
@@ -25,7 +25,7 @@ impl Model for Path {
 impl Path {
     /// The path of a target as it was sent.
     pub fn new(alloc: Global, path: &[u8]) -> Result<Path, NoMemory>
-        ensures { IfOk result (λ p. p ≡ percent_encode AsciiSet.EMPTY path.now) }
+        ensures { IfOk result (λ p. p ≡ escaped path.now) }
     {
         let mut text = String::new(alloc);
         percent_encode(path, AsciiSet::EMPTY).append_to(&mut text)?;
