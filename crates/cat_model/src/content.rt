@@ -1,0 +1,240 @@
+//! Contents of keys.
+
+ghost use Rattle.std.specs.Prelude.{◌≡◌};
+ghost use Rattle.cat_model.specs.Contents.{table_code, view_code, delta_code, namespace_code, content_code};
+ghost use Rattle.cat_model.specs.ContentLaws.{table_is, view_is, delta_is, namespace_is, content_is};
+
+use cat_codes::fault::{FieldFault, NoMemory};
+use cat_codes::field::{Field, read_ascending, write_ascending};
+use cat_codes::reader::Reader;
+use cat_codes::seq::Seq;
+use cat_codes::text::Text;
+use cat_codes::writer::Writer;
+use cat_names::hash::ContentId;
+use std::alloc::Global;
+
+#[derive(Clone, Debug, PartialEq, Eq, Drop)]
+pub struct IcebergTable {
+    pub metadata_location: Text,
+    pub snapshot_id: i64,
+    pub schema_id: i32,
+    pub spec_id: i32,
+    pub sort_order_id: i32,
+}
+
+#[derive(Clone, Debug, PartialEq, Eq, Drop)]
+pub struct IcebergView {
+    pub metadata_location: Text,
+    pub version_id: i64,
+    pub schema_id: i32,
+}
+
+#[derive(Clone, Debug, PartialEq, Eq, Drop)]
+pub struct DeltaLakeTable {
+    pub metadata_locations: Seq<Text>,
+    pub checkpoint_locations: Seq<Text>,
+    pub last_checkpoint: Option<Text>,
+}
+
+#[derive(Clone, Debug, PartialEq, Eq, Drop)]
+pub struct Namespace {
+    pub elements: Seq<Text>,
+    pub properties: Seq<(Text, Text)>,
+}
+
+#[derive(Clone, Debug, PartialEq, Eq, Drop)]
+pub enum Body {
+    IcebergTable(IcebergTable),
+    IcebergView(IcebergView),
+    DeltaLakeTable(DeltaLakeTable),
+    Namespace(Namespace),
+}
+
+/// What a key stands for, in full.
+#[derive(Clone, Debug, PartialEq, Eq, Drop)]
+pub struct Content {
+    pub id: ContentId,
+    pub body: Body,
+}
+
+impl Field for IcebergTable {
+    ghost code = { table_code };
+
+    ghost lawful = { table_is };
+
+    #[tactic(auto, unfolding(crate::specs::Contents::table_code))]
+    fn read(from: &mut Reader<'_>, alloc: Global) -> Result<IcebergTable, FieldFault> {
+        let metadata_location = Text::read(from, alloc)?;
+        let snapshot_id = from.i64()?;
+        let schema_id = from.i32()?;
+        let spec_id = from.i32()?;
+        let sort_order_id = from.i32()?;
+        Ok(IcebergTable {
+            metadata_location,
+            snapshot_id,
+            schema_id,
+            spec_id,
+            sort_order_id,
+        })
+    }
+
+    #[tactic(auto, unfolding(crate::specs::Contents::table_code))]
+    fn write(&self, out: &mut Writer) -> Result<(), NoMemory> {
+        self.metadata_location.write(out)?;
+        out.i64(self.snapshot_id)?;
+        out.i32(self.schema_id)?;
+        out.i32(self.spec_id)?;
+        out.i32(self.sort_order_id)?;
+        Ok(())
+    }
+}
+
+impl Field for IcebergView {
+    ghost code = { view_code };
+
+    ghost lawful = { view_is };
+
+    #[tactic(auto, unfolding(crate::specs::Contents::view_code))]
+    fn read(from: &mut Reader<'_>, alloc: Global) -> Result<IcebergView, FieldFault> {
+        let metadata_location = Text::read(from, alloc)?;
+        let version_id = from.i64()?;
+        let schema_id = from.i32()?;
+        Ok(IcebergView {
+            metadata_location,
+            version_id,
+            schema_id,
+        })
+    }
+
+    #[tactic(auto, unfolding(crate::specs::Contents::view_code))]
+    fn write(&self, out: &mut Writer) -> Result<(), NoMemory> {
+        self.metadata_location.write(out)?;
+        out.i64(self.version_id)?;
+        out.i32(self.schema_id)?;
+        Ok(())
+    }
+}
+
+impl Field for DeltaLakeTable {
+    ghost code = { delta_code };
+
+    ghost lawful = { delta_is };
+
+    #[tactic(auto, unfolding(crate::specs::Contents::delta_code))]
+    fn read(from: &mut Reader<'_>, alloc: Global) -> Result<DeltaLakeTable, FieldFault> {
+        let metadata_locations = Seq::read(from, alloc)?;
+        let checkpoint_locations = Seq::read(from, alloc)?;
+        let last_checkpoint = Option::read(from, alloc)?;
+        Ok(DeltaLakeTable {
+            metadata_locations,
+            checkpoint_locations,
+            last_checkpoint,
+        })
+    }
+
+    #[tactic(auto, unfolding(crate::specs::Contents::delta_code))]
+    fn write(&self, out: &mut Writer) -> Result<(), NoMemory> {
+        self.metadata_locations.write(out)?;
+        self.checkpoint_locations.write(out)?;
+        self.last_checkpoint.write(out)?;
+        Ok(())
+    }
+}
+
+impl Field for Namespace {
+    ghost code = { namespace_code };
+
+    ghost lawful = { namespace_is };
+
+    #[tactic(auto, unfolding(crate::specs::Contents::namespace_code))]
+    fn read(from: &mut Reader<'_>, alloc: Global) -> Result<Namespace, FieldFault> {
+        let elements = Seq::read(from, alloc)?;
+        let properties = read_ascending(from, alloc)?;
+        Ok(Namespace {
+            elements,
+            properties,
+        })
+    }
+
+    #[tactic(auto, unfolding(crate::specs::Contents::namespace_code))]
+    fn write(&self, out: &mut Writer) -> Result<(), NoMemory> {
+        self.elements.write(out)?;
+        write_ascending(out, &self.properties)?;
+        Ok(())
+    }
+}
+
+impl Field for Content {
+    ghost code = { content_code };
+
+    ghost lawful = { content_is };
+
+    #[tactic(auto, unfolding(crate::specs::Contents::content_code, crate::specs::Contents::of_table, crate::specs::Contents::of_view, crate::specs::Contents::of_delta, crate::specs::Contents::of_namespace))]
+    fn read(from: &mut Reader<'_>, alloc: Global) -> Result<Content, FieldFault> {
+        match from.u8()? {
+            1 => {
+                let id = ContentId::read(from, alloc)?;
+                let table = IcebergTable::read(from, alloc)?;
+                Ok(Content {
+                    id,
+                    body: Body::IcebergTable(table),
+                })
+            }
+            2 => {
+                let id = ContentId::read(from, alloc)?;
+                let view = IcebergView::read(from, alloc)?;
+                Ok(Content {
+                    id,
+                    body: Body::IcebergView(view),
+                })
+            }
+            3 => {
+                let id = ContentId::read(from, alloc)?;
+                let table = DeltaLakeTable::read(from, alloc)?;
+                Ok(Content {
+                    id,
+                    body: Body::DeltaLakeTable(table),
+                })
+            }
+            4 => {
+                let id = ContentId::read(from, alloc)?;
+                let namespace = Namespace::read(from, alloc)?;
+                Ok(Content {
+                    id,
+                    body: Body::Namespace(namespace),
+                })
+            }
+            _ => Err(FieldFault::Range),
+        }
+    }
+
+    #[tactic(auto, unfolding(crate::specs::Contents::content_code, crate::specs::Contents::of_table, crate::specs::Contents::of_view, crate::specs::Contents::of_delta, crate::specs::Contents::of_namespace))]
+    fn write(&self, out: &mut Writer) -> Result<(), NoMemory> {
+        match &self.body {
+            Body::IcebergTable(table) => {
+                out.u8(1)?;
+                self.id.write(out)?;
+                table.write(out)?;
+                Ok(())
+            }
+            Body::IcebergView(view) => {
+                out.u8(2)?;
+                self.id.write(out)?;
+                view.write(out)?;
+                Ok(())
+            }
+            Body::DeltaLakeTable(table) => {
+                out.u8(3)?;
+                self.id.write(out)?;
+                table.write(out)?;
+                Ok(())
+            }
+            Body::Namespace(namespace) => {
+                out.u8(4)?;
+                self.id.write(out)?;
+                namespace.write(out)?;
+                Ok(())
+            }
+        }
+    }
+}

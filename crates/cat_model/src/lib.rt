@@ -1,0 +1,22 @@
+//! The types of the catalogue, the byte formats of those that are stored, and the definitions
+//! that the crates above meet: the state, what each call does to it, what each reading call
+//! answers, and what a list of requests brings. A type's fields are the fields of the definitions'
+//! record of it, and each stored type has one spelling in bytes.
+#![tactic(auto)]
+
+pub mod ask;
+pub mod command;
+pub mod commit;
+pub mod conflict;
+pub mod content;
+pub mod entry;
+pub mod limits;
+pub mod log_entry;
+pub mod moment;
+pub mod op;
+pub mod reference;
+pub mod refusal;
+pub mod reply;
+#[cfg(test)]
+mod tests;
+pub mod wanted;

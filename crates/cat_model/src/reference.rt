@@ -1,0 +1,34 @@
+//! Named references, and how a request points at a commit.
+
+use cat_codes::text::Text as RefName;
+use cat_names::hash::Hash;
+
+/// What may be done with a reference: commits are made on branches alone.
+#[derive(Clone, Copy, Debug, PartialEq, Eq)]
+pub enum Kind {
+    Branch,
+    Tag,
+}
+
+/// A named reference and the commit that it points at.
+#[derive(Clone, Debug, PartialEq, Eq, Drop)]
+pub struct Reference {
+    pub name: RefName,
+    pub kind: Kind,
+    pub head: Hash,
+}
+
+/// What a request points at: a reference's head, a hash on a reference's chain, or a hash alone.
+/// At least one of the two is there.
+#[derive(Clone, Debug, PartialEq, Eq, Drop)]
+pub struct Pointer {
+    pub name: Option<RefName>,
+    pub hash: Option<Hash>,
+}
+
+/// The commit that a read was answered at: a reference's, or one that no reference was named for.
+#[derive(Clone, Debug, PartialEq, Eq, Drop)]
+pub enum Effective {
+    Named(Reference),
+    Detached(Hash),
+}

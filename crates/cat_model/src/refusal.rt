@@ -1,0 +1,97 @@
+//! Why a call is refused.
+
+use crate::conflict::Conflict;
+use crate::limits::Quantity;
+use cat_codes::seq::Seq;
+use cat_names::hash::Hash;
+use cat_names::key::ContentKey;
+
+/// What is wrong with a request.
+#[derive(Clone, Copy, Debug, PartialEq, Eq)]
+pub enum Reason {
+    BadHead,
+    BadBody,
+    BadQuery,
+    BadPath,
+    /// Commits are made on branches.
+    NotABranch,
+    /// The default branch stays.
+    DefaultBranch,
+    /// The type that was stated isn't the reference's.
+    OtherType,
+    /// The hashes aren't commits of which each is the parent of the next.
+    NotConsecutive,
+}
+
+/// Why there is no content.
+#[derive(Clone, Copy, Debug, PartialEq, Eq)]
+pub enum Missing {
+    /// The key isn't there.
+    Absent,
+    /// A sweep removed it.
+    Expired,
+}
+
+/// The methods of a route.
+#[derive(Clone, Copy, Debug, PartialEq, Eq)]
+pub enum Allowed {
+    Get,
+    Post,
+    GetPost,
+    GetPutDelete,
+}
+
+/// Why a call is refused. A refused call leaves references, commits, contents and log as they
+/// were.
+#[derive(Clone, Debug, PartialEq, Eq, Drop)]
+pub enum Refusal {
+    /// The request has no reading, or asks for what can't be done.
+    BadRequest(Reason),
+    /// No reference has the name, or the hash isn't on its chain, or isn't known.
+    RefNotFound,
+    /// A reference has the name already.
+    RefExists,
+    ContentNotFound(Missing),
+    /// What disagrees, keys ascending; never empty.
+    Conflicts(Seq<Conflict>),
+    /// The keys whose contents were swept, ascending, and the place where the call began.
+    Expired {
+        keys: Seq<ContentKey>,
+        opened: u32,
+    },
+    /// The places and heads that the attempts were built on, and the last ones seen.
+    RetriesSpent(Seq<(u32, Hash)>),
+    /// A sweep is open, since this place.
+    SweepOpen(u32),
+    /// The catalogue is full.
+    Limit {
+        which: Quantity,
+        number: u64,
+    },
+    /// Two records of one hash, the one that is kept first.
+    Collision {
+        hash: Hash,
+        first: Seq<u8>,
+        second: Seq<u8>,
+    },
+    /// The journal couldn't be written.
+    Fault,
+    /// The journal couldn't be written earlier, when it had so many entries.
+    Down(u64),
+    NoMemory,
+    /// No route has the path.
+    NoRoute,
+    /// The route hasn't the method, but these.
+    WrongMethod(Allowed),
+    /// The body is too large.
+    TooLarge,
+    /// The body is encoded.
+    Encoding,
+}
+
+/// A refusal, and the place of the state that it was decided on; none where no state was looked at.
+#[derive(Clone, Debug, PartialEq, Eq, Drop)]
+pub struct Refused {
+    pub place: Option<u32>,
+    pub why: Refusal,
+}

@@ -1,0 +1,11 @@
+//! What a request wants.
+
+use crate::ask::Ask;
+use crate::command::Command;
+
+/// A reading call or a changing one.
+#[derive(Clone, Debug, PartialEq, Eq, Drop)]
+pub enum Wanted {
+    Read(Ask),
+    Change(Command),
+}

@@ -1,0 +1,6 @@
+pub mod Bodies
+pub mod Faults
+pub mod Paths
+pub mod Refusals
+pub mod Replies
+pub mod Wanted
