@@ -1,6 +1,1 @@
-pub mod Bodies
-pub mod Faults
-pub mod Paths
-pub mod Refusals
-pub mod Replies
-pub mod Wanted
+pub mod Wording
