@@ -1,1 +1,4 @@
+pub mod PathForm
+pub mod Refusals
+pub mod Replies
 pub mod Wording

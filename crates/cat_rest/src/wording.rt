@@ -1,7 +1,7 @@
 //! The texts of the API for references, conflicts and refusals.
 
 ghost use Rattle.std.specs.Prelude.{◌≡◌, IfOk, string_bytes};
-ghost use Rattle.cat_rest.specs.Wording.{kind_text, conflict_text, quantity_text, reason_text, status_of as status_number, code_of as code_text, message_of};
+ghost use Rattle.cat_rest.specs.Wording.{kind_text, conflict_text, quantity_text, reason_text, status_of as status_number, phrase_of, code_of as code_text, message_of};
 
 use cat_model::conflict::ConflictKind;
 use cat_model::limits::Quantity;
@@ -87,6 +87,12 @@ pub fn status_of(refusal: &Refusal) -> StatusCode
         Refusal::TooLarge => StatusCode::PAYLOAD_TOO_LARGE,
         Refusal::Encoding => StatusCode::UNSUPPORTED_MEDIA_TYPE,
     }
+}
+
+pub(crate) fn phrase_of(refusal: &Refusal) -> &'static str
+    ensures { result.now ≡ phrase_of refusal.now }
+{
+    status_of(refusal).canonical_reason().unwrap_or("")
 }
 
 pub(crate) fn code_of(refusal: &Refusal) -> &'static str
