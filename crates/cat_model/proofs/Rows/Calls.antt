@@ -1,0 +1,208 @@
+-- Worked cases of commits.
+use Rattle.std.specs.Prelude.{◌≡◌, refl, ℕ, List, [], ◌∷◌, Option, Some, None, Bool, true, false, codes, map, length, ◌==◌, if◌then◌else◌, Result, Ok, Err}
+use Rattle.std.specs.Option.{option_map}
+use Rattle.cat_codes.specs.Code.{u8_spelling, u16_spelling, u32_spelling, u64_spelling, i64_spelling, i32_spelling, list, ascending}
+use Rattle.cat_codes.specs.Texts.{text_code, short_text_code}
+use Rattle.cat_names.specs.Fields.{Key, hash_code, id_code, element_code, key_code}
+use Rattle.cat_names.specs.declared.hash.Hash.{Hash}
+use Rattle.cat_names.specs.declared.hash.ContentId.{ContentId}
+use Rattle.cat_model.specs.declared.ask.Ask.TheVariants as asks
+use Rattle.cat_model.specs.declared.conflict.ConflictKind.TheVariants.{KeyExists, KeyDoesNotExist, ValueDiffers, NamespaceAbsent, NamespaceNotEmpty, NotANamespace}
+use Rattle.cat_model.specs.declared.commit.Commit.{Commit}
+use Rattle.cat_model.specs.declared.limits.Quantity.TheVariants.{Log, Commits, Keys, Contents, Drafts}
+use Rattle.cat_model.specs.declared.limits.Limits.{Limits}
+use Rattle.cat_model.specs.declared.log_entry.LogEntry.{LogEntry}
+use Rattle.cat_model.specs.declared.op.Op.{Op}
+use Rattle.cat_model.specs.declared.op.Op.TheVariants.{Put, Delete, Unchanged}
+use Rattle.cat_model.specs.declared.command.Command.{Command}
+use Rattle.cat_model.specs.declared.command.Command.TheVariants as commands
+use Rattle.cat_model.specs.declared.reference.Kind.TheVariants.{Branch, Tag}
+use Rattle.cat_model.specs.declared.refusal.Refusal.{Refusal}
+use Rattle.cat_model.specs.declared.refusal.Refusal.TheVariants.{BadRequest, RefNotFound, ContentNotFound, Limit, Collision, NoRoute}
+use Rattle.cat_model.specs.declared.refusal.Reason.TheVariants.{NotABranch}
+use Rattle.cat_model.specs.declared.refusal.Missing.TheVariants.{Absent, Expired}
+use Rattle.cat_model.specs.declared.refusal.Refused.{Refused}
+use Rattle.cat_model.specs.declared.reply.Reply.{Reply}
+use Rattle.cat_model.specs.declared.reply.Reply.TheVariants as replies
+use Rattle.cat_model.specs.declared.reply.Told.{Told}
+use Rattle.cat_model.specs.declared.wanted.Wanted.{Wanted}
+use Rattle.cat_model.specs.declared.wanted.Wanted.TheVariants.{Read}
+use Rattle.cat_model.specs.Formats.{moment_code, kind_code, entry_code, meta_code, commit_code}
+use Rattle.cat_model.specs.Contents.{table_code, namespace_code, of_table, of_namespace, content_code}
+use Rattle.cat_model.specs.Limits.{program_limits}
+use Rattle.cat_model.specs.Namespaces.{emptied_fault}
+use Rattle.cat_model.specs.Judge.{changes_of, op_fault, judge}
+use Rattle.cat_model.specs.Chain.{entries, commit_of}
+use Rattle.cat_model.specs.State.{Digest, State, first_state, fresh_id}
+use Rattle.cat_model.specs.Records.{commit_bytes, content_bytes, with_commit, with_content}
+use Rattle.cat_model.specs.Commits.{given_ops, given_request, request_commit, commit_opening, needs_commit_room, step_commit}
+use Rattle.cat_model.specs.Answer.{answer_reference, answer_content}
+use Rattle.cat_model.specs.Calls.{entry_made, call}
+use Rattle.cat_model.specs.Script.{Session, first_session, Outcomes, script}
+use Rattle.cat_model.specs.declared.reference.Reference.{Reference}
+use Rattle.cat_model.specs.declared.command.CommitRequest.{CommitRequest}
+use Rattle.cat_model.specs.declared.content.Content.{Content}
+use Rattle.cat_model.specs.Book.{Book, first_book, after_call, call_on}
+use Rattle.cat_model.specs.Calls.{Called}
+use Rattle.cat_model.specs.SinglePut.{is_single_put}
+use Rattle.cat_model.specs.Commits.{puts}
+use Rattle.cat_model.specs.declared.reference.Kind.{Kind}
+use Rattle.cat_model.specs.declared.reference.Effective.{Effective}
+use Rattle.cat_model.specs.declared.reference.Effective.TheVariants.{Named, Detached}
+use Rattle.cat_model.proofs.Rows.Words.{quick, clock, Request, short, main, H0, note, table, namespace, no_id, new, again, commit, put_new, put, both, read, look, after, said, head, Short, done, gives, points, told, not, refused_at, t1, t2, t9, a, a-t, m1, empty, limited, ample, ids, head_commit, parent_of_head, one}
+
+the_first_commit : said empty (put_new (Some H0) t1 m1 ∷ read (Some main) None t1 ∷ read (Some main) None t2 ∷ [])
+    ≡ done 1 ∷ gives 1 m1 ∷ not (Some 1) (ContentNotFound Absent) ∷ []
+unfolding u8_spelling u16_spelling u32_spelling u64_spelling i64_spelling i32_spelling list ascending text_code short_text_code hash_code id_code element_code key_code moment_code kind_code entry_code meta_code commit_code table_code namespace_code of_table of_namespace content_code emptied_fault changes_of op_fault judge entries commit_bytes content_bytes with_commit with_content given_ops given_request request_commit commit_opening needs_commit_room step_commit answer_reference answer_content entry_made call script
+the_first_commit = refl
+
+the_first_id : ids one ≡ (t1, fresh_id 1 0) ∷ []
+unfolding u8_spelling u16_spelling u32_spelling u64_spelling i64_spelling i32_spelling list ascending text_code short_text_code hash_code id_code element_code key_code moment_code kind_code entry_code meta_code commit_code table_code namespace_code of_table of_namespace content_code emptied_fault changes_of op_fault judge entries commit_bytes content_bytes with_commit with_content given_ops given_request request_commit commit_opening needs_commit_room step_commit answer_reference answer_content entry_made call script
+the_first_id = refl
+
+the_first_parent : parent_of_head one ≡ Some H0
+unfolding u8_spelling u16_spelling u32_spelling u64_spelling i64_spelling i32_spelling list ascending text_code short_text_code hash_code id_code element_code key_code moment_code kind_code entry_code meta_code commit_code table_code namespace_code of_table of_namespace content_code emptied_fault changes_of op_fault judge entries commit_bytes content_bytes with_commit with_content given_ops given_request request_commit commit_opening needs_commit_room step_commit answer_reference answer_content entry_made call script
+the_first_parent = refl
+
+-- generation, moment and stored keys of the commit at the head
+abbrev shape : Commit → ℕ × (ℕ × List Key)
+shape c = (c.generation, (c.time, map (λ x. x.0) c.ops))
+
+-- its merge parent and its message
+abbrev saying : Commit → Option Hash × List ℕ
+saying c = (c.merge_parent, c.meta.message)
+
+the_first_shape : option_map shape (head_commit one) ≡ Some (1, (1000000, t1 ∷ []))
+unfolding u8_spelling u16_spelling u32_spelling u64_spelling i64_spelling i32_spelling list ascending text_code short_text_code hash_code id_code element_code key_code moment_code kind_code entry_code meta_code commit_code table_code namespace_code of_table of_namespace content_code emptied_fault changes_of op_fault judge entries commit_bytes content_bytes with_commit with_content given_ops given_request request_commit commit_opening needs_commit_room step_commit answer_reference answer_content entry_made call script
+the_first_shape = refl
+
+the_second_shape : option_map shape (head_commit (after one (put_new None t2 m1 ∷ []))) ≡ Some (2, (2000000, t2 ∷ []))
+unfolding u8_spelling u16_spelling u32_spelling u64_spelling i64_spelling i32_spelling list ascending text_code short_text_code hash_code id_code element_code key_code moment_code kind_code entry_code meta_code commit_code table_code namespace_code of_table of_namespace content_code emptied_fault changes_of op_fault judge entries commit_bytes content_bytes with_commit with_content given_ops given_request request_commit commit_opening needs_commit_room step_commit answer_reference answer_content entry_made call script
+the_second_shape = refl
+
+operations_are_stored_by_key : option_map shape (head_commit (after one (commit main None (new t9 (table no_id m1) ∷ Unchanged t1 ∷ new t2 (table no_id m1) ∷ []) (table no_id m1 ∷ table no_id m1 ∷ []) ∷ []))) ≡ Some (2, (2000000, t2 ∷ t9 ∷ []))
+unfolding u8_spelling u16_spelling u32_spelling u64_spelling i64_spelling i32_spelling list ascending text_code short_text_code hash_code id_code element_code key_code moment_code kind_code entry_code meta_code commit_code table_code namespace_code of_table of_namespace content_code emptied_fault changes_of op_fault judge entries commit_bytes content_bytes with_commit with_content given_ops given_request request_commit commit_opening needs_commit_room step_commit answer_reference answer_content entry_made call script
+operations_are_stored_by_key = refl
+
+the_same_request_again : said one (put_new (Some H0) t1 m1 ∷ []) ≡ refused_at 1 t1 KeyExists ∷ []
+unfolding u8_spelling u16_spelling u32_spelling u64_spelling i64_spelling i32_spelling list ascending text_code short_text_code hash_code id_code element_code key_code moment_code kind_code entry_code meta_code commit_code table_code namespace_code of_table of_namespace content_code emptied_fault changes_of op_fault judge entries commit_bytes content_bytes with_commit with_content given_ops given_request request_commit commit_opening needs_commit_room step_commit answer_reference answer_content entry_made call script
+the_same_request_again = refl
+
+-- a refused call has used its draft
+its_draft_is_used : ids (after one (put_new (Some H0) t1 m1 ∷ put_new None t2 m1 ∷ [])) ≡ (t1, fresh_id 1 0) ∷ (t2, fresh_id 3 0) ∷ []
+unfolding u8_spelling u16_spelling u32_spelling u64_spelling i64_spelling i32_spelling list ascending text_code short_text_code hash_code id_code element_code key_code moment_code kind_code entry_code meta_code commit_code table_code namespace_code of_table of_namespace content_code emptied_fault changes_of op_fault judge entries commit_bytes content_bytes with_commit with_content given_ops given_request request_commit commit_opening needs_commit_room step_commit answer_reference answer_content entry_made call script
+its_draft_is_used = refl
+
+-- a call refused before its draft has used none
+no_draft_is_used : (after one (put_new (Some (record { bytes = 1 ∷ [] })) t2 m1 ∷ commit (codes "none") None (Unchanged t1 ∷ []) [] ∷ [])).draft ≡ 1
+unfolding u8_spelling u16_spelling u32_spelling u64_spelling i64_spelling i32_spelling list ascending text_code short_text_code hash_code id_code element_code key_code moment_code kind_code entry_code meta_code commit_code table_code namespace_code of_table of_namespace content_code emptied_fault changes_of op_fault judge entries commit_bytes content_bytes with_commit with_content given_ops given_request request_commit commit_opening needs_commit_room step_commit answer_reference answer_content entry_made call script
+no_draft_is_used = refl
+
+-- but it has taken a moment, which a read has not
+moments_are_used : (after one (put_new (Some (record { bytes = 1 ∷ [] })) t2 m1 ∷ read (Some main) None t1 ∷ Err NoRoute ∷ [])).readings ≡ 2
+unfolding u8_spelling u16_spelling u32_spelling u64_spelling i64_spelling i32_spelling list ascending text_code short_text_code hash_code id_code element_code key_code moment_code kind_code entry_code meta_code commit_code table_code namespace_code of_table of_namespace content_code emptied_fault changes_of op_fault judge entries commit_bytes content_bytes with_commit with_content given_ops given_request request_commit commit_opening needs_commit_room step_commit answer_reference answer_content entry_made call script
+moments_are_used = refl
+
+a_commit_at_an_old_hash : said one (put_new (Some H0) t2 m1 ∷ []) ≡ done 2 ∷ []
+unfolding u8_spelling u16_spelling u32_spelling u64_spelling i64_spelling i32_spelling list ascending text_code short_text_code hash_code id_code element_code key_code moment_code kind_code entry_code meta_code commit_code table_code namespace_code of_table of_namespace content_code emptied_fault changes_of op_fault judge entries commit_bytes content_bytes with_commit with_content given_ops given_request request_commit commit_opening needs_commit_room step_commit answer_reference answer_content entry_made call script
+a_commit_at_an_old_hash = refl
+
+its_parent_is_the_head : parent_of_head (after one (put_new (Some H0) t2 m1 ∷ [])) ≡ Some (head one)
+unfolding u8_spelling u16_spelling u32_spelling u64_spelling i64_spelling i32_spelling list ascending text_code short_text_code hash_code id_code element_code key_code moment_code kind_code entry_code meta_code commit_code table_code namespace_code of_table of_namespace content_code emptied_fault changes_of op_fault judge entries commit_bytes content_bytes with_commit with_content given_ops given_request request_commit commit_opening needs_commit_room step_commit answer_reference answer_content entry_made call script
+its_parent_is_the_head = refl
+
+its_id : ids (after one (put_new (Some H0) t2 m1 ∷ [])) ≡ (t1, fresh_id 1 0) ∷ (t2, fresh_id 2 0) ∷ []
+unfolding u8_spelling u16_spelling u32_spelling u64_spelling i64_spelling i32_spelling list ascending text_code short_text_code hash_code id_code element_code key_code moment_code kind_code entry_code meta_code commit_code table_code namespace_code of_table of_namespace content_code emptied_fault changes_of op_fault judge entries commit_bytes content_bytes with_commit with_content given_ops given_request request_commit commit_opening needs_commit_room step_commit answer_reference answer_content entry_made call script
+its_id = refl
+
+a_key_needs_its_namespace : said empty (put_new None a-t m1 ∷ both ∷ []) ≡ refused_at 0 a-t NamespaceAbsent ∷ done 1 ∷ []
+unfolding u8_spelling u16_spelling u32_spelling u64_spelling i64_spelling i32_spelling list ascending text_code short_text_code hash_code id_code element_code key_code moment_code kind_code entry_code meta_code commit_code table_code namespace_code of_table of_namespace content_code emptied_fault changes_of op_fault judge entries commit_bytes content_bytes with_commit with_content given_ops given_request request_commit commit_opening needs_commit_room step_commit answer_reference answer_content entry_made call script
+a_key_needs_its_namespace = refl
+
+abbrev nested : Session
+nested = after empty (put_new None a-t m1 ∷ both ∷ [])
+
+ids_by_draft_and_index : ids nested ≡ (a, fresh_id 2 0) ∷ (a-t, fresh_id 2 1) ∷ []
+unfolding u8_spelling u16_spelling u32_spelling u64_spelling i64_spelling i32_spelling list ascending text_code short_text_code hash_code id_code element_code key_code moment_code kind_code entry_code meta_code commit_code table_code namespace_code of_table of_namespace content_code emptied_fault changes_of op_fault judge entries commit_bytes content_bytes with_commit with_content given_ops given_request request_commit commit_opening needs_commit_room step_commit answer_reference answer_content entry_made call script
+ids_by_draft_and_index = refl
+
+a_namespace_with_keys_stays : said nested (commit main None (Delete a ∷ []) [] ∷ commit main None (Delete a ∷ Delete a-t ∷ []) [] ∷ [])
+    ≡ refused_at 1 a NamespaceNotEmpty ∷ done 2 ∷ []
+unfolding u8_spelling u16_spelling u32_spelling u64_spelling i64_spelling i32_spelling list ascending text_code short_text_code hash_code id_code element_code key_code moment_code kind_code entry_code meta_code commit_code table_code namespace_code of_table of_namespace content_code emptied_fault changes_of op_fault judge entries commit_bytes content_bytes with_commit with_content given_ops given_request request_commit commit_opening needs_commit_room step_commit answer_reference answer_content entry_made call script
+a_namespace_with_keys_stays = refl
+
+unchanged_alone_makes_a_commit : said empty (commit main None (Unchanged t1 ∷ []) [] ∷ []) ≡ done 1 ∷ []
+unfolding u8_spelling u16_spelling u32_spelling u64_spelling i64_spelling i32_spelling list ascending text_code short_text_code hash_code id_code element_code key_code moment_code kind_code entry_code meta_code commit_code table_code namespace_code of_table of_namespace content_code emptied_fault changes_of op_fault judge entries commit_bytes content_bytes with_commit with_content given_ops given_request request_commit commit_opening needs_commit_room step_commit answer_reference answer_content entry_made call script
+unchanged_alone_makes_a_commit = refl
+
+a_renamed_table : said one (commit main None (Delete t1 ∷ again t9 (table (fresh_id 1 0) m1) ∷ []) (table (fresh_id 1 0) m1 ∷ []) ∷ read (Some main) None t9 ∷ [])
+    ≡ done 2 ∷ gives 2 m1 ∷ []
+unfolding u8_spelling u16_spelling u32_spelling u64_spelling i64_spelling i32_spelling list ascending text_code short_text_code hash_code id_code element_code key_code moment_code kind_code entry_code meta_code commit_code table_code namespace_code of_table of_namespace content_code emptied_fault changes_of op_fault judge entries commit_bytes content_bytes with_commit with_content given_ops given_request request_commit commit_opening needs_commit_room step_commit answer_reference answer_content entry_made call script
+a_renamed_table = refl
+
+an_id_without_its_table : said one (put t9 (fresh_id 1 0) m1 ∷ []) ≡ refused_at 1 t9 KeyDoesNotExist ∷ []
+unfolding u8_spelling u16_spelling u32_spelling u64_spelling i64_spelling i32_spelling list ascending text_code short_text_code hash_code id_code element_code key_code moment_code kind_code entry_code meta_code commit_code table_code namespace_code of_table of_namespace content_code emptied_fault changes_of op_fault judge entries commit_bytes content_bytes with_commit with_content given_ops given_request request_commit commit_opening needs_commit_room step_commit answer_reference answer_content entry_made call script
+an_id_without_its_table = refl
+
+there_and_back : said one (
+    put t1 (fresh_id 1 0) (codes "m2")
+    ∷ put t1 (fresh_id 1 0) m1
+    ∷ commit main (Some (head one)) (Unchanged t1 ∷ new t2 (table no_id (codes "x")) ∷ []) (table no_id (codes "x") ∷ [])
+    ∷ []) ≡ done 2 ∷ done 3 ∷ done 4 ∷ []
+unfolding u8_spelling u16_spelling u32_spelling u64_spelling i64_spelling i32_spelling list ascending text_code short_text_code hash_code id_code element_code key_code moment_code kind_code entry_code meta_code commit_code table_code namespace_code of_table of_namespace content_code emptied_fault changes_of op_fault judge entries commit_bytes content_bytes with_commit with_content given_ops given_request request_commit commit_opening needs_commit_room step_commit answer_reference answer_content entry_made call script
+there_and_back = refl
+
+a_tag_takes_no_commits : said (record empty { state = record empty.state { references = record { name = main; kind = Tag; head = H0 } ∷ [] } }) (put_new None t1 m1 ∷ []) ≡ not (Some 0) (BadRequest NotABranch) ∷ []
+unfolding u8_spelling u16_spelling u32_spelling u64_spelling i64_spelling i32_spelling list ascending text_code short_text_code hash_code id_code element_code key_code moment_code kind_code entry_code meta_code commit_code table_code namespace_code of_table of_namespace content_code emptied_fault changes_of op_fault judge entries commit_bytes content_bytes with_commit with_content given_ops given_request request_commit commit_opening needs_commit_room step_commit answer_reference answer_content entry_made call script
+a_tag_takes_no_commits = refl
+
+what_is_said_of_it : option_map saying (head_commit one) ≡ Some (None, codes "one")
+unfolding u8_spelling u16_spelling u32_spelling u64_spelling i64_spelling i32_spelling list ascending text_code short_text_code hash_code id_code element_code key_code moment_code kind_code entry_code meta_code commit_code table_code namespace_code of_table of_namespace content_code emptied_fault changes_of op_fault judge entries commit_bytes content_bytes with_commit with_content given_ops given_request request_commit commit_opening needs_commit_room step_commit answer_reference answer_content entry_made call script
+what_is_said_of_it = refl
+
+-- two values of one key, the first of which a request expects
+abbrev changed : Session
+changed = after one (put t1 (fresh_id 1 0) (codes "m2") ∷ [])
+
+another_value_was_expected : said changed (commit main (Some (head one)) (Unchanged t1 ∷ []) [] ∷ commit main None (Unchanged t1 ∷ []) [] ∷ []) ≡ refused_at 2 t1 ValueDiffers ∷ done 3 ∷ []
+unfolding u8_spelling u16_spelling u32_spelling u64_spelling i64_spelling i32_spelling list ascending text_code short_text_code hash_code id_code element_code key_code moment_code kind_code entry_code meta_code commit_code table_code namespace_code of_table of_namespace content_code emptied_fault changes_of op_fault judge entries commit_bytes content_bytes with_commit with_content given_ops given_request request_commit commit_opening needs_commit_room step_commit answer_reference answer_content entry_made call script
+another_value_was_expected = refl
+
+-- a session whose branch is back at the first hash, with the commits as they were
+abbrev turned_back : Session → Session
+turned_back s = record s { state = record s.state { references = record { name = codes "dev"; kind = Branch; head = head s } ∷ record { name = main; kind = Branch; head = H0 } ∷ [] } }
+
+commits_of_another_chain : ids (after (turned_back one) (put_new None t2 m1 ∷ [])) ≡ (t2, fresh_id 2 0) ∷ []
+unfolding u8_spelling u16_spelling u32_spelling u64_spelling i64_spelling i32_spelling list ascending text_code short_text_code hash_code id_code element_code key_code moment_code kind_code entry_code meta_code commit_code table_code namespace_code of_table of_namespace content_code emptied_fault changes_of op_fault judge entries commit_bytes content_bytes with_commit with_content given_ops given_request request_commit commit_opening needs_commit_room step_commit answer_reference answer_content entry_made call script
+commits_of_another_chain = refl
+
+other_branches_stay : map (λ r. r.head) (after (turned_back one) (put_new None t2 m1 ∷ [])).state.references ≡ head one ∷ head (after (turned_back one) (put_new None t2 m1 ∷ [])) ∷ []
+unfolding u8_spelling u16_spelling u32_spelling u64_spelling i64_spelling i32_spelling list ascending text_code short_text_code hash_code id_code element_code key_code moment_code kind_code entry_code meta_code commit_code table_code namespace_code of_table of_namespace content_code emptied_fault changes_of op_fault judge entries commit_bytes content_bytes with_commit with_content given_ops given_request request_commit commit_opening needs_commit_room step_commit answer_reference answer_content entry_made call script
+other_branches_stay = refl
+
+a_hash_off_the_chain : said (turned_back one) (put_new (Some (head one)) t2 m1 ∷ []) ≡ not (Some 1) RefNotFound ∷ []
+unfolding u8_spelling u16_spelling u32_spelling u64_spelling i64_spelling i32_spelling list ascending text_code short_text_code hash_code id_code element_code key_code moment_code kind_code entry_code meta_code commit_code table_code namespace_code of_table of_namespace content_code emptied_fault changes_of op_fault judge entries commit_bytes content_bytes with_commit with_content given_ops given_request request_commit commit_opening needs_commit_room step_commit answer_reference answer_content entry_made call script
+a_hash_off_the_chain = refl
+
+the_kind_is_looked_at_before_the_hash : said (record empty { state = record empty.state { references = record { name = main; kind = Tag; head = H0 } ∷ [] } }) (put_new (Some (record { bytes = 1 ∷ [] })) t1 m1 ∷ []) ≡ not (Some 0) (BadRequest NotABranch) ∷ []
+unfolding u8_spelling u16_spelling u32_spelling u64_spelling i64_spelling i32_spelling list ascending text_code short_text_code hash_code id_code element_code key_code moment_code kind_code entry_code meta_code commit_code table_code namespace_code of_table of_namespace content_code emptied_fault changes_of op_fault judge entries commit_bytes content_bytes with_commit with_content given_ops given_request request_commit commit_opening needs_commit_room step_commit answer_reference answer_content entry_made call script
+the_kind_is_looked_at_before_the_hash = refl
+
+-- a request of operations, with tables of no id
+abbrev asks_for : List Op → List Content → Command
+asks_for ops contents = commands.Commit (record { branch = main; expected = None; meta = note; ops = ops; contents = contents })
+
+abbrev a_table : Content
+a_table = table no_id m1
+
+requests_of_one_new_content : map is_single_put (
+    asks_for (new t1 a_table ∷ []) (a_table ∷ [])
+    ∷ asks_for (new a (namespace a) ∷ []) (a_table ∷ [])
+    ∷ asks_for (new a-t a_table ∷ []) (a_table ∷ [])
+    ∷ asks_for (again t1 a_table ∷ []) (a_table ∷ [])
+    ∷ asks_for (new t1 a_table ∷ []) []
+    ∷ asks_for (new t1 a_table ∷ new t2 a_table ∷ []) (a_table ∷ a_table ∷ [])
+    ∷ asks_for (Delete t1 ∷ []) []
+    ∷ [])
+    ≡ true ∷ false ∷ false ∷ false ∷ false ∷ false ∷ false ∷ []
+requests_of_one_new_content = refl
