@@ -5,9 +5,10 @@ ghost use Rattle.serde_json.specs.Data.{Data};
 ghost use Rattle.serde_json.specs.Read.{read};
 ghost use Rattle.serde_json.specs.Find.{get};
 ghost use Rattle.serde_json.specs.View.{view, items_view, members_view};
-ghost use Rattle.cat_json.specs.Reading.{Gives, GivesView, GivesValue, json_of, body_as, present, absent, required, optional, defaulted, items_as, list_as, members_as, Ascends};
+ghost use Rattle.cat_json.specs.Reading.{Gives, GivesView, GivesValue, json_of, body_as, present, absent, required, optional, defaulted, items_as, list_as, members_as, map_as, Ascends};
 
 use crate::fault::JsonFault;
+use cat_codes::ascending::Ascending;
 use cat_codes::seq::Seq;
 use cat_codes::text::Text;
 use serde_json::{Map, Value};
@@ -160,4 +161,31 @@ fn pairs<F: ReadForm>(
         pairs.push((Text::from_str(alloc, name.as_str())?, value))?;
     }
     Ok(pairs)
+}
+
+fn map<F: ReadForm>(
+    alloc: Global,
+    members: &Map<String, Value>,
+) -> Result<Ascending<Text, F::Of>, JsonFault>
+    ensures { Gives result (members_as F.reads (members_view members.now.entries)) }
+{
+    match Ascending::from_seq(pairs::<F>(alloc, members)?) {
+        Some(map) => Ok(map),
+        // the names of an object ascend
+        None => unreachable!(),
+    }
+}
+
+/// An object, each of whose members the form reads.
+impl<F: ReadForm> ReadForm for Ascending<Text, F> {
+    type Of = Ascending<Text, F::Of>;
+
+    ghost reads = { map_as F.reads };
+
+    fn from_json(alloc: Global, value: &Value) -> Result<Ascending<Text, F::Of>, JsonFault> {
+        match value.as_object() {
+            Some(members) => map::<F>(alloc, members),
+            None => Err(JsonFault::Bad),
+        }
+    }
 }

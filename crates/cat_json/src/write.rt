@@ -4,8 +4,9 @@ ghost use Rattle.std.specs.Prelude.{◌≡◌, IfOk, option_map, false, string_b
 ghost use Rattle.serde_json.specs.Data.{Data, string, object, no_members};
 ghost use Rattle.serde_json.specs.View.{view};
 ghost use Rattle.serde_json.specs.Written.{has_float, compact_text};
-ghost use Rattle.cat_json.specs.Writing.{◌+>◌, ◌+?>◌, held, list_data, map_data, put_all, no_float_list};
+ghost use Rattle.cat_json.specs.Writing.{◌+>◌, ◌+?>◌, held, list_data, map_data, put_all, no_float_list, no_float_map};
 
+use cat_codes::ascending::Ascending;
 use cat_codes::fault::NoMemory;
 use cat_codes::seq::Seq;
 use cat_codes::text::Text;
@@ -128,8 +129,7 @@ impl<F: WriteForm> WriteForm for Seq<F> {
     }
 }
 
-/// An object with a member for each pair.
-pub fn map<F: WriteForm>(alloc: Global, pairs: &[(Text, F::Of)]) -> Result<Value, NoMemory>
+fn map<F: WriteForm>(alloc: Global, pairs: &[(Text, F::Of)]) -> Result<Value, NoMemory>
     ensures { IfOk result (λ v. view v ≡ map_data F.writes pairs.now) }
 {
     let mut members = Map::new(alloc);
@@ -142,4 +142,17 @@ pub fn map<F: WriteForm>(alloc: Global, pairs: &[(Text, F::Of)]) -> Result<Value
         )?;
     }
     Ok(Value::Object(members))
+}
+
+/// An object with a member for each pair, written by the form.
+impl<F: WriteForm> WriteForm for Ascending<Text, F> {
+    type Of = Ascending<Text, F::Of>;
+
+    ghost writes = { map_data F.writes };
+
+    ghost no_float = { no_float_map F.writes F.no_float };
+
+    fn to_json(alloc: Global, value: &Ascending<Text, F::Of>) -> Result<Value, NoMemory> {
+        map::<F>(alloc, value.as_slice())
+    }
 }
