@@ -1,4 +1,7 @@
-pub mod PathForm
+pub mod Bodies
+pub mod Faults
+pub mod Paths
 pub mod Refusals
 pub mod Replies
+pub mod Wanted
 pub mod Wording

@@ -11,7 +11,7 @@ use Rattle.cat_names.specs.declared.hash.Hash.{Hash}
 use Rattle.cat_model.specs.declared.conflict.Conflict.{Conflict}
 use Rattle.cat_model.specs.declared.refusal.Refusal.{Refusal}
 use Rattle.cat_model.specs.declared.refusal.Refusal.TheVariants.{BadRequest, RefNotFound, RefExists, ContentNotFound, Conflicts, Expired, RetriesSpent, SweepOpen, Limit, Collision, Fault, Down, NoMemory, NoRoute, WrongMethod, TooLarge, Encoding}
-use Rattle.cat_rest.specs.PathForm.{path_form}
+use Rattle.cat_names.specs.Paths.{path_form}
 use Rattle.cat_rest.specs.Wording.{conflict_text, quantity_text, status_of, phrase_of, code_of, message_of}
 
 abbrev pub after_colon : Option Key → List ℕ

@@ -1,10 +1,9 @@
 //! What a request wants.
 
-ghost use Rattle.std.specs.Prelude.{◌≡◌, IfOk, None, option_map};
-ghost use Rattle.cat_json.specs.Reading.{body_as};
-ghost use Rattle.cat_routes.specs.Table.{Match, shown, found_in};
+ghost use Rattle.std.specs.Prelude.{◌≡◌, None, [], option_map};
+ghost use Rattle.cat_routes.specs.Table.{shown};
 ghost use Rattle.cat_routes.specs.declared.routes.Route.TheVariants as routes;
-ghost use Rattle.cat_rest.specs.Faults.{Answers, BodyBecomes};
+ghost use Rattle.cat_rest.specs.Faults.{Answers, BecomesBadBody};
 ghost use Rattle.cat_rest.specs.Wanted.{methods_of, allows, path_of, read_at, with_route, wanted};
 
 use crate::commit::{CommitBody, CommitForm};
@@ -59,7 +58,7 @@ fn refused(why: Refusal) -> Refused
 }
 
 fn bad_body(fault: JsonFault) -> Refused
-    ensures { BodyBecomes fault result }
+    ensures { BecomesBadBody fault result }
 {
     match fault {
         JsonFault::Bad => refused(Refusal::BadRequest(Reason::BadBody)),

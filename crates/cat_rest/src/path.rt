@@ -1,14 +1,15 @@
 //! References and keys in paths.
 
-ghost use Rattle.std.specs.Prelude.{◌≡◌, option_map, cow_str_bytes};
-ghost use Rattle.cat_rest.specs.Faults.{GivesPath, GivesText, PathBecomes, NameBecomes, KeyBecomes};
+ghost use Rattle.std.specs.Prelude.{option_map};
+ghost use Rattle.cat_rest.specs.Faults.{GivesPath, GivesText, BecomesRefused, NameBecomes, KeyBecomes};
 ghost use Rattle.cat_rest.specs.Paths.{decoded, name_in, reference_in, reference_at, key_at};
 
 use cat_model::refusal::{Reason, Refusal, Refused};
 use cat_names::hash::Hash;
 use cat_names::key::ContentKey;
 use cat_names::key_fault::KeyFault;
-use cat_names::ref_name::{NameFault, RefName};
+use cat_names::name_fault::NameFault;
+use cat_names::ref_name::RefName;
 use percent_encoding::{DecodeError, percent_decode_str};
 use std::alloc::Global;
 use std::borrow::CowStr;
@@ -28,7 +29,7 @@ pub struct PathReference {
 }
 
 impl From<PathFault> for Refused {
-    ghost from_gives = { PathBecomes };
+    ghost from_gives = { BecomesRefused };
 
     fn from(fault: PathFault) -> Refused {
         let why = match fault {
@@ -44,8 +45,8 @@ impl From<NameFault> for PathFault {
 
     fn from(fault: NameFault) -> PathFault {
         match fault {
+            NameFault::Bad => PathFault::Bad,
             NameFault::NoMemory => PathFault::NoMemory,
-            _ => PathFault::Bad,
         }
     }
 }
@@ -62,6 +63,7 @@ impl From<KeyFault> for PathFault {
 }
 
 // A parameter without its escapes.
+#[tactic(auto, using(cat_json::proofs::Utf8::utf8))]
 fn decoded(alloc: Global, part: &str) -> Result<CowStr<'_, Global>, PathFault>
     ensures { GivesText result (decoded part.now) }
 {
@@ -80,20 +82,25 @@ fn name_in(alloc: Global, text: &str) -> Result<RefName, PathFault>
     Ok(RefName::parse(alloc, name)?)
 }
 
+#[tactic(auto, unfolding(crate::specs::Paths::reference_in))]
 fn reference_in(alloc: Global, text: &str) -> Result<PathReference, PathFault>
     ensures { GivesPath result (reference_in text.now) }
 {
-    let Some((name, hash)) = text.split_once('@') else {
-        let name = name_in(alloc, text)?;
-        return Ok(PathReference { name, hash: None });
-    };
-    let name = name_in(alloc, name)?;
-    match Hash::parse(hash) {
-        Some(hash) => Ok(PathReference {
-            name,
-            hash: Some(hash),
-        }),
-        None => Err(PathFault::Bad),
+    match text.split_once('@') {
+        None => {
+            let name = name_in(alloc, text)?;
+            Ok(PathReference { name, hash: None })
+        }
+        Some((name, hash)) => {
+            let name = name_in(alloc, name)?;
+            match Hash::parse(hash) {
+                Some(hash) => Ok(PathReference {
+                    name,
+                    hash: Some(hash),
+                }),
+                None => Err(PathFault::Bad),
+            }
+        }
     }
 }
 

@@ -3,7 +3,6 @@
 ghost use Rattle.std.specs.Prelude.{◌≡◌, IfOk, option_map, string_bytes};
 ghost use Rattle.serde_json.specs.View.{view};
 ghost use Rattle.serde_json.specs.Written.{compact_text};
-ghost use Rattle.cat_rest.specs.PathForm.{path_form};
 ghost use Rattle.cat_json.specs.Writing.{◌+>◌, held};
 ghost use Rattle.cat_rest.specs.Refusals.{bytes_data, conflict_message, conflict_data, head_data, details_of, refusal_data, no_float_conflict, no_float_head, no_float_refusal};
 
@@ -25,12 +24,6 @@ struct HeadForm;
 
 struct RefusalForm;
 
-fn path_of(_alloc: Global, _key: &ContentKey) -> Result<String, NoMemory>
-    ensures { IfOk result (λ s. string_bytes s ≡ path_form _key.now) }
-{
-    Err(NoMemory)
-}
-
 fn conflict_message(alloc: Global, conflict: &Conflict) -> Result<String, NoMemory>
     ensures { IfOk result (λ text. string_bytes text ≡ conflict_message conflict.now) }
 {
@@ -38,7 +31,8 @@ fn conflict_message(alloc: Global, conflict: &Conflict) -> Result<String, NoMemo
     match &conflict.key {
         None => Ok(String::from_str(alloc, kind)?),
         Some(key) => {
-            let path = path_of(alloc, key)?;
+            let path = key.to_path(alloc)?;
+            let path = path.as_str();
             Ok(format!(in alloc; "{kind}: {path}")?)
         }
     }
