@@ -5,6 +5,7 @@ ghost use Rattle.sha2.specs.Sha256.{sha256};
 ghost use Rattle.cat_codes.specs.Read.{Gives};
 ghost use Rattle.cat_codes.specs.Code.{whole};
 ghost use Rattle.cat_model.specs.Formats.{commit_code};
+ghost use Rattle.cat_model.specs.State.{commit_hash};
 
 use cat_codes::fault::{FieldFault, NoMemory};
 use cat_codes::field;
@@ -31,7 +32,7 @@ pub fn from_bytes(alloc: Global, bytes: &[u8]) -> Result<Commit, FieldFault>
 
 /// The SHA-256 hash of a commit's bytes.
 pub fn id(alloc: Global, commit: &Commit) -> Result<Hash, NoMemory>
-    ensures { IfOk result (λ h. h.bytes ≡ sha256 ((commit_code).spell commit.now)) }
+    ensures { IfOk result (λ h. h ≡ commit_hash sha256 commit.now) }
 {
     let bytes = to_bytes(alloc, commit)?;
     Ok(Hash::of(&bytes))

@@ -120,7 +120,6 @@ impl WriteForm for InstantForm {
 
     ghost no_float = { λ _. refl };
 
-    #[tactic(auto, using(cat_json::proofs::Utf8::utf8))]
     fn to_json(alloc: Global, value: &Moment) -> Result<Value, NoMemory> {
         let text = write_instant(*value);
         let Ok(text) = str::from_utf8(text.as_slice()) else {

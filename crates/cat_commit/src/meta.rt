@@ -31,8 +31,7 @@ pub fn meta_from_json(alloc: Global, value: &Value) -> Result<Meta, JsonFault>
     let none = Seq::new(alloc);
     let signed = defaulted::<Seq<Text>>(alloc, value, "allSignedOffBy", none)?;
     let none = Ascending::new(alloc);
-    let properties =
-        defaulted::<Ascending<Text, Seq<Text>>>(alloc, value, "allProperties", none)?;
+    let properties = defaulted::<Ascending<Text, Seq<Text>>>(alloc, value, "allProperties", none)?;
     let author_time = optional::<InstantForm>(alloc, value, "authorTime")?;
     Ok(Meta {
         message,
@@ -102,11 +101,13 @@ fn parents(alloc: Global, commit: &Commit) -> Result<Seq<Hash>, NoMemory>
 pub fn commit_meta_to_json(alloc: Global, hash: &Hash, commit: &Commit) -> Result<Value, NoMemory>
     ensures { IfOk result (λ v. view v ≡ commit_meta_data hash.now commit.now) }
 {
-    Ok(meta_object(alloc, &commit.meta)?
-        .with::<InstantForm>("commitTime", &commit.time)?
-        .with::<Hash>("hash", hash)?
-        .with::<Seq<Hash>>("parentCommitHashes", &parents(alloc, commit)?)?
-        .into_value())
+    Ok(
+        meta_object(alloc, &commit.meta)?
+            .with::<InstantForm>("commitTime", &commit.time)?
+            .with::<Hash>("hash", hash)?
+            .with::<Seq<Hash>>("parentCommitHashes", &parents(alloc, commit)?)?
+            .into_value(),
+    )
 }
 
 /// The form in replies of commits with their hashes.

@@ -5,6 +5,7 @@ ghost use Rattle.sha2.specs.Sha256.{sha256};
 ghost use Rattle.cat_codes.specs.Read.{Gives};
 ghost use Rattle.cat_codes.specs.Code.{whole};
 ghost use Rattle.cat_model.specs.Contents.{content_code};
+ghost use Rattle.cat_model.specs.State.{content_hash};
 
 use cat_codes::fault::{FieldFault, NoMemory};
 use cat_codes::field;
@@ -31,7 +32,7 @@ pub fn from_bytes(alloc: Global, bytes: &[u8]) -> Result<Content, FieldFault>
 
 /// The SHA-256 hash of a content's bytes.
 pub fn hash(alloc: Global, content: &Content) -> Result<Hash, NoMemory>
-    ensures { IfOk result (λ h. h.bytes ≡ sha256 ((content_code).spell content.now)) }
+    ensures { IfOk result (λ h. h ≡ content_hash sha256 content.now) }
 {
     let bytes = to_bytes(alloc, content)?;
     Ok(Hash::of(&bytes))

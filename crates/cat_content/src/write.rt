@@ -45,53 +45,62 @@ impl WriteForm for KindForm {
 fn table(alloc: Global, id: &ContentId, table: &IcebergTable) -> Result<Value, NoMemory>
     ensures { IfOk result (λ v. view v ≡ body_data id.now (bodies.IcebergTable table.now)) }
 {
-    Ok(Object::new(alloc)
-        .with::<ContentId>("id", id)?
-        .with::<Text>("metadataLocation", &table.metadata_location)?
-        .with::<i32>("schemaId", &table.schema_id)?
-        .with::<i64>("snapshotId", &table.snapshot_id)?
-        .with::<i32>("sortOrderId", &table.sort_order_id)?
-        .with::<i32>("specId", &table.spec_id)?
-        .with::<KindForm>("type", &ContentKind::IcebergTable)?
-        .into_value())
+    Ok(
+        Object::new(alloc)
+            .with::<ContentId>("id", id)?
+            .with::<Text>("metadataLocation", &table.metadata_location)?
+            .with::<i32>("schemaId", &table.schema_id)?
+            .with::<i64>("snapshotId", &table.snapshot_id)?
+            .with::<i32>("sortOrderId", &table.sort_order_id)?
+            .with::<i32>("specId", &table.spec_id)?
+            .with::<KindForm>("type", &ContentKind::IcebergTable)?
+            .into_value(),
+    )
 }
 
 fn view_of(alloc: Global, id: &ContentId, found: &IcebergView) -> Result<Value, NoMemory>
     ensures { IfOk result (λ v. view v ≡ body_data id.now (bodies.IcebergView found.now)) }
 {
-    Ok(Object::new(alloc)
-        .with::<ContentId>("id", id)?
-        .with::<Text>("metadataLocation", &found.metadata_location)?
-        .with::<i32>("schemaId", &found.schema_id)?
-        .with::<KindForm>("type", &ContentKind::IcebergView)?
-        .with::<i64>("versionId", &found.version_id)?
-        .into_value())
+    Ok(
+        Object::new(alloc)
+            .with::<ContentId>("id", id)?
+            .with::<Text>("metadataLocation", &found.metadata_location)?
+            .with::<i32>("schemaId", &found.schema_id)?
+            .with::<KindForm>("type", &ContentKind::IcebergView)?
+            .with::<i64>("versionId", &found.version_id)?
+            .into_value(),
+    )
 }
 
 fn delta(alloc: Global, id: &ContentId, table: &DeltaLakeTable) -> Result<Value, NoMemory>
     ensures { IfOk result (λ v. view v ≡ body_data id.now (bodies.DeltaLakeTable table.now)) }
 {
-    Ok(Object::new(alloc)
-        .with::<Seq<Text>>("checkpointLocationHistory", &table.checkpoint_locations)?
-        .with::<ContentId>("id", id)?
-        .with_some::<Text>("lastCheckpoint", &table.last_checkpoint)?
-        .with::<Seq<Text>>("metadataLocationHistory", &table.metadata_locations)?
-        .with::<KindForm>("type", &ContentKind::DeltaLakeTable)?
-        .into_value())
+    Ok(
+        Object::new(alloc)
+            .with::<Seq<Text>>("checkpointLocationHistory", &table.checkpoint_locations)?
+            .with::<ContentId>("id", id)?
+            .with_some::<Text>("lastCheckpoint", &table.last_checkpoint)?
+            .with::<Seq<Text>>("metadataLocationHistory", &table.metadata_locations)?
+            .with::<KindForm>("type", &ContentKind::DeltaLakeTable)?
+            .into_value(),
+    )
 }
 
 fn namespace(alloc: Global, id: &ContentId, found: &Namespace) -> Result<Value, NoMemory>
     ensures { IfOk result (λ v. view v ≡ body_data id.now (bodies.Namespace found.now)) }
 {
-    Ok(Object::new(alloc)
-        .with::<Seq<Text>>("elements", &found.elements)?
-        .with::<ContentId>("id", id)?
-        .with::<Ascending<Text, Text>>("properties", &found.properties)?
-        .with::<KindForm>("type", &ContentKind::Namespace)?
-        .into_value())
+    Ok(
+        Object::new(alloc)
+            .with::<Seq<Text>>("elements", &found.elements)?
+            .with::<ContentId>("id", id)?
+            .with::<Ascending<Text, Text>>("properties", &found.properties)?
+            .with::<KindForm>("type", &ContentKind::Namespace)?
+            .into_value(),
+    )
 }
 
 /// The content as a JSON object, with its id.
+#[tactic(auto, unfolding(crate::specs::Forms::content_data))]
 pub fn to_json(alloc: Global, content: &Content) -> Result<Value, NoMemory>
     ensures { IfOk result (λ v. view v ≡ content_data content.now) }
 {
