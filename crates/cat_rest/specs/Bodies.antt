@@ -1,5 +1,5 @@
 -- Bodies of commit requests: at this time one new content at a key of one element.
-use Rattle.std.specs.Prelude.{ℕ, ◌==◌, ◌&&◌, List, [], ◌∷◌, length, Option, Some, None, is_some, Bool, true, false, not, replicate, codes, bytes_eq, if◌then◌else◌}
+use Rattle.std.specs.Prelude.{ℕ, ◌&&◌, List, [], ◌∷◌, Option, Some, None, is_some, Bool, true, false, not, replicate, codes, bytes_eq, if◌then◌else◌}
 use Rattle.std.specs.Cmp.Lexicographic.{pointwise}
 use Rattle.serde_json.specs.Data.{Data, Items, no_items, item}
 use Rattle.serde_json.specs.Find.{get, as_str, as_array}
@@ -35,16 +35,21 @@ may_stand_at key (bodies.IcebergTable t) = true
 may_stand_at key (bodies.IcebergView v) = true
 may_stand_at key (bodies.DeltaLakeTable t) = true
 
+abbrev pub has_one_element : Key → Bool
+has_one_element [] = false
+has_one_element (x ∷ []) = true
+has_one_element (x ∷ y ∷ key) = false
+
 -- a content without an id, at a key of one element
 unfoldable pub is_new_at : Key → Given → Bool
-is_new_at key given = not (is_some given.id) && length key == 1 && may_stand_at key given.body
+is_new_at key given = not (is_some given.id) && has_one_element key && may_stand_at key given.body
 
 unfoldable pub put_as : Data → Option Put
 put_as d =
     if is_put d then
-      (required key_as (codes "key") d >>= λ key.
-      required content_as (codes "content") d >>= λ given.
-      if is_new_at key given then Some (record { key = key; body = given.body }) else None)
+    (required key_as (codes "key") d >>= λ key.
+    required content_as (codes "content") d >>= λ given.
+    if is_new_at key given then Some (record { key = key; body = given.body }) else None)
     else None
 
 -- an array of one

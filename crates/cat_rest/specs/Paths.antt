@@ -28,9 +28,9 @@ is_at byte = byte == 64
 unfoldable pub reference_in : List ℕ → Option PathReference
 reference_in text =
     if is_some (position is_at text) then
-      (name_in (before_first is_at text) >>= λ name.
-      hash_of (after_first is_at text) >>= λ hash.
-      Some (record { name = name; hash = Some hash }))
+    (name_in (before_first is_at text) >>= λ name.
+    hash_of (after_first is_at text) >>= λ hash.
+    Some (record { name = name; hash = Some hash }))
     else (name_in text >>= λ name. Some (record { name = name; hash = None }))
 
 -- the reference that a parameter stands for

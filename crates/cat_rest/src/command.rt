@@ -1,9 +1,10 @@
 //! What a request wants.
 
-ghost use Rattle.std.specs.Prelude.{◌≡◌, None, [], option_map};
+ghost use Rattle.std.specs.Prelude.{◌≡◌, None, IfOk, [], option_map};
 ghost use Rattle.cat_routes.specs.Table.{shown};
 ghost use Rattle.cat_routes.specs.declared.routes.Route.TheVariants as routes;
 ghost use Rattle.cat_rest.specs.Faults.{Answers, BecomesBadBody};
+ghost use Rattle.cat_rest.specs.Served.{IsServed};
 ghost use Rattle.cat_rest.specs.Wanted.{methods_of, allows, path_of, read_at, with_route, wanted};
 
 use crate::commit::{CommitBody, CommitForm};
@@ -34,10 +35,12 @@ fn allows(methods: Allowed, method: &[u8]) -> bool
     ensures { result ≡ allows methods method.now }
 {
     match methods {
-        Allowed::Get => method == b"GET",
-        Allowed::Post => method == b"POST",
-        Allowed::GetPost => method == b"GET" || method == b"POST",
-        Allowed::GetPutDelete => method == b"GET" || method == b"PUT" || method == b"DELETE",
+        Allowed::Get => method == b"GET".as_slice(),
+        Allowed::Post => method == b"POST".as_slice(),
+        Allowed::GetPost => method == b"GET".as_slice() || method == b"POST".as_slice(),
+        Allowed::GetPutDelete => method == b"GET".as_slice()
+            || method == b"PUT".as_slice()
+            || method == b"DELETE".as_slice(),
     }
 }
 
@@ -76,11 +79,7 @@ fn tree_at(alloc: Global, reference: Option<&str>) -> Result<Wanted, Refused>
     })))
 }
 
-fn content_at(
-    alloc: Global,
-    reference: Option<&str>,
-    key: Option<&str>,
-) -> Result<Wanted, Refused>
+fn content_at(alloc: Global, reference: Option<&str>, key: Option<&str>) -> Result<Wanted, Refused>
     ensures { Answers result (read_at (routes.Content, (option_map (λ s. s.now) reference.entry, option_map (λ s. s.now) key.entry)) []) }
 {
     let at = reference_at(alloc, reference)?;
@@ -97,11 +96,13 @@ fn commit_at(alloc: Global, reference: Option<&str>, body: &[u8]) -> Result<Want
 {
     let at = reference_at(alloc, reference)?;
     match from_bytes::<CommitForm>(alloc, body) {
-        Ok(CommitBody {
-            meta,
-            ops,
-            contents,
-        }) => Ok(Wanted::Change(Command::Commit(CommitRequest {
+        Ok(
+            CommitBody {
+                meta,
+                ops,
+                contents,
+            },
+        ) => Ok(Wanted::Change(Command::Commit(CommitRequest {
             branch: at.name,
             expected: at.hash,
             meta,
@@ -136,15 +137,8 @@ fn with_route(alloc: Global, found: Found<'_>, request: &Request<'_>) -> Result<
     read_at(alloc, found, request.body())
 }
 
-/// What a request wants, or the first that stands in its way: that no route has its path, that its
-/// route hasn't its method, that its body is encoded, that its path has no reading, that its body
-/// has none. No state is looked at, so a refusal has no place.
 #[tactic(auto, unfolding(crate::specs::Wanted::wanted))]
-pub fn to_command(
-    alloc: Global,
-    routes: &Routes,
-    request: &Request<'_>,
-) -> Result<Wanted, Refused>
+fn wanted(alloc: Global, routes: &Routes, request: &Request<'_>) -> Result<Wanted, Refused>
     ensures { Answers result (wanted request.now) }
 {
     let Ok(path) = Path::new(alloc, path_of(request.target())) else {
@@ -154,4 +148,15 @@ pub fn to_command(
         Some(found) => with_route(alloc, found, request),
         None => Err(refused(Refusal::NoRoute)),
     }
+}
+
+/// What a request wants, or the first that stands in its way: that no route has its path, that its
+/// route hasn't its method, that its body is encoded, that its path has no reading, that its body
+/// has none. No state is looked at, so a refusal has no place.
+#[tactic(auto, using(crate::proofs::Served::answered))]
+pub fn to_command(alloc: Global, routes: &Routes, request: &Request<'_>) -> Result<Wanted, Refused>
+    ensures wanted { Answers result (wanted request.now) }
+    ensures served { IfOk result IsServed }
+{
+    wanted(alloc, routes, request)
 }

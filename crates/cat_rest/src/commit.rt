@@ -5,7 +5,7 @@ ghost use Rattle.std.specs.Cmp.Lexicographic.{pointwise};
 ghost use Rattle.serde_json.specs.View.{view, items_view};
 ghost use Rattle.cat_json.specs.Reading.{Gives};
 ghost use Rattle.cat_model.specs.Contents.{body_kind};
-ghost use Rattle.cat_rest.specs.Bodies.{is_put, may_stand_at, is_new_at, new_entry, put_as, only, operations_as, commit_as};
+ghost use Rattle.cat_rest.specs.Bodies.{is_put, has_one_element, may_stand_at, is_new_at, new_entry, put_as, only, operations_as, commit_as};
 
 use cat_codes::seq::Seq;
 use cat_codes::text::Text;
@@ -79,11 +79,23 @@ fn may_stand_at(key: &ContentKey, body: &Body) -> bool
     }
 }
 
+fn has_one_element(key: &ContentKey) -> bool
+    ensures { result ≡ has_one_element key.now }
+{
+    match key.elements() {
+        [] => false,
+        [_, others @ ..] => match others {
+            [] => true,
+            [_, ..] => false,
+        },
+    }
+}
+
 #[tactic(auto, unfolding(crate::specs::Bodies::is_new_at))]
 fn is_new_at(key: &ContentKey, given: &Given) -> bool
     ensures { result ≡ is_new_at key.now given.now }
 {
-    given.id.is_none() && key.elements().len() == 1 && may_stand_at(key, &given.body)
+    given.id.is_none() && has_one_element(key) && may_stand_at(key, &given.body)
 }
 
 impl ReadForm for PutForm {

@@ -85,31 +85,37 @@ impl WriteForm for AddedForm {
 fn config(alloc: Global) -> Result<Value, NoMemory>
     ensures { IfOk result (λ v. view v ≡ config_data) }
 {
-    Ok(Object::new(alloc)
-        .with::<u32>("actualApiVersion", &2)?
-        .with_str("defaultBranch", "main")?
-        .with::<u32>("maxSupportedApiVersion", &2)?
-        .with::<u32>("minSupportedApiVersion", &2)?
-        .with::<Hash>("noAncestorHash", &Hash::none())?
-        .into_value())
+    Ok(
+        Object::new(alloc)
+            .with::<u32>("actualApiVersion", &2)?
+            .with_str("defaultBranch", "main")?
+            .with::<u32>("maxSupportedApiVersion", &2)?
+            .with::<u32>("minSupportedApiVersion", &2)?
+            .with::<Hash>("noAncestorHash", &Hash::none())?
+            .into_value(),
+    )
 }
 
 fn content(alloc: Global, reply: &ContentReply) -> Result<Value, NoMemory>
     ensures { IfOk result (λ v. view v ≡ content_reply_data reply.now) }
 {
-    Ok(Object::new(alloc)
-        .with::<ContentForm>("content", &reply.content)?
-        .with::<EffectiveForm>("effectiveReference", &reply.effective)?
-        .into_value())
+    Ok(
+        Object::new(alloc)
+            .with::<ContentForm>("content", &reply.content)?
+            .with::<EffectiveForm>("effectiveReference", &reply.effective)?
+            .into_value(),
+    )
 }
 
 fn committed(alloc: Global, reply: &Committed) -> Result<Value, NoMemory>
     ensures { IfOk result (λ v. view v ≡ committed_data reply.now) }
 {
-    Ok(Object::new(alloc)
-        .with::<Seq<AddedForm>>("addedContents", &reply.added)?
-        .with::<ReferenceForm>("targetBranch", &reply.target)?
-        .into_value())
+    Ok(
+        Object::new(alloc)
+            .with::<Seq<AddedForm>>("addedContents", &reply.added)?
+            .with::<ReferenceForm>("targetBranch", &reply.target)?
+            .into_value(),
+    )
 }
 
 impl WriteForm for ReplyForm {
@@ -122,9 +128,11 @@ impl WriteForm for ReplyForm {
     fn to_json(alloc: Global, reply: &Reply) -> Result<Value, NoMemory> {
         match reply {
             Reply::Config => config(alloc),
-            Reply::Effective(effective) => Ok(Object::new(alloc)
-                .with::<EffectiveForm>("reference", effective)?
-                .into_value()),
+            Reply::Effective(effective) => Ok(
+                Object::new(alloc)
+                    .with::<EffectiveForm>("reference", effective)?
+                    .into_value(),
+            ),
             Reply::Content(reply) => content(alloc, reply),
             Reply::Committed(reply) => committed(alloc, reply),
         }
