@@ -1,0 +1,5 @@
+pub mod Found
+pub mod Changes
+pub mod Within
+pub mod Listings
+pub mod Sorting
