@@ -3,3 +3,5 @@ pub mod Changes
 pub mod Within
 pub mod Listings
 pub mod Sorting
+pub mod KeyLists
+pub mod Walks

@@ -6,3 +6,4 @@ pub mod Parents
 pub mod Ordered
 pub mod Parts
 pub mod MapsAt
+pub mod Walking

@@ -2,6 +2,7 @@
 
 ghost use Rattle.std.specs.Prelude.{IfOk, IsTrue, ◌≡◌, [], length};
 ghost use Rattle.std.specs.Option.{option_map};
+ghost use Rattle.cat_model.specs.Changed.{changed_keys};
 ghost use Rattle.cat_model.specs.Distinct.{are_distinct};
 ghost use Rattle.cat_model.specs.Judge.{changes_of};
 ghost use Rattle.cat_model.specs.Maps.{IsMap, entry_of, after_changes};
@@ -14,9 +15,10 @@ use crate::below::entry_at;
 use crate::changing::changed_pairs;
 use crate::children::parent_of;
 use crate::listing::ListingPart;
-use crate::{children, listing, order};
+use crate::{children, differing, listing, order};
 use cat_codes::ascending::Ascending;
 use cat_codes::fault::NoMemory;
+use cat_codes::seq::Seq;
 use cat_model::entry::{ContentKind, Entry};
 use cat_model::filter::Filter;
 use cat_model::op::Op;
@@ -143,6 +145,15 @@ impl KeyMap {
     {
         self.known();
         listing::part(alloc, self.pairs(), filter, after, limit)
+    }
+
+    /// The keys whose entries differ in another map, ascending.
+    pub fn changed(&self, alloc: Global, other: &KeyMap) -> Result<Seq<ContentKey>, NoMemory>
+        ensures { IfOk result (λ keys. keys ≡ changed_keys self.now other.now) }
+    {
+        self.known();
+        other.known();
+        differing::changed(alloc, self.pairs(), other.pairs())
     }
 
     /// Whether a key of the map is a child of this one.

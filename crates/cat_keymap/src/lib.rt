@@ -7,6 +7,7 @@
 mod below;
 mod changing;
 mod children;
+mod differing;
 pub mod key_map;
 pub mod listing;
 pub mod maps;
