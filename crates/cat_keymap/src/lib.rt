@@ -12,3 +12,5 @@ pub mod key_map;
 pub mod listing;
 pub mod maps;
 pub mod order;
+#[cfg(test)]
+mod tests;

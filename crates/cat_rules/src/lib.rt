@@ -7,3 +7,5 @@
 mod deletions;
 pub mod judging;
 pub mod namespaces;
+#[cfg(test)]
+mod tests;
