@@ -4,7 +4,7 @@ use crate::commit::Meta;
 use crate::content::Content;
 use crate::op::Op;
 use cat_codes::seq::Seq;
-use cat_codes::text::Text as RefName;
+use cat_names::ref_name::RefName;
 use cat_names::hash::Hash;
 
 /// Commits operations on a branch.

@@ -1,6 +1,6 @@
 //! Named references, and how a request points at a commit.
 
-use cat_codes::text::Text as RefName;
+use cat_names::ref_name::RefName;
 use cat_names::hash::Hash;
 
 /// What may be done with a reference: commits are made on branches alone.
