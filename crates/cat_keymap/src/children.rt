@@ -1,6 +1,6 @@
 //! Keys within one another.
 
-ghost use Rattle.std.specs.Prelude.{◌≡◌, [], ◌-◌, length, take};
+ghost use Rattle.std.specs.Prelude.{◌≡◌};
 ghost use Rattle.cat_model.specs.Keys;
 ghost use Rattle.cat_model.specs.Maps.{IsMap};
 ghost use Rattle.cat_model.specs.Namespaces;
@@ -33,12 +33,4 @@ pub(crate) fn has_child(pairs: &[(ContentKey, Entry)], key: &[Element]) -> bool
         [] => false,
         [first, ..] => is_child(first.0.elements(), key),
     }
-}
-
-/// All elements but the last.
-#[tactic(auto, using(crate::proofs::Within::parent_is))]
-pub(crate) fn parent_of(key: &[Element]) -> &[Element]
-    ensures { result.now ≡ Keys.parent key.now }
-{
-    &key[..key.len().saturating_sub(1)]
 }

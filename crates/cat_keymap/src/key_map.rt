@@ -13,7 +13,6 @@ ghost use Rattle.cat_keymap.specs.Parts;
 
 use crate::below::entry_at;
 use crate::changing::changed_pairs;
-use crate::children::parent_of;
 use crate::listing::ListingPart;
 use crate::{children, differing, listing, order};
 use cat_codes::ascending::Ascending;
@@ -165,15 +164,15 @@ impl KeyMap {
     }
 
     /// What the map has at the parent of a key.
+    #[tactic(auto, using(crate::proofs::Within::parent_is))]
     pub fn parent_state(&self, key: &ContentKey) -> ParentState
         ensures { result ≡ Parents.parent_state self.now key.now }
     {
         self.known();
-        let elements = key.elements();
-        if elements.len() < 2 {
+        if key.elements().len() < 2 {
             return ParentState::Root;
         }
-        match entry_at(self.pairs(), parent_of(elements)) {
+        match entry_at(self.pairs(), key.parent()) {
             None => ParentState::Absent,
             Some(entry) => state_of(entry.kind),
         }
