@@ -21,3 +21,7 @@ pub mod Calls
 pub mod Book
 pub mod Script
 pub mod SinglePut
+pub mod Distinct
+pub mod Listing
+pub mod KeySets
+pub mod Changed

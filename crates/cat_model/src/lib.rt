@@ -10,6 +10,7 @@ pub mod commit;
 pub mod conflict;
 pub mod content;
 pub mod entry;
+pub mod filter;
 pub mod limits;
 pub mod log_entry;
 pub mod moment;
