@@ -20,3 +20,7 @@ pub mod Calls
 pub mod Book
 pub mod Script
 pub mod SinglePut
+pub mod Drafts
+pub mod Mark
+pub mod Turns
+pub mod TurnLaws

@@ -12,6 +12,7 @@ pub mod content;
 pub mod entry;
 pub mod limits;
 pub mod log_entry;
+pub mod logged;
 pub mod moment;
 pub mod op;
 pub mod reference;

@@ -1,0 +1,5 @@
+pub mod Log
+pub mod Marks
+pub mod Sight
+pub mod Rule
+pub mod Pass

@@ -1,0 +1,15 @@
+//! A value that callers take in turns. Each caller has a pass, which keeps what it has seen of the
+//! value's log: always a beginning of the one log, with all of the caller's own entries, and legal
+//! from where the desk began.
+#![tactic(auto)]
+
+mod desk;
+mod gate;
+mod pass;
+mod plays;
+mod view;
+
+pub use desk::Desk;
+pub use gate::{Gate, NoGate};
+pub use pass::{Held, Pass};
+pub use view::View;
