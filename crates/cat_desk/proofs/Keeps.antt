@@ -21,100 +21,7 @@ use Rattle.cat_desk.specs.Rule.{Place, home, unborn, out, IsLive, IsBusy, IsServ
 use Rattle.cat_desk.proofs.Logs.{missed_none, missed_follows, missed_more, adds_longer, since_none, since_later, since_more, since_next}
 use Rattle.cat_desk.proofs.Marks.{linked_self, linked_more, given_self, given_more, given_later, are_given_later, are_given_more}
 use Rattle.cat_desk.proofs.Totals.{total_set, total_le, two_of}
-
-pub alone_served : (st : Stage) → IsAlone st → IsServed st
-alone_served Idle x = x
-alone_served Making x = tt
-alone_served Waiting x = x
-alone_served Called x = absurd x
-alone_served Holding x = tt
-alone_served Leaving x = absurd x
-alone_served Spent x = x
-
-pub making_served : (st : Stage) → IsMaking st → IsServed st
-making_served Idle x = x
-making_served Making x = tt
-making_served Waiting x = x
-making_served Called x = absurd x
-making_served Holding x = tt
-making_served Leaving x = absurd x
-making_served Spent x = x
-
-pub served_busy : (st : Stage) → IsServed st → IsBusy st
-served_busy Idle x = x
-served_busy Making x = tt
-served_busy Waiting x = absurd x
-served_busy Called x = tt
-served_busy Holding x = tt
-served_busy Leaving x = tt
-served_busy Spent x = x
-
-pub busy_live : (st : Stage) → IsBusy st → IsLive st
-busy_live Idle x = absurd x
-busy_live Making x = tt
-busy_live Waiting x = tt
-busy_live Called x = tt
-busy_live Holding x = tt
-busy_live Leaving x = tt
-busy_live Spent x = x
-
-one_ticket : (st : Stage) → tickets_of st ≤ 1
-one_ticket Idle = omega arith
-one_ticket Making = omega arith
-one_ticket Waiting = omega arith
-one_ticket Called = omega arith
-one_ticket Holding = omega arith
-one_ticket Leaving = omega arith
-one_ticket Spent = omega arith
-
-pub is_live : (st : Stage) → Dec (IsLive st)
-is_live Idle = yes tt
-is_live Making = yes tt
-is_live Waiting = yes tt
-is_live Called = yes tt
-is_live Holding = yes tt
-is_live Leaving = yes tt
-is_live Spent = no (λ x. x)
-
-served_ticket : (st : Stage) → IsServed st → tickets_of st ≡ 1
-served_ticket Idle x = absurd x
-served_ticket Making x = refl
-served_ticket Waiting x = refl
-served_ticket Called x = refl
-served_ticket Holding x = refl
-served_ticket Leaving x = refl
-served_ticket Spent x = absurd x
-
-pub set_there : {A : Type 0} (l : List A) (i : ℕ) (a b : A) → get_elem? l i ≡ some b → get_elem? (set l i a) i ≡ some a
-set_there [] i a b e = absurd (some-ne-none b (sym e))
-set_there (x ∷ xs) zero a b e = refl
-set_there (x ∷ xs) (suc i) a b e = set_there xs i a b e
-
-or_else : {A : Type 0} → A → Option A → A
-or_else d None = d
-or_else d (Some x) = x
-
-pub same_some : {A : Type 0} (a b : A) → Some a ≡ Some b → a ≡ b
-unfolding or_else
-same_some a b e = ap (or_else a) e
-
-three_words : (ws : List ℕ) → length ws ≡ 3 → ws ≡ get_or ws 0 0 ∷ get_or ws 1 0 ∷ get_or ws 2 0 ∷ []
-three_words [] e = absurd (omega arith)
-three_words (a ∷ []) e = absurd (omega arith)
-three_words (a ∷ b ∷ []) e = absurd (omega arith)
-three_words (a ∷ b ∷ c ∷ []) e = refl
-three_words (a ∷ b ∷ c ∷ d ∷ ws) e = absurd (omega arith)
-
-pub seats_stay : (K : ℕ → View → Type 0) (vs : List View) (me : ℕ) (w : View) → K me w → ((j : ℕ) (d : View) → j ≢ me → get_elem? vs j ≡ some d → K j d)
-    → (j : ℕ) (d : View) → get_elem? (set vs me w) j ≡ some d → K j d
-seats_stay K vs me w mine others j d e = ⊎_elim (λ (t : (j ≡ me) × (w ≡ d)). subst (λ (x : ℕ × View). K x.0 x.1) (λ i. (sym t.0 i, t.1 i)) mine)
-    (λ (t : (j ≢ me) × (get_elem? vs j ≡ some d)). others j d t.0 t.1) (at_set vs me j w d e)
-
-pub same_view : (vs : List View) (o me : ℕ) (v d : View) → get_elem? vs me ≡ some v → get_elem? vs o ≡ some d → o ≡ me → v ≡ d
-same_view vs o me v d here there e = some-injective v d (sym here ∙ (ap (λ (k : ℕ). get_elem? vs k) (sym e) ∙ there))
-
-pub turned_stay : (vs : List View) (o me : ℕ) (v w : View) (stage : Stage) → get_elem? vs me ≡ some v → v.stage ≢ stage → Turned vs o stage → Turned (set vs me w) o stage
-turned_stay vs o me v w stage here ne t = let other : o ≢ me = λ e. ne (ap (λ (x : View). x.stage) (same_view vs o me v t.0 here t.1 e) ∙ t.2) in (t.0, set_else vs me o w other ∙ t.1, t.2)
+use Rattle.cat_desk.proofs.Seats.{alone_served, making_served, served_busy, busy_live, one_ticket, is_live, served_ticket, set_there, same_some, three_words, seats_stay, same_view, turned_stay}
 
 module _ {V : Type 0} (log : V → List LogEntry) (opened : V → Opened) (legal : Opened → List LogEntry → Type 0) (mark : V → Mark) (left_open : V → Open) (key : V) where
   abbrev pub St : Type 0
@@ -384,6 +291,7 @@ module _ {V : Type 0} (log : V → List LogEntry) (opened : V → Opened) (legal
             subst (λ l. v.known ≤ length l) (sym h.2) f.saw.most,
             begins_at v.origin x f.saw.based h.3 (subst (legal (opened key)) (sym h.2) r.is_legal),
             f.marked.turn,
+            (λ same. h.4 ∙ (ap r.marks same ∙ sym f.marked.mark)),
             subst (Linked v.number v.mark) (sym h.4) f.marked.linked,
             subst (λ (o : Open). StaysOpen v.own (open_of v.number o)) (sym h.5) f.marked.own,
             λ all_of. let whole = saw_all s r id v here (subst IsLive (sym is) tt) all_of in (h.2 ∙ sym whole.0, h.4 ∙ sym whole.1),
@@ -393,7 +301,7 @@ module _ {V : Type 0} (log : V → List LogEntry) (opened : V → Opened) (legal
 
   -- what was told of a value holds of the one that came out of the slot
   pub found_out : (m n : M) (w : View) (x y : V) → Found log opened legal mark left_open m n x → w ≡ n.0 → Some y ≡ Some x → Found log opened legal mark left_open m (w, (0, Some y) ∷ []) y
-  found_out m n w x y f same e = let is = same_some y x e in subst (λ (z : View × V). Found log opened legal mark left_open m (z.0, (0, Some z.1) ∷ []) z.1) (λ i. (sym same i, sym is i)) (refl, f.1, f.2, f.3, f.4, f.5, f.6, f.7, f.8)
+  found_out m n w x y f same e = let is = same_some y x e in subst (λ (z : View × V). Found log opened legal mark left_open m (z.0, (0, Some z.1) ∷ []) z.1) (λ i. (sym same i, sym is i)) (refl, f.1, f.2, f.3, f.4, f.5, f.6, f.7, f.8, f.9)
 
   pub takes_none : (slots id : ℕ) (me : M) → me.0.stage ≡ Making → me.1 ≡ [] → Allows Rule slots id me 0 (λ n. n) (λ _. took log opened legal mark left_open me)
   takes_none slots id me is none_held s r len here below = let v : View = me.0 in let sv : IsServed v.stage = subst IsServed (sym is) tt in
@@ -512,45 +420,3 @@ module _ {V : Type 0} (log : V → List LogEntry) (opened : V → Opened) (legal
             (h.1, h.2, h.3, h.4, h.5)),
         (refl, refl),
       )
-
-  pub opens : (c : ℕ) → legal (opened key) (log key) → left_open key ≡ nothing_open → c ≡ length (log key) → c < 4294967296 → Rule (opening (c ∷ 1 ∷ 0 ∷ []) (None ∷ []) (newcomer log opened mark left_open key))
-  opens c ok none_open is small = record {
-    all = log key;
-    tickets = 1;
-    next = 2;
-    keeper = 0;
-    owner = λ _. 0;
-    named = λ _. 0;
-    last = 0;
-    marks = λ _. mark key;
-    opens = left_open key;
-    place = unborn;
-    three = refl;
-    count = is;
-    small = omega arith;
-    drawn = refl;
-    queued = refl;
-    weighs = refl;
-    is_legal = ok;
-    since = since_none 2 (log key);
-    each = first;
-    spent = first_spent;
-    grows = λ i j _ _. grows_self (mark key);
-    first_mark = refl;
-    mark_given = given_self 2 (mark key);
-    opens_given = subst (AreGiven 2) (sym none_open) (λ m le. refl);
-    longest = (0, newcomer log opened mark left_open key, refl, tt, refl, refl);
-    stands = (refl, (newcomer log opened mark left_open key, refl, refl));
-  } where
-    first : (j : ℕ) (d : View) → get_elem? (newcomer log opened mark left_open key ∷ []) j ≡ some d → IsLive d.stage → Fits (opened key, log key) (log key) 1 0 2 0 (λ _. 0) (λ _. 0) (Unit {0}) 0 (λ _. mark key) (left_open key) j d
-    first zero d e _ = subst (λ (x : View). Fits (opened key, log key) (log key) 1 0 2 0 (λ _. 0) (λ _. 0) (Unit {0}) 0 (λ _. mark key) (left_open key) 0 x) (some-injective (newcomer log opened mark left_open key) d e) record {
-      saw = record { based = refl; since = since_none 2 (log key); missed = missed_none 1 2 (log key); least = le_refl (length (log key)); most = le_refl (length (log key)) };
-      numbered = record { own_number = refl; given = omega arith; stands_for = omega arith; may_give = λ _. (refl, refl) };
-      in_line = record { has_ticket = λ _. (omega arith, omega arith, refl); served = λ _. refl; alone = λ _. refl; making = λ _. tt };
-      marked = record { turn = le_refl 0; mark = refl; linked = linked_self 1 (mark key); own = stays_self (open_of 1 (left_open key)); whole = λ _. (refl, refl) };
-    }
-    first (suc j) d e _ = absurd (some-ne-none d (sym e))
-
-    first_spent : (j : ℕ) (d : View) → get_elem? (newcomer log opened mark left_open key ∷ []) j ≡ some d → ¬ IsLive d.stage → tickets_of d.stage ≡ 0
-    first_spent zero d e gone = absurd (gone (subst (λ (x : View). IsLive x.stage) (some-injective (newcomer log opened mark left_open key) d e) tt))
-    first_spent (suc j) d e gone = absurd (some-ne-none d (sym e))

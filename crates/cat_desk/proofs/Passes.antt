@@ -23,7 +23,8 @@ use Rattle.cat_desk.specs.Log.{Missed, Since, longer}
 use Rattle.cat_desk.specs.Rule.{Place, home, unborn, out, IsLive, IsAlone, IsUnborn, tickets_of, total, queue, weight, Numbered, Fits, Turned, SomeoneSaw, Stands, finding, splitting, split_off, joined, nobody}
 use Rattle.cat_desk.proofs.Logs.{missed_later, missed_next, missed_longer, since_later, since_longer, longer_first, longer_second, longer_bound, whole}
 use Rattle.cat_desk.proofs.Totals.{total_set, total_snoc}
-use Rattle.cat_desk.proofs.Keeps.{alone_served, served_busy, busy_live, set_there, seats_stay, same_view, stands_stay, Rule, St, word_at, only_one, saw_all}
+use Rattle.cat_desk.proofs.Seats.{alone_served, served_busy, busy_live, set_there, seats_stay, same_view}
+use Rattle.cat_desk.proofs.Keeps.{stands_stay, Rule, St, word_at, only_one, saw_all}
 
 at_snoc_at : (l : List View) (a b : View) (j : ℕ) → get_elem? (l ++ a ∷ []) j ≡ some b → (get_elem? l j ≡ some b) ⊎ ((j ≡ length l) × (a ≡ b))
 at_snoc_at [] a b zero e = inr (refl, some-injective a b e)

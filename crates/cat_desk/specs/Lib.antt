@@ -3,3 +3,4 @@ pub mod Marks
 pub mod Sight
 pub mod Rule
 pub mod Pass
+pub mod Hold

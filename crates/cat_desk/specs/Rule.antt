@@ -224,7 +224,7 @@ module _ {V : Type 0} where
 
     -- what is told of the value that was taken
     abbrev pub Found : Me (Option V) View → Me (Option V) View → V → Type 0
-    Found m n v = (n.1 ≡ (0, Some v) ∷ []) × (n.0 ≡ finding m.0 (log v) (mark v) (left_open v) n.0.turn) × Follows m.0.number m.0.seen (log v) × (m.0.known ≤ length (log v)) × Begins m.0.origin v × (m.0.turn ≤ n.0.turn) × Linked m.0.number m.0.mark (mark v) × StaysOpen m.0.own (open_of m.0.number (left_open v))
+    Found m n v = (n.1 ≡ (0, Some v) ∷ []) × (n.0 ≡ finding m.0 (log v) (mark v) (left_open v) n.0.turn) × Follows m.0.number m.0.seen (log v) × (m.0.known ≤ length (log v)) × Begins m.0.origin v × (m.0.turn ≤ n.0.turn) × (n.0.turn ≡ m.0.turn → mark v ≡ m.0.mark) × Linked m.0.number m.0.mark (mark v) × StaysOpen m.0.own (open_of m.0.number (left_open v))
         × (m.0.held + m.0.spare ≡ 4294967295 → (log v ≡ m.0.seen) × (mark v ≡ m.0.mark))
 
     abbrev pub TookAt : Me (Option V) View → Me (Option V) View → Stage → Type 0

@@ -87,6 +87,7 @@ impl<V: Logged> Desk<V> {
         ensures still { Acts V.legal (number_of pass.old) (found self.now result) (snapshot V.opened V.log V.mark V.left_open result.value) }
         ensures legal { (V.opened result.value ≡ self.now.opened) × V.legal self.now.opened (V.log result.value) }
         ensures mark { Linked (number_of pass.old) (mark_of pass.old) (V.mark result.value) × (turn_of pass.old ≤ found_turn result) }
+        ensures same { found_turn result ≡ turn_of pass.old → V.mark result.value ≡ mark_of pass.old }
         ensures own { StaysOpen (left_by pass.old) (open_of (number_of pass.old) (V.left_open result.value)) }
         ensures alone { stands_for pass.old + spare_of pass.old ≡ 4294967295 → (V.log result.value ≡ seen pass.old) × (V.mark result.value ≡ mark_of pass.old) }
     {

@@ -5,11 +5,15 @@
 
 mod desk;
 mod gate;
+mod hold;
 mod pass;
 mod plays;
+#[cfg(test)]
+mod tests;
 mod view;
 
 pub use desk::Desk;
 pub use gate::{Gate, NoGate};
+pub use hold::Hold;
 pub use pass::{Held, Pass};
 pub use view::View;

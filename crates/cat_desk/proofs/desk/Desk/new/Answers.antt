@@ -1,5 +1,6 @@
 use Rattle.std.proofs.Common.{rules}
-use Rattle.cat_desk.proofs.Keeps.{opens, takes_none}
+use Rattle.cat_desk.proofs.Keeps.{takes_none}
+use Rattle.cat_desk.proofs.Opens.{opens}
 use Rattle.cat_desk.proofs.desk.Desk.new.Goals as goal
 
 pub vacant-made-requires : goal.vacant-made-requires
