@@ -10,6 +10,7 @@ pub mod Maps
 pub mod Chain
 pub mod Namespaces
 pub mod Judge
+pub mod JudgeLaws
 pub mod State
 pub mod Refusing
 pub mod Records

@@ -1,4 +1,4 @@
--- Judging a request of one new content at a key of one element: the rules of namespaces can't apply to it.
+-- A request of one new content at a key of one element: the rules of namespaces cannot apply to it.
 use Rattle.std.specs.Prelude.{◌≡◌, refl, ℕ, List, [], ◌∷◌, Option, Some, None, Result, Ok, Err, Bool, true, false}
 use Rattle.std.specs.Option.{option_or}
 use Rattle.std.proofs.lemmas.List.{append-nil}
