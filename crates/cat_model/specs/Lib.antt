@@ -25,3 +25,7 @@ pub mod Distinct
 pub mod Listing
 pub mod KeySets
 pub mod Changed
+pub mod Drafts
+pub mod Mark
+pub mod Turns
+pub mod TurnLaws

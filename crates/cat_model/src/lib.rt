@@ -13,6 +13,7 @@ pub mod entry;
 pub mod filter;
 pub mod limits;
 pub mod log_entry;
+pub mod logged;
 pub mod moment;
 pub mod op;
 pub mod reference;
