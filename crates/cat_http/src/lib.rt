@@ -21,6 +21,6 @@ mod tests;
 
 pub use buffer::{Buffer, Incoming, read_request};
 pub use law::one_stream_has_one_reading;
-pub use put::WriteFault;
+pub use put::{WriteFault, write_all};
 pub use reply::{Body, Response, write_reply};
 pub use request::Request;

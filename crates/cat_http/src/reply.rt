@@ -2,7 +2,7 @@ ghost use Rattle.std.specs.Prelude.{◌≡◌, None};
 ghost use Rattle.cat_http.specs.Writing.{Wrote};
 ghost use Rattle.cat_http.specs.Reply.{render, close_line, body_part, body_length_of, phrase_of};
 
-use crate::put::{WriteFault, put, put_after, put_number_line, put_text_line};
+use crate::put::{WriteFault, put_after, put_number_line, put_text_line, write_all};
 use cat_io::Sink;
 use http::StatusCode;
 
@@ -115,7 +115,7 @@ pub fn write_reply<K: Sink>(sink: &mut K, reply: &Response) -> Result<(), WriteF
     ensures { Wrote (K.held sink.old) (K.held sink.new) (K.faults sink.old) (K.faults sink.new) result (render reply.now) }
 {
     let mut digits = itoa::Buffer::new();
-    let version = put(sink, b"HTTP/1.1 ");
+    let version = write_all(sink, b"HTTP/1.1 ");
     let code = put_after(
         version,
         sink,

@@ -12,4 +12,4 @@ returns g c =
     (c.put_after.ensures start from _ (c.put_after-head.ensures start from _ (c.put_after-close.ensures start from _
     (c.put_number_line-length.ensures start from _ (c.put_number_line-place.ensures start from _ (c.put_text_line-allow.ensures start from _
     (c.put_after-kind.ensures start from _ (c.put_after-first.ensures start from _ (c.put_after-phrase.ensures start from _
-    (c.put_after-space.ensures start from _ (c.put_after-code.ensures start from _ c.put-version.ensures)))))))))))
+    (c.put_after-space.ensures start from _ (c.put_after-code.ensures start from _ c.write_all-version.ensures)))))))))))
