@@ -76,4 +76,4 @@ pub no_float_reply : (r : Reply) → has_float (reply_data r) ≡ false
 no_float_reply replies.Config = search floatless
 no_float_reply (replies.Effective effective) = search (floatless, no_float_effective)
 no_float_reply (replies.Content r) = search (floatless, no_float_content, no_float_effective)
-no_float_reply (replies.Committed r) = search (floatless, no_float_added, no_float_reference)
+no_float_reply (replies.Committed r) = search (floatless, no_float_added)
