@@ -1,5 +1,5 @@
 -- Replies as JSON, members in the order of their names' bytes.
-use Rattle.std.specs.Prelude.{◌≡◌, ℕ, List, Option, Some, None, codes, false, refl}
+use Rattle.std.specs.Prelude.{◌≡◌, codes, false}
 use Rattle.serde_json.specs.Data.{Data, string, object, no_members}
 use Rattle.serde_json.specs.Written.{has_float}
 use Rattle.cat_content.specs.Forms.{content_data, no_float_content}

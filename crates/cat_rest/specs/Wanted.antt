@@ -4,7 +4,6 @@ use Rattle.std.specs.List.{position}
 use Rattle.cat_http.specs.Fields.{is_encoded}
 use Rattle.cat_http.specs.Message.{Message}
 use Rattle.cat_json.specs.Reading.{body_as}
-use Rattle.cat_model.specs.declared.ask.Ask.{Ask}
 use Rattle.cat_model.specs.declared.ask.Ask.TheVariants as asks
 use Rattle.cat_model.specs.declared.command.Command.TheVariants as commands
 use Rattle.cat_model.specs.declared.command.CommitRequest.{CommitRequest}
