@@ -1,6 +1,6 @@
 -- Each change that a request wants is one new content at a key of one element.
 use Rattle.std.proofs.Common.{◌≡◌, ℕ, List, [], ◌∷◌, Bool, true, false, ◌&&◌, not, if◌then◌else◌, Option, Some, None, Result, Ok, Err, IfOk, IsTrue, refl, ap, subst, sym, ◌∙◌, codes, is_some}
-use Rattle.serde_json.specs.Data.{Data, Items}
+use Rattle.serde_json.specs.Data.{Data}
 use Rattle.serde_json.specs.Find.{get, as_array}
 use Rattle.cat_content.specs.Forms.{content_as}
 use Rattle.cat_content.specs.declared.read.Given.{Given}
@@ -15,7 +15,6 @@ use Rattle.cat_model.specs.SinglePut.{is_one_put}
 use Rattle.cat_model.specs.declared.content.Body.{Body}
 use Rattle.cat_model.specs.declared.content.Body.TheVariants as bodies
 use Rattle.cat_model.specs.declared.op.Op.TheVariants as ops
-use Rattle.cat_model.specs.declared.refusal.Reason.{Reason}
 use Rattle.cat_model.specs.declared.refusal.Reason.TheVariants.{BadPath, BadBody}
 use Rattle.cat_model.specs.declared.refusal.Refusal.{Refusal}
 use Rattle.cat_model.specs.declared.refusal.Refused.{Refused}
@@ -28,7 +27,7 @@ use Rattle.cat_rest.specs.Bodies.{is_put, has_one_element, may_stand_at, is_new_
 use Rattle.cat_rest.specs.Faults.{◌>>!◌, or_bad, Answers}
 use Rattle.cat_rest.specs.Paths.{reference_at, key_at}
 use Rattle.cat_rest.specs.Served.{IsServed, AreServed}
-use Rattle.cat_rest.specs.Wanted.{methods_of, allows, path_of, read_at, with_route, by_route, wanted}
+use Rattle.cat_rest.specs.Wanted.{methods_of, allows, path_of, read_at, by_route, wanted}
 use Rattle.cat_rest.specs.declared.commit.CommitBody.{CommitBody}
 use Rattle.cat_rest.specs.declared.commit.Put.{Put}
 

@@ -6,14 +6,12 @@ use Rattle.serde_json.specs.Find.{get, as_str, as_array}
 use Rattle.cat_json.specs.Names.{key_as}
 use Rattle.cat_json.specs.Reading.{◌>>=◌, required}
 use Rattle.cat_names.specs.Fields.{Key}
-use Rattle.cat_names.specs.declared.hash.Hash.{Hash}
 use Rattle.cat_names.specs.declared.hash.ContentId.{ContentId}
 use Rattle.cat_model.specs.Contents.{body_kind}
 use Rattle.cat_model.specs.declared.content.Body.{Body}
 use Rattle.cat_model.specs.declared.content.Body.TheVariants as bodies
 use Rattle.cat_model.specs.declared.content.Content.{Content}
 use Rattle.cat_model.specs.declared.entry.Entry.{Entry}
-use Rattle.cat_model.specs.declared.op.Op.{Op}
 use Rattle.cat_model.specs.declared.op.Op.TheVariants as ops
 use Rattle.cat_content.specs.Forms.{content_as}
 use Rattle.cat_content.specs.declared.read.Given.{Given}

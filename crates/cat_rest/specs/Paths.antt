@@ -1,5 +1,5 @@
 -- References and keys in paths.
-use Rattle.std.specs.Prelude.{ℕ, ◌==◌, List, Option, Some, None, is_some, Bool, bytes_eq, if◌then◌else◌, codes, Result, Ok, Err}
+use Rattle.std.specs.Prelude.{ℕ, ◌==◌, List, Option, Some, None, is_some, Bool, bytes_eq, if◌then◌else◌, codes}
 use Rattle.std.specs.List.{before_first, after_first, position}
 use Rattle.std.specs.Str.{is_utf8}
 use Rattle.percent_encoding.specs.Percent.{percent_decode}

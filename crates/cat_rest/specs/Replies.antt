@@ -1,5 +1,5 @@
 -- Replies as JSON, members in the order of their names' bytes.
-use Rattle.std.specs.Prelude.{◌≡◌, ℕ, List, Option, Some, None, codes, false, refl}
+use Rattle.std.specs.Prelude.{◌≡◌, codes, false}
 use Rattle.serde_json.specs.Data.{Data, string, object, no_members}
 use Rattle.serde_json.specs.Written.{has_float}
 use Rattle.cat_content.specs.Forms.{content_data, no_float_content}
@@ -76,4 +76,4 @@ pub no_float_reply : (r : Reply) → has_float (reply_data r) ≡ false
 no_float_reply replies.Config = search floatless
 no_float_reply (replies.Effective effective) = search (floatless, no_float_effective)
 no_float_reply (replies.Content r) = search (floatless, no_float_content, no_float_effective)
-no_float_reply (replies.Committed r) = search (floatless, no_float_added, no_float_reference)
+no_float_reply (replies.Committed r) = search (floatless, no_float_added)

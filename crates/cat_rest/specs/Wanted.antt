@@ -1,10 +1,9 @@
 -- What a request wants, by its bytes.
-use Rattle.std.specs.Prelude.{ℕ, ◌==◌, ◌||◌, List, Option, Some, None, Bool, bytes_eq, if◌then◌else◌, codes, Result, Ok, Err}
-use Rattle.std.specs.List.{before_first}
+use Rattle.std.specs.Prelude.{ℕ, ◌==◌, ◌||◌, List, take, Option, Some, None, Bool, bytes_eq, if◌then◌else◌, codes, Result, Ok, Err}
+use Rattle.std.specs.List.{position}
 use Rattle.cat_http.specs.Fields.{is_encoded}
 use Rattle.cat_http.specs.Message.{Message}
 use Rattle.cat_json.specs.Reading.{body_as}
-use Rattle.cat_model.specs.declared.ask.Ask.{Ask}
 use Rattle.cat_model.specs.declared.ask.Ask.TheVariants as asks
 use Rattle.cat_model.specs.declared.command.Command.TheVariants as commands
 use Rattle.cat_model.specs.declared.command.CommitRequest.{CommitRequest}
@@ -39,9 +38,17 @@ allows Post method = bytes_eq method (codes "POST")
 allows GetPost method = bytes_eq method (codes "GET") || bytes_eq method (codes "POST")
 allows GetPutDelete method = bytes_eq method (codes "GET") || bytes_eq method (codes "PUT") || bytes_eq method (codes "DELETE")
 
+-- where the first `?` stands
+abbrev pub query_start : List ℕ → Option ℕ
+query_start target = position (λ byte. byte == 63) target
+
+abbrev pub front : Option ℕ → List ℕ → List ℕ
+front None target = target
+front (Some end) target = take end target
+
 -- the path is what stands before the first `?`; what follows is the query, which no route reads
 abbrev pub path_of : List ℕ → List ℕ
-path_of target = before_first (λ byte. byte == 63) target
+path_of target = front (query_start target) target
 
 abbrev pub pointer : PathReference → Pointer
 pointer at = record { name = Some at.name; hash = at.hash }

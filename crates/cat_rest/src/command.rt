@@ -5,7 +5,7 @@ ghost use Rattle.cat_routes.specs.Table.{shown};
 ghost use Rattle.cat_routes.specs.declared.routes.Route.TheVariants as routes;
 ghost use Rattle.cat_rest.specs.Faults.{Answers, BecomesBadBody};
 ghost use Rattle.cat_rest.specs.Served.{IsServed};
-ghost use Rattle.cat_rest.specs.Wanted.{methods_of, allows, path_of, read_at, with_route, wanted};
+ghost use Rattle.cat_rest.specs.Wanted.{methods_of, allows, query_start, path_of, read_at, with_route, wanted};
 
 use crate::commit::{CommitBody, CommitForm};
 use crate::path::{key_at, reference_at};
@@ -44,11 +44,17 @@ fn allows(methods: Allowed, method: &[u8]) -> bool
     }
 }
 
+fn query_start(target: &[u8]) -> Option<usize>
+    ensures { result ≡ query_start target.now }
+{
+    target.iter().position(|byte| *byte == b'?')
+}
+
 // The path of a target: what stands before its query.
 fn path_of(target: &[u8]) -> &[u8]
     ensures { result.now ≡ path_of target.now }
 {
-    match target.iter().position(|byte| *byte == b'?') {
+    match query_start(target) {
         Some(end) => &target[..end],
         None => target,
     }
