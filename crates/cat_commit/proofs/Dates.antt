@@ -1,10 +1,10 @@
 -- The civil fields of a moment are those that the definition counts.
-use Rattle.std.proofs.Common.{◌≡◌, ℕ, zero, suc, ◌+◌, ◌*◌, ◌/◌, ◌%◌, ◌-◌, ◌<◌, ◌≤◌, List, Bool, true, false, cond, leb, nat_le, refl, inl, inr, sym, ap, subst, ◌∙◌, arith, ℤ, pos, negsuc, ◌+ℤ◌, ◌-ℤ◌, ◌*ℤ◌, ◌<ℤ◌, ◌≤ℤ◌}
+use Rattle.std.proofs.Common.{◌≡◌, ℕ, zero, suc, ◌+◌, ◌*◌, ◌/◌, ◌%◌, ◌-◌, ◌<◌, ◌≤◌, true, false, cond, nat_le, refl, inl, inr, sym, ap, subst, ◌∙◌, arith, ℤ, pos, negsuc, ◌*ℤ◌, ◌≤ℤ◌}
 use Rattle.std.specs.Prelude.{unsigned_abs}
 use Rattle.std.proofs.lemmas.Bool.{cases_order, leb-false, leb-true}
 use Rattle.std.proofs.lemmas.Int.{by_lt_z}
 use Rattle.jiff_core.proofs.SignedLemmas.{signed_arith}
-use Rattle.jiff_core.specs.Calendar.{day_count, days_of_months, day_of_year, days_from_civil, IsCivilDate, days_in_year}
+use Rattle.jiff_core.specs.Calendar.{day_count, days_of_months, day_of_year, IsCivilDate}
 use Rattle.jiff_core.specs.Date.{epoch_day}
 use Rattle.jiff_core.specs.Time.{time_nanos}
 use Rattle.jiff_core.proofs.CalendarLemmas.{day_count-epoch, day_count-day_of_year, day_count-later_year, day_count-lt_year, day_of_year_bound, day_of_year_before, days_from_civil-day_count}
@@ -12,7 +12,7 @@ use Rattle.jiff_core.proofs.DateLemmas.{civil}
 use Rattle.jiff.proofs.Family.{civil_nanos-parts, time_nanos_bound}
 use Rattle.jiff.specs.Words.{civil_nanos}
 use Rattle.jiff.specs.Types.{DateTime, Date, Time}
-use Rattle.cat_commit.specs.Instants.{last_at, year_start, years_of, year_of, rest_of, months_of, day_in_month, day_of, fields_text, civil_text, instant_text}
+use Rattle.cat_commit.specs.Instants.{last_at, year_start, years_of, year_of, months_of, day_in_month, civil_text, instant_text}
 
 above : (f : ℕ → ℕ) (k n i : ℕ) → i ≤ suc n → f (suc n) ≤ k → ((j : ℕ) → i < j → k < f j) → suc n ≡ i
 above f k n i le at after =

@@ -1,5 +1,5 @@
 -- Instants as texts, and moments: microseconds since 1970.
-use Rattle.std.specs.Prelude.{negsuc, Option, Some, None, Result, Ok, Err, ℕ, zero, suc, ◌+◌, ◌*◌, ◌/◌, ◌%◌, ◌-◌, ℤ, pos, unsigned_abs, List, [], ◌∷◌, Bool, nat_le, if◌then◌else◌}
+use Rattle.std.specs.Prelude.{negsuc, Option, Some, None, Result, Ok, Err, ℕ, zero, suc, ◌+◌, ◌/◌, ◌%◌, ◌-◌, ℤ, pos, unsigned_abs, List, [], ◌∷◌, nat_le, if◌then◌else◌}
 use Rattle.jiff_core.specs.Calendar.{day_count, days_of_months}
 use Rattle.jiff.specs.Types.{DateTime}
 use Rattle.jiff.specs.Words.{parse_timestamp, Error}

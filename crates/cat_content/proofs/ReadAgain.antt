@@ -10,7 +10,6 @@ use Rattle.cat_names.specs.declared.hash.ContentId.{ContentId}
 use Rattle.cat_names.specs.Fields.{id_code}
 use Rattle.cat_model.specs.declared.content.Body.{Body}
 use Rattle.cat_model.specs.declared.content.Body.TheVariants as bodies
-use Rattle.cat_model.specs.declared.content.Content.{Content}
 use Rattle.cat_model.specs.Contents.{content_code, of_table, of_view, of_delta, of_namespace, table_code, view_code, delta_code, namespace_code}
 use Rattle.cat_content.specs.Forms.{content_as, content_data, table_as, view_as, delta_as, namespace_as, IsOfBytes}
 

@@ -1,5 +1,5 @@
 -- Contents as JSON.
-use Rattle.std.specs.Prelude.{◌≡◌, ℕ, ℤ, pos, ◌<◌, List, [], Option, option_map, Some, None, false, codes, bytes_eq, if◌then◌else◌, All}
+use Rattle.std.specs.Prelude.{◌≡◌, ℕ, pos, ◌<◌, List, [], Option, option_map, Some, None, false, codes, bytes_eq, if◌then◌else◌, All}
 use Rattle.serde_json.specs.Data.{Data, string, object, no_members}
 use Rattle.serde_json.specs.Find.{as_str}
 use Rattle.serde_json.specs.Written.{has_float}

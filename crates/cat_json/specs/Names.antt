@@ -1,5 +1,5 @@
 -- Hashes, ids and keys as JSON.
-use Rattle.std.specs.Prelude.{◌≡◌, ℕ, List, Option, Some, None, Result, Ok, Err, codes, false, refl}
+use Rattle.std.specs.Prelude.{◌≡◌, Option, Some, None, Result, Ok, Err, codes, false, refl}
 use Rattle.serde_json.specs.Data.{Data, string, object, no_members}
 use Rattle.serde_json.specs.Find.{as_str}
 use Rattle.serde_json.specs.Written.{has_float}
