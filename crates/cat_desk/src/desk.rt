@@ -19,13 +19,17 @@ use std::marker::Model;
 use std::mem;
 use std::sync::Wait;
 
+/// The word with the length of the value's log.
 const COUNT: usize = 0;
 
+/// The word with the next ticket.
 const TICKET: usize = 1;
 
+/// The word with the ticket that is served.
 const SERVING: usize = 2;
 
-/// It holds a value, which callers take in turns.
+/// It holds a value, which callers take in turns, in the order of their tickets. It must be spent:
+/// closed or given up.
 pub struct Desk<V: Logged> {
     table: Table<Option<V>, View, V, Turns, Global>,
 }
@@ -203,7 +207,7 @@ impl<V: Logged> Desk<V> {
         }
     }
 
-    /// Ends the desk, with all that is in it.
+    /// Ends the desk, with all that is in it, whatever other passes there are.
     pub fn give_up(self, pass: Pass)
     where
         V: Drop,
@@ -217,6 +221,7 @@ impl<V: Logged> Desk<V> {
         } = pass;
     }
 
+    /// Waits until the ticket is served.
     fn wait<R: Wait>(&self, rt: &R, seat: &mut Seat<Option<V>, View>, ticket: u64)
         requires { (seat.old.table_id ≡ self.now.table) × (seat.old.me.0.stage ≡ Waiting) × (ticket ≡ seat.old.me.0.ticket % 18446744073709551616) }
         ensures { (seat.new.table_id ≡ seat.old.table_id) × (seat.new.me.0 ≡ at_stage seat.old.me.0 Called) × (seat.old.me.0.ticket ≡ ticket) × (seat.new.me.1 ≡ seat.old.me.1) }
@@ -232,6 +237,7 @@ impl<V: Logged> Desk<V> {
         unreachable!()
     }
 
+    /// Takes the value out of its slot.
     fn take(&self, mut seat: Seat<Option<V>, View>, ticket: u64) -> Held<V>
         requires { (seat.table_id ≡ self.now.table) × (seat.me.0.stage ≡ Called) × (seat.me.1 ≡ []) }
         ensures kept { (result.ticket ≡ ticket) × (result.seat.table_id ≡ seat.table_id) × (result.seat.me.0 ≡ finding seat.me.0 (V.log result.value) (V.mark result.value) (V.left_open result.value) result.seat.me.0.turn) × (result.seat.me.1 ≡ (0, None) ∷ []) }

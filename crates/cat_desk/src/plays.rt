@@ -3,6 +3,8 @@ use crate::view::View;
 use atomic_table::{Join, Play, Split, TableRule};
 use cat_model::logged::Logged;
 
+/// The rule of the desk's table: word 0 is the count, 1 the next ticket, 2 the ticket that is served,
+/// and the one slot is where the value is at home.
 pub struct Turns;
 
 impl<V: Logged> TableRule<Option<V>, View, V> for Turns {
@@ -13,6 +15,7 @@ impl<V: Logged> TableRule<Option<V>, View, V> for Turns {
     ghost first = { newcomer V.log V.opened V.mark V.left_open };
 }
 
+/// A ticket is drawn.
 pub(crate) struct Draw;
 
 impl<V: Logged> Play<Option<V>, View> for Draw {
@@ -21,6 +24,7 @@ impl<V: Logged> Play<Option<V>, View> for Draw {
     ghost then = { λ st m r n. drew m r n };
 }
 
+/// The serving word is looked at.
 pub(crate) struct Call;
 
 impl<V: Logged> Play<Option<V>, View> for Call {
@@ -29,6 +33,7 @@ impl<V: Logged> Play<Option<V>, View> for Call {
     ghost then = { λ st m r n. called m r n };
 }
 
+/// The count is read in the turn, and the slot taken.
 pub(crate) struct Take;
 
 impl<V: Logged> Play<Option<V>, View> for Take {
@@ -37,6 +42,7 @@ impl<V: Logged> Play<Option<V>, View> for Take {
     ghost then = { λ st m r n. took V.log V.opened V.legal V.mark V.left_open m n };
 }
 
+/// The count is stored, and the slot given back.
 pub(crate) struct Give;
 
 impl<V: Logged> Play<Option<V>, View> for Give {
@@ -45,6 +51,7 @@ impl<V: Logged> Play<Option<V>, View> for Give {
     ghost then = { λ st m r n. gave V.log V.mark V.left_open m n };
 }
 
+/// The turn is passed on.
 pub(crate) struct Serve;
 
 impl<V: Logged> Play<Option<V>, View> for Serve {
@@ -53,6 +60,7 @@ impl<V: Logged> Play<Option<V>, View> for Serve {
     ghost then = { λ st m r n. served m n };
 }
 
+/// The count is read outside a turn.
 pub(crate) struct Meet;
 
 impl<V: Logged> Play<Option<V>, View> for Meet {
@@ -61,6 +69,7 @@ impl<V: Logged> Play<Option<V>, View> for Meet {
     ghost then = { λ st m r n. met m r n };
 }
 
+/// The rule is looked at for the number that is given next.
 pub(crate) struct Look;
 
 impl<V: Logged> Play<Option<V>, View> for Look {
@@ -69,6 +78,7 @@ impl<V: Logged> Play<Option<V>, View> for Look {
     ghost then = { λ st m r n. unnumbered m n };
 }
 
+/// A pass is split off.
 pub(crate) struct Apart;
 
 impl Split<View> for Apart {
@@ -79,6 +89,7 @@ impl Split<View> for Apart {
     ghost right = { split_off };
 }
 
+/// A pass is joined in.
 pub(crate) struct Together;
 
 impl Join<View> for Together {

@@ -3,6 +3,7 @@ ghost use Rattle.cat_model.specs.Turns.{Adds};
 ghost use Rattle.cat_desk.specs.Pass.{IsFree, Keeps, spare_of};
 
 use super::*;
+use cat_codes::ascending::Ascending;
 use cat_codes::fault::NoMemory;
 use cat_codes::seq::Seq;
 use cat_codes::text::Text;
@@ -11,6 +12,7 @@ use cat_model::commit::Meta;
 use cat_model::log_entry::LogEntry;
 use cat_model::logged::Logged;
 use cat_model::moment::Moment;
+use cat_names::ref_name::RefName;
 use std::alloc::Global;
 use std::process::Abort;
 use std::sync::Wait;
@@ -54,13 +56,18 @@ impl Notes {
         }
     }
 
-    fn add(&mut self, entry: LogEntry) -> Result<(), NoMemory>
-        ensures { Adds entry.caller self.old.entries.items self.new.entries.items }
+    /// Adds an entry of the caller.
+    fn add(&mut self, alloc: Global, caller: u32) -> Result<(), NoMemory>
+        ensures { Adds caller self.old.entries.items self.new.entries.items }
     {
         if self.count == u32::MAX {
             return Err(NoMemory);
         }
-        self.entries.push(entry)?;
+        let Ok(branch) = RefName::parse(alloc, "main") else {
+            return Err(NoMemory);
+        };
+        let message = Text::from_str(alloc, "an entry")?;
+        self.entries.push(entry(alloc, branch, message, caller))?;
         self.count += 1;
         Ok(())
     }
@@ -71,18 +78,18 @@ impl Notes {
     }
 }
 
-fn entry(alloc: Global, caller: u32) -> LogEntry
+fn entry(alloc: Global, branch: RefName, message: Text, caller: u32) -> LogEntry
     ensures { result.caller ≡ caller }
 {
     let meta = Meta {
-        message: Text::from_string(String::new(alloc)),
+        message,
         authors: Seq::new(alloc),
         signed: Seq::new(alloc),
-        properties: Seq::new(alloc),
+        properties: Ascending::new(alloc),
         author_time: None,
     };
     let request = CommitRequest {
-        branch: Text::from_string(String::new(alloc)),
+        branch,
         expected: None,
         meta,
         ops: Seq::new(alloc),
@@ -105,7 +112,7 @@ fn add<R: Wait>(rt: &R, alloc: Global, desk: &Desk<Notes>, pass: &mut Pass) -> O
 {
     let mut held = desk.enter(rt, pass);
     let before = held.value.count();
-    let added = held.value.add(entry(alloc, pass.number()));
+    let added = held.value.add(alloc, pass.number());
     desk.leave(held, pass);
     added.ok()?;
     Some(before)
