@@ -1,25 +1,25 @@
 -- Each step on the desk's table keeps its rule.
-use Rattle.std.proofs.Common.{◌≡◌, ◌≢◌, ℕ, zero, suc, ◌+◌, ◌-◌, ◌%◌, ◌^◌, ◌<◌, ◌≤◌, List, [], ◌∷◌, length, get_or, set, eqb, eq-eqb, ne_eqb, cond, sym, refl, ap, ◌∙◌, subst, ⊎_elim, arith, Option, Some, None, le_refl}
-use mathlib.Core.Option.{some, none, some-injective, some-ne-none}
+use Rattle.std.proofs.Common.{◌≡◌, ◌≢◌, ℕ, ◌+◌, ◌-◌, ◌%◌, ◌^◌, ◌<◌, ◌≤◌, List, [], ◌∷◌, length, get_or, set, eqb, eq-eqb, ne_eqb, cond, sym, refl, ap, ◌∙◌, subst, arith, Option, Some, None, le_refl}
+use mathlib.Core.Option.{some, none}
 use native.Mathlib.Nat.{mod-eq_of_lt}
 use mathlib.Core.Option.{Option as Maybe}
 use mathlib.Core.Logic.{dite}
 use native.Mathlib.Decide.{ℕ_discrete}
 use lib.ListN.{get_elem?}
 use lib.Seq.{set-get_or}
-use Rattle.atomic_table.specs.Table.{State, Me, keeps, takes, gives, stepped, opening, Allows}
-use Rattle.atomic_table.proofs.Lists.{at_set, set_else, set_here, one_turn}
+use Rattle.atomic_table.specs.Table.{State, Me, keeps, takes, gives, stepped, Allows}
+use Rattle.atomic_table.proofs.Lists.{set_else, set_here, one_turn}
 use Rattle.cat_model.specs.declared.log_entry.LogEntry.{LogEntry}
-use Rattle.cat_model.specs.Drafts.{Open, nothing_open, open_of, StaysOpen, LeavesOthers}
+use Rattle.cat_model.specs.Drafts.{Open, open_of, StaysOpen, LeavesOthers}
 use Rattle.cat_model.specs.Mark.{Mark, Grows, Later}
 use Rattle.cat_model.specs.Turns.{Opened, Adds}
 use Rattle.cat_model.specs.TurnLaws.{grows_self, grows_on, stays_self, stays_on}
-use Rattle.cat_desk.specs.Sight.{Origin, Stage, Idle, Making, Waiting, Called, Holding, Leaving, Spent, View}
+use Rattle.cat_desk.specs.Sight.{Origin, Stage, Idle, Making, Waiting, Called, Holding, Leaving, View}
 use Rattle.cat_desk.specs.Log.{Follows, Missed, Since}
 use Rattle.cat_desk.specs.Marks.{Linked, IsGiven, AreGiven}
-use Rattle.cat_desk.specs.Rule.{Place, home, unborn, out, IsLive, IsBusy, IsServed, IsAlone, IsMaking, IsUnborn, tickets_of, total, queue, weight, Fits, Turned, SomeoneSaw, Stands, Kept, newcomer, at_stage, waiting, knowing, drew, called, served, met, unnumbered, finding, leaving, Begins, Found, TookAt, took, gave}
-use Rattle.cat_desk.proofs.Logs.{missed_none, missed_follows, missed_more, adds_longer, since_none, since_later, since_more, since_next}
-use Rattle.cat_desk.proofs.Marks.{linked_self, linked_more, given_self, given_more, given_later, are_given_later, are_given_more}
+use Rattle.cat_desk.specs.Rule.{Place, home, unborn, out, IsLive, IsBusy, IsServed, IsAlone, IsMaking, IsUnborn, tickets_of, total, queue, weight, Fits, Turned, SomeoneSaw, Stands, Kept, at_stage, waiting, knowing, drew, called, served, met, unnumbered, finding, leaving, Begins, Found, TookAt, took, gave}
+use Rattle.cat_desk.proofs.Logs.{missed_none, missed_follows, missed_more, adds_longer, since_more, since_next}
+use Rattle.cat_desk.proofs.Marks.{linked_self, linked_more, given_more, are_given_more}
 use Rattle.cat_desk.proofs.Totals.{total_set, total_le, two_of}
 use Rattle.cat_desk.proofs.Seats.{alone_served, making_served, served_busy, busy_live, one_ticket, is_live, served_ticket, set_there, same_some, three_words, seats_stay, same_view, turned_stay}
 

@@ -1,7 +1,7 @@
 -- Marks that go on, and numbers that were given.
 use Rattle.std.proofs.Common.{◌≡◌, ◌≢◌, ℕ, ◌+◌, ◌<◌, ◌≤◌, sym, refl, ◌∙◌, subst, inl, inr, ⊎_elim, arith, Some}
-use Rattle.cat_model.specs.Drafts.{Open, nothing_open, open_of, LeavesOthers, StaysOpen}
-use Rattle.cat_model.specs.Mark.{FailedAppend, Mark, Grows, Later}
+use Rattle.cat_model.specs.Drafts.{Open, open_of, LeavesOthers, StaysOpen}
+use Rattle.cat_model.specs.Mark.{Mark, Grows, Later}
 use Rattle.cat_model.specs.TurnLaws.{grows_self, grows_on, nothing_stays}
 use Rattle.cat_desk.specs.Marks.{Linked, IsGiven, AreGiven}
 

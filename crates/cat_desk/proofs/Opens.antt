@@ -1,26 +1,18 @@
 -- The rule holds of a desk that is made.
-use Rattle.std.proofs.Common.{◌≡◌, ◌≢◌, ℕ, zero, suc, ◌+◌, ◌-◌, ◌%◌, ◌^◌, ◌<◌, ◌≤◌, List, [], ◌∷◌, length, get_or, set, eqb, eq-eqb, ne_eqb, cond, sym, refl, ap, ◌∙◌, subst, ⊎_elim, arith, Option, Some, None, le_refl}
-use mathlib.Core.Option.{some, none, some-injective, some-ne-none}
-use native.Mathlib.Nat.{mod-eq_of_lt}
-use mathlib.Core.Option.{Option as Maybe}
-use mathlib.Core.Logic.{dite}
-use native.Mathlib.Decide.{ℕ_discrete}
+use Rattle.std.proofs.Common.{◌≡◌, ℕ, zero, suc, ◌<◌, List, [], ◌∷◌, length, sym, refl, subst, arith, None, le_refl}
+use mathlib.Core.Option.{some, some-injective, some-ne-none}
 use lib.ListN.{get_elem?}
-use lib.Seq.{set-get_or}
-use Rattle.atomic_table.specs.Table.{State, Me, keeps, takes, gives, stepped, opening, Allows}
-use Rattle.atomic_table.proofs.Lists.{at_set, set_else, set_here, one_turn}
+use Rattle.atomic_table.specs.Table.{opening}
 use Rattle.cat_model.specs.declared.log_entry.LogEntry.{LogEntry}
-use Rattle.cat_model.specs.Drafts.{Open, nothing_open, open_of, StaysOpen, LeavesOthers}
-use Rattle.cat_model.specs.Mark.{Mark, Grows, Later}
-use Rattle.cat_model.specs.Turns.{Opened, Adds}
-use Rattle.cat_model.specs.TurnLaws.{grows_self, grows_on, stays_self, stays_on}
-use Rattle.cat_desk.specs.Sight.{Origin, Stage, Idle, Making, Waiting, Called, Holding, Leaving, Spent, View}
-use Rattle.cat_desk.specs.Log.{Follows, Missed, Since}
-use Rattle.cat_desk.specs.Marks.{Linked, IsGiven, AreGiven}
-use Rattle.cat_desk.specs.Rule.{Place, home, unborn, out, IsLive, IsBusy, IsServed, IsAlone, IsMaking, IsUnborn, tickets_of, total, queue, weight, Fits, Turned, SomeoneSaw, Stands, Kept, newcomer, at_stage, waiting, knowing, drew, called, served, met, unnumbered, finding, leaving, Begins, Found, TookAt, took, gave}
-use Rattle.cat_desk.proofs.Logs.{missed_none, missed_follows, missed_more, adds_longer, since_none, since_later, since_more, since_next}
-use Rattle.cat_desk.proofs.Marks.{linked_self, linked_more, given_self, given_more, given_later, are_given_later, are_given_more}
-use Rattle.cat_desk.proofs.Totals.{total_set, total_le, two_of}
+use Rattle.cat_model.specs.Drafts.{Open, nothing_open, open_of}
+use Rattle.cat_model.specs.Mark.{Mark}
+use Rattle.cat_model.specs.Turns.{Opened}
+use Rattle.cat_model.specs.TurnLaws.{grows_self, stays_self}
+use Rattle.cat_desk.specs.Sight.{View}
+use Rattle.cat_desk.specs.Marks.{AreGiven}
+use Rattle.cat_desk.specs.Rule.{unborn, IsLive, tickets_of, Fits, Kept, newcomer}
+use Rattle.cat_desk.proofs.Logs.{missed_none, since_none}
+use Rattle.cat_desk.proofs.Marks.{linked_self, given_self}
 
 module _ {V : Type 0} (log : V → List LogEntry) (opened : V → Opened) (legal : Opened → List LogEntry → Type 0) (mark : V → Mark) (left_open : V → Open) (key : V) where
   pub opens : (c : ℕ) → legal (opened key) (log key) → left_open key ≡ nothing_open → c ≡ length (log key) → c < 4294967296 → Kept log opened legal mark left_open key (opening (c ∷ 1 ∷ 0 ∷ []) (None ∷ []) (newcomer log opened mark left_open key))

@@ -13,13 +13,13 @@ use Rattle.cat_model.specs.Drafts.{Open, nothing_open, open_of, StaysOpen}
 use Rattle.cat_model.specs.Mark.{Mark, Grows}
 use Rattle.cat_model.specs.Turns.{Opened, snapshot}
 use Rattle.cat_model.specs.TurnLaws.{stays_self}
-use Rattle.cat_desk.specs.Sight.{Origin, Stage, Idle, Making, Holding, View}
+use Rattle.cat_desk.specs.Sight.{Stage, Idle, Making, Holding, View}
 use Rattle.cat_desk.specs.declared.pass.Held.{Held}
 use Rattle.cat_desk.specs.declared.pass.Pass.{Pass}
 use Rattle.cat_desk.specs.Pass.{seen_in, held_in, mark_in, own_in, mark_of, left_by, DeskId, IsFree, seen, stands_for, found}
 use Rattle.cat_desk.specs.Marks.{Linked}
 use Rattle.cat_desk.proofs.Marks.{linked_next, linked_later, given_later, are_given_later}
-use Rattle.cat_desk.specs.Log.{Missed, Since, longer}
+use Rattle.cat_desk.specs.Log.{Missed, longer}
 use Rattle.cat_desk.specs.Rule.{Place, home, unborn, out, IsLive, IsAlone, IsUnborn, tickets_of, total, queue, weight, Numbered, Fits, Turned, SomeoneSaw, Stands, finding, splitting, split_off, joined, nobody}
 use Rattle.cat_desk.proofs.Logs.{missed_later, missed_next, missed_longer, since_later, since_longer, longer_first, longer_second, longer_bound, whole}
 use Rattle.cat_desk.proofs.Totals.{total_set, total_snoc}
