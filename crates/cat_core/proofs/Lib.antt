@@ -1,3 +1,4 @@
 pub mod KeyOrder
 pub mod MapLaws
 pub mod Found
+pub mod Kept

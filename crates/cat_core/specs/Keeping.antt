@@ -1,9 +1,9 @@
 -- Commits with the maps at them, the newest first.
-use Rattle.std.specs.Prelude.{◌≡◌, ◌+◌, ◌≤◌, List, [], ◌∷◌, length, Option, Some, None, if◌then◌else◌}
+use Rattle.std.specs.Prelude.{◌≡◌, ℕ, ◌+◌, ◌≤◌, List, [], ◌∷◌, length, Option, Some, None, if◌then◌else◌}
 use Rattle.cat_names.specs.declared.hash.Hash.{Hash}
 use Rattle.cat_model.specs.declared.limits.Limits.{Limits}
 use Rattle.cat_model.specs.Chain.{Commits, entries}
-use Rattle.cat_model.specs.Maps.{after_changes}
+use Rattle.cat_model.specs.Maps.{Map, after_changes}
 use Rattle.cat_model.specs.Same.{same_hash}
 use Rattle.cat_core.specs.declared.commits.Kept.{Kept}
 
@@ -32,3 +32,13 @@ pub record IsStored (limits : Limits) (commits : List Kept) : Type 0 where
   pub log_bound : limits.log ≤ 4294967295
   pub commits_bound : limits.commits ≤ 4294967295
   pub kept : AreKept commits
+
+-- the map of what is kept; none where nothing is
+abbrev pub kept_map : Option Kept → Map
+kept_map None = []
+kept_map (Some k) = k.map
+
+-- its generation; 0 where nothing is kept
+abbrev pub kept_generation : Option Kept → ℕ
+kept_generation None = 0
+kept_generation (Some k) = k.commit.generation

@@ -3,8 +3,10 @@
 
 mod commits;
 mod contents;
+mod copies;
 mod failure;
 mod map;
+mod reading;
 mod references;
 mod store;
 
