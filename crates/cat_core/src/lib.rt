@@ -5,6 +5,7 @@ mod commits;
 mod contents;
 mod copies;
 mod failure;
+mod judging;
 mod map;
 mod reading;
 mod references;
