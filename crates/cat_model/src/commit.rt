@@ -1,15 +1,13 @@
 //! Commits.
 
-ghost use Rattle.std.specs.Prelude.{◌≡◌, IfOk, List, [], Ok, ◌++◌, OnOk};
-ghost use Rattle.cat_codes.specs.Read.{Reads};
-ghost use Rattle.cat_codes.specs.Code.{◌⊗◌, option};
 ghost use Rattle.cat_model.specs.Formats.{meta_code, commit_code};
 ghost use Rattle.cat_model.specs.FormatLaws.{meta_is, commit_is};
 
 use crate::entry::Entry;
 use crate::moment::Moment;
+use cat_codes::ascending::Ascending;
 use cat_codes::fault::{FieldFault, NoMemory};
-use cat_codes::field::{Field, read_ascending, write_ascending};
+use cat_codes::field::Field;
 use cat_codes::reader::Reader;
 use cat_codes::seq::Seq;
 use cat_codes::text::Text;
@@ -24,7 +22,7 @@ pub struct Meta {
     pub message: Text,
     pub authors: Seq<Text>,
     pub signed: Seq<Text>,
-    pub properties: Seq<(Text, Seq<Text>)>,
+    pub properties: Ascending<Text, Seq<Text>>,
     pub author_time: Option<Moment>,
 }
 
@@ -36,7 +34,7 @@ pub struct Commit {
     pub generation: u64,
     pub time: Moment,
     pub meta: Meta,
-    pub ops: Seq<(ContentKey, Option<Entry>)>,
+    pub ops: Ascending<ContentKey, Option<Entry>>,
 }
 
 impl Field for Meta {
@@ -49,7 +47,7 @@ impl Field for Meta {
         let message = Text::read(from, alloc)?;
         let authors = Seq::read(from, alloc)?;
         let signed = Seq::read(from, alloc)?;
-        let properties = read_ascending(from, alloc)?;
+        let properties = Ascending::read(from, alloc)?;
         let author_time = Option::read(from, alloc)?;
         Ok(Meta {
             message,
@@ -65,7 +63,7 @@ impl Field for Meta {
         self.message.write(out)?;
         self.authors.write(out)?;
         self.signed.write(out)?;
-        write_ascending(out, &self.properties)?;
+        self.properties.write(out)?;
         self.author_time.write(out)?;
         Ok(())
     }
@@ -84,7 +82,7 @@ impl Field for Commit {
         let generation = from.u64()?;
         let time = Moment::read(from, alloc)?;
         let meta = Meta::read(from, alloc)?;
-        let ops = read_ascending(from, alloc)?;
+        let ops = Ascending::read(from, alloc)?;
         Ok(Commit {
             parent,
             merge_parent,
@@ -103,7 +101,7 @@ impl Field for Commit {
         out.u64(self.generation)?;
         self.time.write(out)?;
         self.meta.write(out)?;
-        write_ascending(out, &self.ops)?;
+        self.ops.write(out)?;
         Ok(())
     }
 }

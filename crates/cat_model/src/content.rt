@@ -4,8 +4,9 @@ ghost use Rattle.std.specs.Prelude.{◌≡◌};
 ghost use Rattle.cat_model.specs.Contents.{table_code, view_code, delta_code, namespace_code, content_code};
 ghost use Rattle.cat_model.specs.ContentLaws.{table_is, view_is, delta_is, namespace_is, content_is};
 
+use cat_codes::ascending::Ascending;
 use cat_codes::fault::{FieldFault, NoMemory};
-use cat_codes::field::{Field, read_ascending, write_ascending};
+use cat_codes::field::Field;
 use cat_codes::reader::Reader;
 use cat_codes::seq::Seq;
 use cat_codes::text::Text;
@@ -39,7 +40,7 @@ pub struct DeltaLakeTable {
 #[derive(Clone, Debug, PartialEq, Eq, Drop)]
 pub struct Namespace {
     pub elements: Seq<Text>,
-    pub properties: Seq<(Text, Text)>,
+    pub properties: Ascending<Text, Text>,
 }
 
 #[derive(Clone, Debug, PartialEq, Eq, Drop)]
@@ -149,7 +150,7 @@ impl Field for Namespace {
     #[tactic(auto, unfolding(crate::specs::Contents::namespace_code))]
     fn read(from: &mut Reader<'_>, alloc: Global) -> Result<Namespace, FieldFault> {
         let elements = Seq::read(from, alloc)?;
-        let properties = read_ascending(from, alloc)?;
+        let properties = Ascending::read(from, alloc)?;
         Ok(Namespace {
             elements,
             properties,
@@ -159,7 +160,7 @@ impl Field for Namespace {
     #[tactic(auto, unfolding(crate::specs::Contents::namespace_code))]
     fn write(&self, out: &mut Writer) -> Result<(), NoMemory> {
         self.elements.write(out)?;
-        write_ascending(out, &self.properties)?;
+        self.properties.write(out)?;
         Ok(())
     }
 }

@@ -2,6 +2,7 @@
 
 use crate::conflict::Conflict;
 use crate::limits::Quantity;
+use cat_codes::bytes::Bytes;
 use cat_codes::seq::Seq;
 use cat_names::hash::Hash;
 use cat_names::key::ContentKey;
@@ -71,8 +72,8 @@ pub enum Refusal {
     /// Two records of one hash, the one that is kept first.
     Collision {
         hash: Hash,
-        first: Seq<u8>,
-        second: Seq<u8>,
+        first: Bytes,
+        second: Bytes,
     },
     /// The journal couldn't be written.
     Fault,
