@@ -1,13 +1,15 @@
 -- What is kept of a commit against the definitions.
 use Rattle.std.proofs.Common.{◌≡◌, ℕ, ◌+◌, ◌≤◌, List, [], ◌∷◌, length, Option, Some, None, Bool, true, false, if◌then◌else◌, refl, sym, ap, subst, ◌∙◌, arith}
-use Rattle.std.specs.Option.{option_map, is_some}
+use Rattle.std.specs.Option.{option_map, is_some, IfSome}
 use Rattle.cat_names.specs.declared.hash.Hash.{Hash}
 use Rattle.cat_model.specs.declared.commit.Commit.{Commit}
+use Rattle.cat_model.specs.declared.limits.Limits.{Limits}
 use Rattle.cat_model.specs.Chain.{Commits, commit_of, chain, map_of, entries, generation}
 use Rattle.cat_model.specs.Maps.{Map, IsMap, after_changes}
 use Rattle.cat_model.specs.Same.{same_hash}
 use Rattle.cat_core.specs.declared.commits.Kept.{Kept}
-use Rattle.cat_core.specs.Keeping.{recorded, kept_of, kept_map, kept_generation, IsNext, AreKept}
+use Rattle.cat_core.specs.Keeping.{recorded, kept_of, kept_map, kept_generation, IsNext, IsStored, AreKept}
+use Rattle.cat_core.specs.Putting.{recorded_one, with_first}
 use Rattle.cat_core.proofs.MapLaws.{IsMap-after_changes}
 
 commit_by : (b : Bool) (k : Kept) (older : Option Kept) (commit : Option Commit) → commit ≡ option_map (λ (x : Kept). x.commit) older
@@ -68,3 +70,12 @@ some_by false k commit older e = e
 pub known_is : (kept : List Kept) (hash : Hash) → is_some (commit_of (recorded kept) hash) ≡ is_some (kept_of kept hash)
 known_is [] hash = refl
 known_is (k ∷ kept) hash = some_by (same_hash k.hash hash) k (commit_of (recorded kept) hash) (kept_of kept hash) (known_is kept hash)
+
+-- one more at the front, if there is one
+pub recorded_first : (o : Option Kept) (kept : List Kept) → recorded (with_first o kept) ≡ with_first (option_map recorded_one o) (recorded kept)
+recorded_first None kept = refl
+recorded_first (Some k) kept = refl
+
+pub stored_first : (limits : Limits) (o : Option Kept) (kept : List Kept) → IsStored limits kept → IfSome o (IsNext (recorded kept)) → IsStored limits (with_first o kept)
+stored_first limits None kept stored next = stored
+stored_first limits (Some k) kept stored next = record { log_bound = stored.log_bound; commits_bound = stored.commits_bound; kept = (next, stored.kept) }

@@ -3,3 +3,7 @@ pub mod MapLaws
 pub mod Found
 pub mod Kept
 pub mod Parts
+pub mod Plain
+pub mod Called
+pub mod Put
+pub mod Room

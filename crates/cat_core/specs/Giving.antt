@@ -1,6 +1,8 @@
 -- What a private call returned against what a definition says.
-use Rattle.std.specs.Prelude.{◌≡◌, Result, Ok, Err}
+use Rattle.std.specs.Prelude.{◌≡◌, ℕ, Some, None, Result, Ok, Err}
 use Rattle.cat_model.specs.declared.refusal.Refusal.{Refusal}
+use Rattle.cat_model.specs.declared.refusal.Refusal.TheVariants as Memory
+use Rattle.cat_model.specs.declared.refusal.Refused as refusals
 use Rattle.cat_core.specs.declared.failure.Failure.{Failure}
 use Rattle.cat_core.specs.declared.failure.Failure.TheVariants.{Refused, NoMemory}
 
@@ -23,3 +25,8 @@ Gives (Err failure) answer = Fails failure answer
 abbrev pub SaysAs : {A B : Type 0} → (A → B) → Result A Refusal → Result B Refusal → Type 0
 SaysAs meaning (Ok x) answer = answer ≡ Ok (meaning x)
 SaysAs meaning (Err why) answer = answer ≡ Err why
+
+-- a failure as the refusal of a call at a place; want of memory has none
+abbrev pub refused_at : ℕ → Failure → refusals.Refused
+refused_at place NoMemory = record { place = None; why = Memory.NoMemory }
+refused_at place (Refused why) = record { place = Some place; why = why }

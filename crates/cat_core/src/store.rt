@@ -71,8 +71,16 @@ impl Store {
         self.place
     }
 
+    pub(crate) fn draft(&self) -> u64
+        ensures { result ≡ self.now.draft }
+    {
+        self.draft
+    }
+
     pub(crate) fn limits(&self) -> Limits
-        ensures { result ≡ self.now.state.limits }
+        ensures value { result ≡ self.now.state.limits }
+        ensures log { result.log ≤ 4294967295 }
+        ensures commits { result.commits ≤ 4294967295 }
     {
         self.limits
     }

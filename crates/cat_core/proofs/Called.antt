@@ -1,0 +1,58 @@
+-- What a commit brings, by the outcome of its tests.
+use Rattle.std.proofs.Common.{◌≡◌, ℕ, ◌+◌, ◌<◌, Some, Ok, Err, Result, Bool, true, nat_lt, refl, sym, ap, subst, ◌∙◌, arith}
+use Rattle.std.proofs.lemmas.Bool.Decides.{nat_tests}
+use Rattle.sha2.specs.Sha256.{sha256}
+use Rattle.cat_names.specs.declared.hash.Hash.{Hash}
+use Rattle.cat_model.specs.declared.command.Command.TheVariants as commands
+use Rattle.cat_model.specs.declared.command.CommitRequest.{CommitRequest}
+use Rattle.cat_model.specs.declared.reference.Reference.{Reference}
+use Rattle.cat_model.specs.declared.refusal.Refusal.{Refusal}
+use Rattle.cat_model.specs.Book.{Book, IsCalled, Applies, CallRefuses, call_on}
+use Rattle.cat_model.specs.Calls.{Called, call, needs_draft, entry_made}
+use Rattle.cat_model.specs.Commits.{commit_opening, step_commit, given_request}
+use Rattle.cat_core.specs.declared.committing.Accepted.{Accepted}
+use Rattle.cat_core.specs.declared.failure.Failure.{Failure}
+use Rattle.cat_core.specs.declared.failure.Failure.TheVariants as failures
+use Rattle.cat_core.specs.Giving.{refused_at}
+use Rattle.cat_core.specs.Putting.{Commits, accepted_book, accepted_told, outcome_of, taking}
+use Rattle.cat_core.proofs.Plain.{IsOther, IsPlain, call_refused, plain_opening, plain_limit, plain_step}
+
+other : {A : Type 0} (r : Result A Refusal) (why : Refusal) → IsPlain r → r ≡ Err why → IsOther why
+other r why p e = subst (λ (x : Result _ Refusal). IsPlain x) e p
+
+-- the tests before the draft refuse
+pub opening_refused : (caller : ℕ) (book : Book) (c : CommitRequest) (moment : ℕ) (why : Refusal) → commit_opening sha256 book.state c ≡ Err why
+    → CallRefuses (call_on sha256 caller book (commands.Commit c) moment) book book why (record { place = Some book.state.place; why = why })
+unfolding call
+opening_refused caller book c moment why e =
+    call_refused _ book book why _ (other _ why (plain_opening book.state c) e) (record { said = rw e refl; book = rw e refl })
+
+-- no draft number is left
+pub draft_refused : (caller : ℕ) (book : Book) (c : CommitRequest) (moment : ℕ) (why : Refusal) (o : Reference × Hash) → commit_opening sha256 book.state c ≡ Ok o → needs_draft book.state book.draft true ≡ Err why
+    → CallRefuses (call_on sha256 caller book (commands.Commit c) moment) book book why (record { place = Some book.state.place; why = why })
+unfolding call
+draft_refused caller book c moment why o e d =
+    call_refused _ book book why _ (other _ why (plain_limit _ _ _) d) (record { said = rw (e, d) refl; book = rw (e, d) refl })
+
+-- the step refuses; its draft number is taken
+pub step_refused : (caller : ℕ) (book : Book) (c : CommitRequest) (moment : ℕ) (why : Refusal) (o : Reference × Hash) → commit_opening sha256 book.state c ≡ Ok o → needs_draft book.state book.draft true ≡ Ok tt
+    → step_commit sha256 book.state c (book.draft + 1) moment ≡ Err why
+    → CallRefuses (call_on sha256 caller book (commands.Commit c) moment) book (taking book (book.draft + 1)) why (record { place = Some book.state.place; why = why })
+unfolding call
+step_refused caller book c moment why o e d s =
+    call_refused _ book (taking book (book.draft + 1)) why _ (other _ why (plain_step book.state c (book.draft + 1) moment) s) (record { said = rw (e, d, s) refl; book = rw (e, d, s) refl })
+
+more_is : (n : ℕ) → nat_lt n (n + 1) ≡ true
+more_is n = grind (arith, nat_tests)
+
+-- the step is accepted
+pub step_accepted : (caller : ℕ) (book : Book) (c : CommitRequest) (moment : ℕ) (a : Accepted) (o : Reference × Hash) → commit_opening sha256 book.state c ≡ Ok o → needs_draft book.state book.draft true ≡ Ok tt
+    → step_commit sha256 book.state c (book.draft + 1) moment ≡ Ok (outcome_of book.state a) → a.request ≡ given_request sha256 (book.draft + 1) c
+    → IsCalled (call_on sha256 caller book (commands.Commit c) moment) book (accepted_book book caller (book.draft + 1) moment a) (Ok (accepted_told book a))
+unfolding call entry_made
+step_accepted caller book c moment a o e d s r = record { said = rw (e, d, s, more_is book.state.place) refl; book = rw (e, d, s, more_is book.state.place, r) refl }
+
+-- what a changing call answers where it has no reply
+pub applies_fails : (called : Called) (before after : Book) (failure : Failure) → Commits called before after (Err failure) → Applies called before after (Err (refused_at before.state.place failure))
+applies_fails called before after failures.NoMemory e = e
+applies_fails called before after (failures.Refused why) e = e
