@@ -79,3 +79,11 @@ recorded_first (Some k) kept = refl
 pub stored_first : (limits : Limits) (o : Option Kept) (kept : List Kept) → IsStored limits kept → IfSome o (IsNext (recorded kept)) → IsStored limits (with_first o kept)
 stored_first limits None kept stored next = stored
 stored_first limits (Some k) kept stored next = record { log_bound = stored.log_bound; commits_bound = stored.commits_bound; kept = (next, stored.kept) }
+
+-- the generation of what is kept is at most the number of commits
+pub found_bound : (kept : List Kept) (hash : Hash) (k : Kept) (commits : Commits) → AreKept kept → kept_of kept hash ≡ Some k → recorded kept ≡ commits → k.commit.generation ≤ length commits
+found_bound kept hash k commits are found all =
+    let e : generation (recorded kept) hash ≡ k.commit.generation = generation_is kept hash ∙ ap kept_generation found in
+    let l : length (recorded kept) ≡ length commits = ap length all in
+    let b = generation_bound kept hash are in
+    omega arith

@@ -7,3 +7,4 @@ pub mod Plain
 pub mod Called
 pub mod Put
 pub mod Room
+pub mod Adding
