@@ -15,7 +15,8 @@ use Rattle.cat_core.specs.declared.failure.Failure.{Failure}
 use Rattle.cat_core.specs.declared.failure.Failure.TheVariants as failures
 use Rattle.cat_core.specs.Giving.{refused_at}
 use Rattle.cat_core.specs.Putting.{Commits, accepted_book, accepted_told, outcome_of, taking}
-use Rattle.cat_core.proofs.Plain.{IsOther, IsPlain, call_refused, plain_opening, plain_limit, plain_step}
+use Rattle.cat_core.proofs.Plain.{IsOther, IsPlain}
+use Rattle.cat_core.proofs.PlainCalls.{call_refused, plain_opening, plain_limit, plain_step}
 
 other : {A : Type 0} (r : Result A Refusal) (why : Refusal) → IsPlain r → r ≡ Err why → IsOther why
 other r why p e = subst (λ (x : Result _ Refusal). IsPlain x) e p

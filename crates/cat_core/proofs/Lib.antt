@@ -8,3 +8,4 @@ pub mod Called
 pub mod Put
 pub mod Room
 pub mod Adding
+pub mod PlainCalls

@@ -15,16 +15,20 @@ use Rattle.cat_model.specs.declared.reference.Reference.{Reference}
 use Rattle.cat_model.specs.declared.refusal.Refusal.{Refusal}
 use Rattle.cat_model.specs.declared.refusal.Refusal.TheVariants.{BadRequest, RefNotFound, RefExists, ContentNotFound, Conflicts, Expired, RetriesSpent, SweepOpen, Limit, Collision, Fault, Down, NoMemory, NoRoute, WrongMethod, TooLarge, Encoding}
 use Rattle.cat_model.specs.declared.refusal.Refused.{Refused}
+use Rattle.cat_model.specs.declared.refusal.Missing.TheVariants as missing
 
-use Rattle.cat_model.specs.Answer.{answer, answer_reference, answer_content}
+use Rattle.cat_model.specs.declared.entry.Entry.{Entry}
+use Rattle.cat_model.specs.declared.reference.Effective.{Effective}
+use Rattle.cat_model.specs.declared.reply.Reply.TheVariants as replies
+use Rattle.cat_model.specs.Answer.{answer, effective_at, answer_reference, answer_content}
 use Rattle.cat_model.specs.Book.{Book, Reads, ReadRefuses, CallRefuses, IsCalled}
 use Rattle.cat_model.specs.Calls.{Called, told_at}
 use Rattle.cat_model.specs.Chain.{entries}
 use Rattle.cat_model.specs.Commits.{commit_opening, or_conflicts, needs_commit_room, step_commit}
-use Rattle.cat_model.specs.Maps.{Map}
+use Rattle.cat_model.specs.Maps.{Map, entry_of}
 use Rattle.cat_model.specs.Records.{added, with_commit, with_content, with_contents}
 use Rattle.cat_model.specs.Refusing.{◌>>=◌, Outcome, Tested, needs, found, named, perhaps_named, pointed}
-use Rattle.cat_model.specs.State.{State}
+use Rattle.cat_model.specs.State.{State, content_at}
 use Rattle.cat_core.specs.declared.failure.Failure.{Failure}
 use Rattle.cat_core.specs.declared.failure.Failure.TheVariants as failures
 use Rattle.cat_core.specs.Giving.{Fails, refused_at}
@@ -36,36 +40,45 @@ abbrev pub IsPlain : {A : Type 0} → Result A Refusal → Type 0
 IsPlain (Ok x) = Unit {0}
 IsPlain (Err why) = IsOther why
 
-plain_bind : {A B : Type 0} (r : Result A Refusal) (f : A → Result B Refusal) → IsPlain r → ((x : A) → IsPlain (f x)) → IsPlain (r >>= f)
+pub plain_bind : {A B : Type 0} (r : Result A Refusal) (f : A → Result B Refusal) → IsPlain r → ((x : A) → IsPlain (f x)) → IsPlain (r >>= f)
 plain_bind (Ok x) f p q = q x
 plain_bind (Err why) f p q = p
 
-plain_needs : (b : Bool) (why : Refusal) → IsOther why → IsPlain (needs b why)
+pub plain_needs : (b : Bool) (why : Refusal) → IsOther why → IsPlain (needs b why)
 plain_needs true why p = tt
 plain_needs false why p = p
 
-plain_found : {A : Type 0} (o : Option A) (why : Refusal) → IsOther why → IsPlain (found o why)
+pub plain_found : {A : Type 0} (o : Option A) (why : Refusal) → IsOther why → IsPlain (found o why)
 plain_found None why p = p
 plain_found (Some x) why p = tt
 
-plain_choice : {A : Type 0} (b : Bool) (x : A) (why : Refusal) → IsOther why → IsPlain (if b then Ok x else Err why)
+pub plain_choice : {A : Type 0} (b : Bool) (x : A) (why : Refusal) → IsOther why → IsPlain (if b then Ok x else Err why)
 plain_choice true x why p = tt
 plain_choice false x why p = p
 
-plain_named : (state : State) (name : List ℕ) → IsPlain (named state name)
+pub plain_named : (state : State) (name : List ℕ) → IsPlain (named state name)
 plain_named state name = plain_found _ RefNotFound (λ e. cc)
 
-plain_perhaps : (state : State) (name : Option (List ℕ)) → IsPlain (perhaps_named state name)
+pub plain_perhaps : (state : State) (name : Option (List ℕ)) → IsPlain (perhaps_named state name)
 plain_perhaps state None = tt
 plain_perhaps state (Some name) = plain_bind (named state name) (λ r. Ok (Some r)) (plain_named state name) (λ r. tt)
 
-plain_pointed : (state : State) (reference : Option Reference) (hash : Option Hash) → IsPlain (pointed sha256 state reference hash)
+pub plain_pointed : (state : State) (reference : Option Reference) (hash : Option Hash) → IsPlain (pointed sha256 state reference hash)
 plain_pointed state (Some reference) None = tt
 plain_pointed state (Some reference) (Some hash) = plain_choice _ hash RefNotFound (λ e. cc)
 plain_pointed state None (Some hash) = plain_choice _ hash RefNotFound (λ e. cc)
 plain_pointed state None None = λ e. cc
 
 -- ---- reading
+
+plain_last : (content : Option Content) (e : Effective) → IsPlain (found content (ContentNotFound missing.Expired) >>= λ content. Ok (replies.Content (record { effective = e; content = content })))
+plain_last None e = λ e. cc
+plain_last (Some content) e = tt
+
+plain_tail : (entry : Option Entry) (present : List (Hash × Content)) (e : Effective)
+    → IsPlain (found entry (ContentNotFound missing.Absent) >>= λ entry. found (content_at present entry.hash) (ContentNotFound missing.Expired) >>= λ content. Ok (replies.Content (record { effective = e; content = content })))
+plain_tail None present e = λ e. cc
+plain_tail (Some entry) present e = plain_last (content_at present entry.hash) e
 
 pub plain_answer : (state : State) (ask : Ask) → IsPlain (answer sha256 state ask)
 unfolding answer_reference answer_content
@@ -76,8 +89,7 @@ plain_answer state (asks.Reference p) =
 plain_answer state (asks.Content a) =
     plain_bind (perhaps_named state a.at.name) _ (plain_perhaps state a.at.name) (λ r.
     plain_bind (pointed sha256 state r a.at.hash) _ (plain_pointed state r a.at.hash) (λ h.
-    plain_bind (found _ (ContentNotFound _)) _ (plain_found _ (ContentNotFound _) (λ e. cc)) (λ entry.
-    plain_bind (found _ (ContentNotFound _)) _ (plain_found _ (ContentNotFound _) (λ e. cc)) (λ content. tt))))
+    plain_tail (entry_of (entries state.commits h) a.key) state.present (effective_at r h)))
 
 read_by : (book : Book) (ask : Ask) (why : Refusal) (refused : Refused) → IsOther why → told_at book.state (answer sha256 book.state ask) ≡ Err refused → ReadRefuses sha256 book ask why refused
 read_by book ask (BadRequest x) refused p e = e
@@ -103,71 +115,6 @@ pub reads_refused : (book : Book) (ask : Ask) (why : Refusal) → answer sha256 
 reads_refused book ask why e =
     let other : IsOther why = subst (λ (r : Result _ Refusal). IsPlain r) e (plain_answer book.state ask) in
     read_by book ask why (record { place = Some book.state.place; why = why }) other (ap (told_at book.state) e)
-
--- ---- changing
-
-pub plain_opening : (state : State) (c : CommitRequest) → IsPlain (commit_opening sha256 state c)
-unfolding commit_opening
-plain_opening state c =
-    plain_bind (named state c.branch) _ (plain_named state c.branch) (λ branch.
-    plain_bind (needs _ (BadRequest _)) _ (plain_needs _ (BadRequest _) (λ e. cc)) (λ u.
-    plain_bind (pointed sha256 state (Some branch) c.expected) _ (plain_pointed state (Some branch) c.expected) (λ h. tt)))
-
-pub plain_limit : (b : Bool) (which : Quantity) (number : ℕ) → IsPlain (needs b (Limit which number))
-plain_limit b which number = plain_needs b (Limit which number) (λ e. cc)
-
-plain_room : (state : State) (map : Map) (count : ℕ) → IsPlain (needs_commit_room state map count)
-unfolding needs_commit_room
-plain_room state map count =
-    plain_bind (needs _ (Limit _ _)) _ (plain_limit _ _ _) (λ u.
-    plain_bind (needs _ (Limit _ _)) _ (plain_limit _ _ _) (λ u.
-    plain_bind (needs _ (Limit _ _)) _ (plain_limit _ _ _) (λ u. plain_limit _ _ _)))
-
-plain_conflicts : (judged : Result Map (List Conflict)) → IsPlain (or_conflicts judged)
-plain_conflicts (Ok map) = tt
-plain_conflicts (Err conflicts) = λ e. cc
-
-plain_added : (state more : State) (hash : Hash) (kept : Option (List ℕ)) (bytes : List ℕ) → IsPlain (added state more hash kept bytes)
-plain_added state more hash None bytes = tt
-plain_added state more hash (Some kept) bytes = plain_choice _ state (Collision hash kept bytes) (λ e. cc)
-
-plain_contents : (state : State) (contents : List Content) → IsPlain (with_contents sha256 state contents)
-unfolding with_content
-plain_contents state [] = tt
-plain_contents state (c ∷ contents) = plain_bind (with_content sha256 state c) _ (plain_added state _ _ _ _) (λ more. plain_contents more contents)
-
-plain_commit : (state : State) (c : Commit) → IsPlain (with_commit sha256 state c)
-unfolding with_commit
-plain_commit state c = plain_added state _ _ _ _
-
-pub plain_step : (state : State) (c : CommitRequest) (draft moment : ℕ) → IsPlain (step_commit sha256 state c draft moment)
-unfolding step_commit
-plain_step state c draft moment =
-    plain_bind (commit_opening sha256 state c) _ (plain_opening state c) (λ (branch, expected).
-    plain_bind (needs_commit_room state _ _) _ (plain_room state _ _) (λ u.
-    plain_bind (or_conflicts _) _ (plain_conflicts _) (λ m.
-    plain_bind (with_contents sha256 state _) _ (plain_contents state _) (λ held.
-    plain_bind (with_commit sha256 held _) _ (plain_commit held _) (λ more. tt)))))
-
--- a call that is refused by a definition
-pub call_refused : (called : Called) (before after : Book) (why : Refusal) (refused : Refused) → IsOther why → IsCalled called before after (Err refused) → CallRefuses called before after why refused
-call_refused called before after (BadRequest x) refused p e = e
-call_refused called before after RefNotFound refused p e = e
-call_refused called before after RefExists refused p e = e
-call_refused called before after (ContentNotFound x) refused p e = e
-call_refused called before after (Conflicts x) refused p e = e
-call_refused called before after (Expired x y) refused p e = e
-call_refused called before after (RetriesSpent x) refused p e = e
-call_refused called before after (SweepOpen x) refused p e = e
-call_refused called before after (Limit x y) refused p e = e
-call_refused called before after (Collision x y z) refused p e = e
-call_refused called before after Fault refused p e = e
-call_refused called before after (Down x) refused p e = e
-call_refused called before after NoMemory refused p e = absurd (p cc)
-call_refused called before after NoRoute refused p e = e
-call_refused called before after (WrongMethod x) refused p e = e
-call_refused called before after TooLarge refused p e = e
-call_refused called before after Encoding refused p e = e
 
 -- what a reading call answers where it has no reply
 pub reads_fails : (book : Book) (ask : Ask) (failure : Failure) → Fails failure (answer sha256 book.state ask) → Reads sha256 book ask (Err (refused_at book.state.place failure))
