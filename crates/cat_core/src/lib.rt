@@ -17,5 +17,7 @@ mod reading;
 mod records;
 mod references;
 mod store;
+#[cfg(test)]
+mod tests;
 
 pub use store::Store;

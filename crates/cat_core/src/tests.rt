@@ -20,6 +20,7 @@ use cat_model::reply::{Reply, Told};
 use cat_names::hash::{ContentId, Hash};
 use cat_names::key::ContentKey;
 use std::alloc::Global;
+use std::test::Fail;
 
 const C1: Hash = Hash {
     bytes: [
@@ -94,8 +95,8 @@ fn at_main(alloc: Global, hash: Option<Hash>) -> Result<Pointer, Fail> {
 }
 
 /// The place and the head of an accepted commit.
-fn accepted(result: &Result<Told, Refused>) -> Option<(u32, Hash, ContentId)> {
-    let Ok(told) = result else {
+fn accepted(answer: &Result<Told, Refused>) -> Option<(u32, Hash, ContentId)> {
+    let Ok(told) = answer else {
         return None;
     };
     let Reply::Committed(committed) = &told.reply else {
@@ -108,8 +109,8 @@ fn accepted(result: &Result<Told, Refused>) -> Option<(u32, Hash, ContentId)> {
 }
 
 /// The place and the kind of the one conflict of a refused commit.
-fn conflict(result: &Result<Told, Refused>) -> Option<(Option<u32>, ConflictKind)> {
-    let Err(refused) = result else {
+fn conflict(answer: &Result<Told, Refused>) -> Option<(Option<u32>, ConflictKind)> {
+    let Err(refused) = answer else {
         return None;
     };
     let Refusal::Conflicts(conflicts) = &refused.why else {
