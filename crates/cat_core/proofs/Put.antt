@@ -19,7 +19,7 @@ use Rattle.cat_model.specs.Maps.{Map, entry_of, after_change}
 use Rattle.cat_model.specs.Refusing.{◌>>=◌, Outcome, Tested}
 use Rattle.cat_model.specs.SinglePut.{is_one_put}
 use Rattle.cat_model.specs.State.{State, entry_for}
-use Rattle.cat_model.proofs.Judged.{judge-single}
+use Rattle.cat_model.specs.JudgeLaws.{judge-single}
 use Rattle.cat_core.specs.Putting.{IsOnePut, fresh, needs_no_fault, put_fault, put_step}
 
 -- the request has one operation, a PUT of a new content at a key of one element, and its content

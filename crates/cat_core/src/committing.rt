@@ -84,9 +84,7 @@ fn kind_of(body: &Body) -> ContentKind
 fn first_id(draft: u64) -> ContentId
     ensures { result ≡ fresh_id draft 0 }
 {
-    ContentId {
-        bytes: (u128::from(draft) << 64).to_be_bytes(),
-    }
+    ContentId::from_pair(draft, 0)
 }
 
 /// The content with the id that its draft gives.
