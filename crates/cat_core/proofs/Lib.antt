@@ -6,6 +6,6 @@ pub mod Parts
 pub mod Plain
 pub mod Called
 pub mod Put
-pub mod Room
+pub mod Counts
 pub mod Adding
 pub mod PlainCalls

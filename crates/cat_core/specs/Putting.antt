@@ -37,7 +37,7 @@ use Rattle.cat_model.specs.Formats.{commit_code}
 use Rattle.cat_model.specs.Contents.{content_code}
 use Rattle.cat_core.specs.declared.commits.Kept.{Kept}
 use Rattle.cat_core.specs.declared.committing.Accepted.{Accepted}
-use Rattle.cat_core.specs.declared.committing.Prepared.{Prepared}
+use Rattle.cat_core.specs.declared.preparing.Prepared.{Prepared}
 use Rattle.cat_core.specs.declared.committing.Turn.{Turn}
 use Rattle.cat_core.specs.Keeping.{IsNext}
 

@@ -13,9 +13,11 @@ mod copies;
 mod failure;
 mod judging;
 mod map;
+mod preparing;
 mod reading;
 mod records;
 mod references;
+mod room;
 mod store;
 #[cfg(test)]
 mod tests;
