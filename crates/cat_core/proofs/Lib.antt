@@ -9,3 +9,4 @@ pub mod Put
 pub mod Counts
 pub mod Adding
 pub mod PlainCalls
+pub mod PutSteps

@@ -9,31 +9,18 @@ use Rattle.cat_model.specs.declared.conflict.ConflictKind.{ConflictKind}
 use Rattle.cat_model.specs.declared.content.Content.{Content}
 use Rattle.cat_model.specs.declared.entry.Entry.{Entry}
 use Rattle.cat_model.specs.declared.op.Op.{Op}
-use Rattle.cat_model.specs.declared.op.Op.TheVariants.{Put, Delete, Unchanged}
+use Rattle.cat_model.specs.declared.op.Op.TheVariants.{Put}
 use Rattle.cat_model.specs.declared.reference.Reference.{Reference}
 use Rattle.cat_model.specs.declared.refusal.Refusal.{Refusal}
 use Rattle.cat_model.specs.Chain.{entries}
-use Rattle.cat_model.specs.Commits.{commit_opening, given_ops, given_request, needs_commit_room, or_conflicts, request_commit, step_commit}
+use Rattle.cat_model.specs.Commits.{commit_opening, committed, given_ops, given_request, needs_commit_room, or_conflicts, request_commit, step_commit}
 use Rattle.cat_model.specs.Judge.{changes_of, judge, conflict_at, unless_conflicts}
 use Rattle.cat_model.specs.Maps.{Map, entry_of, after_change}
+use Rattle.cat_model.specs.Records.{with_commit, with_content}
 use Rattle.cat_model.specs.Refusing.{◌>>=◌, Outcome, Tested}
-use Rattle.cat_model.specs.SinglePut.{is_one_put}
-use Rattle.cat_model.specs.State.{State, entry_for}
+use Rattle.cat_model.specs.State.{State, commit_hash, entry_for}
 use Rattle.cat_model.specs.JudgeLaws.{judge-single}
-use Rattle.cat_core.specs.Putting.{IsOnePut, fresh, needs_no_fault, put_fault, put_step}
-
--- the request has one operation, a PUT of a new content at a key of one element, and its content
-pub one_put : (ops : List Op) (contents : List Content) → IsTrue (is_one_put ops contents) → (key : Key) × ((content : Content) × IsOnePut ops contents key content)
-one_put [] contents h = absurd cc
-one_put (Delete key ∷ ops) contents h = absurd cc
-one_put (Unchanged key ∷ ops) contents h = absurd cc
-one_put (Put [] entry fresh ∷ ops) contents h = absurd cc
-one_put (Put (x ∷ y ∷ key) entry fresh ∷ ops) contents h = absurd cc
-one_put (Put (x ∷ []) entry false ∷ ops) contents h = absurd cc
-one_put (Put (x ∷ []) entry true ∷ op ∷ ops) contents h = absurd cc
-one_put (Put (x ∷ []) entry true ∷ []) [] h = absurd cc
-one_put (Put (x ∷ []) entry true ∷ []) (c ∷ d ∷ contents) h = absurd cc
-one_put (Put (x ∷ []) entry true ∷ []) (c ∷ []) h = (x ∷ [], (c, (entry, (refl, refl, (x, refl)))))
+use Rattle.cat_core.specs.Putting.{IsOnePut, fresh, needs_no_fault, put_commit, put_fault, put_step}
 
 -- the request as it is logged
 pub logged_is : (c : CommitRequest) (draft : ℕ) (key : Key) (content : Content) → IsOnePut c.ops c.contents key content
@@ -64,7 +51,13 @@ step_at : (state : State) (c : CommitRequest) (draft moment : ℕ) (branch : Ref
     → step_commit sha256 state c draft moment ≡ put_step state draft moment c.meta branch expected (element ∷ []) content
 unfolding step_commit given_ops request_commit changes_of put_step
 step_at state c draft moment branch expected element content entry ops contents opened =
-    rw (opened, ops, contents) (same_after _ _ _ (inner _ _ element _ _ ∙ same_after _ _ _ (once _ _)))
+    let given = fresh draft content in
+    let commit = put_commit state branch.head moment c.meta (element ∷ []) (entry_for sha256 given) in
+    let fault = needs_no_fault (element ∷ []) (put_fault (entry_of (entries state.commits expected) (element ∷ [])) (entry_of (entries state.commits branch.head) (element ∷ []))) in
+    let adds : State → Outcome = λ held. with_commit sha256 held commit >>= λ more. Ok (committed more (record branch { head = commit_hash sha256 commit }) (Put (element ∷ []) (entry_for sha256 given) true ∷ [])) in
+    rw (opened, ops, contents) (same_after (needs_commit_room state (entries state.commits branch.head) 1) _ _
+    (inner (entries state.commits expected) (entries state.commits branch.head) element (entry_for sha256 given) ((with_content sha256 state given >>= λ more. Ok more) >>= adds)
+    ∙ same_after fault _ _ (once {A = State} (with_content sha256 state given) adds)))
 
 -- the step of such a request, once it is opened
 pub step_is : (state : State) (c : CommitRequest) (draft moment : ℕ) (branch : Reference) (expected : Hash) (key : Key) (content : Content)
