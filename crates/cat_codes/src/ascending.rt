@@ -105,7 +105,7 @@ impl<K: Ord + Clone, V: Clone> Clone for Ascending<K, V> {
 }
 
 /// Whether the key comes after the last one.
-fn comes_after<K: Ord>(last: Option<&K>, key: &K) -> bool
+pub(crate) fn comes_after<K: Ord>(last: Option<&K>, key: &K) -> bool
     ensures { result ≡ follows K.cmp (option_map (λ k. k.now) last.entry) key.now }
 {
     match last {

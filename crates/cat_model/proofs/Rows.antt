@@ -1,3 +1,6 @@
 pub mod Judging
 pub mod Words
 pub mod Calls
+pub mod Reading
+pub mod Logs
+pub mod Limits

@@ -1,5 +1,5 @@
 -- What a changing call does to a catalogue: the test of its draft number, its step, and its entry.
-use Rattle.std.specs.Prelude.{ℕ, ◌+◌, List, [], ◌∷◌, Some, None, Result, Ok, Err, Bool, true, false, nat_lt, if◌then◌else◌}
+use Rattle.std.specs.Prelude.{ℕ, ◌+◌, List, [], ◌∷◌, Some, Result, Ok, Err, Bool, true, false, nat_lt, if◌then◌else◌}
 use Rattle.cat_model.specs.declared.command.Command.{Command}
 use Rattle.cat_model.specs.declared.limits.Quantity.TheVariants.{Drafts}
 use Rattle.cat_model.specs.declared.log_entry.LogEntry.{LogEntry}

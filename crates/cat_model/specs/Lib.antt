@@ -10,6 +10,7 @@ pub mod Maps
 pub mod Chain
 pub mod Namespaces
 pub mod Judge
+pub mod JudgeLaws
 pub mod State
 pub mod Refusing
 pub mod Records
@@ -20,3 +21,11 @@ pub mod Calls
 pub mod Book
 pub mod Script
 pub mod SinglePut
+pub mod Distinct
+pub mod Listing
+pub mod KeySets
+pub mod Changed
+pub mod Drafts
+pub mod Mark
+pub mod Turns
+pub mod TurnLaws

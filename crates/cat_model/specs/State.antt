@@ -1,8 +1,8 @@
 -- The catalogue.
-use Rattle.std.specs.Prelude.{ℕ, ◌+◌, ◌*◌, ◌^◌, List, [], ◌∷◌, Option, is_some, Bool, ◌||◌, if◌then◌else◌, find, map, codes}
+use Rattle.std.specs.Prelude.{ℕ, List, [], ◌∷◌, Option, is_some, Bool, ◌||◌, if◌then◌else◌, find, map, codes}
 use Rattle.std.specs.Str.{bytes_eq}
-use Rattle.std.specs.Int.{w128, to_be_bytes}
 use Rattle.std.specs.Option.{option_map}
+use Rattle.cat_names.specs.Hashes.{id_of_pair}
 use Rattle.cat_names.specs.declared.hash.Hash.{Hash}
 use Rattle.cat_names.specs.declared.hash.ContentId.{ContentId}
 use Rattle.cat_model.specs.declared.commit.Commit.{Commit}
@@ -38,7 +38,7 @@ entry_for digest c = record { kind = body_kind c.body; id = c.id; hash = content
 
 -- the id that a draft gives to the content of its operation of an index
 abbrev pub fresh_id : ℕ → ℕ → ContentId
-fresh_id draft index = record { bytes = to_be_bytes w128 (draft * 2 ^ 64 + index) }
+fresh_id = id_of_pair
 
 -- a state: how many entries its log has, references by ascending names, commits and contents, the newest first
 pub record State : Type 0 where

@@ -1,5 +1,5 @@
 -- Calls that change the catalogue.
-use Rattle.std.specs.Prelude.{ℕ, Option, Some, None, Bool, true, Result, Ok}
+use Rattle.std.specs.Prelude.{ℕ, Option, Some, None, Bool, true, Ok}
 use Rattle.cat_names.specs.declared.hash.Hash.{Hash}
 use Rattle.cat_model.specs.declared.command.Command.{Command}
 use Rattle.cat_model.specs.declared.command.Command.TheVariants as commands

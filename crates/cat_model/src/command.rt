@@ -4,8 +4,8 @@ use crate::commit::Meta;
 use crate::content::Content;
 use crate::op::Op;
 use cat_codes::seq::Seq;
-use cat_codes::text::Text as RefName;
 use cat_names::hash::Hash;
+use cat_names::ref_name::RefName;
 
 /// Commits operations on a branch.
 #[derive(Clone, Debug, PartialEq, Eq, Drop)]

@@ -1,7 +1,7 @@
 //! Named references, and how a request points at a commit.
 
-use cat_codes::text::Text as RefName;
 use cat_names::hash::Hash;
+use cat_names::ref_name::RefName;
 
 /// What may be done with a reference: commits are made on branches alone.
 #[derive(Clone, Copy, Debug, PartialEq, Eq)]

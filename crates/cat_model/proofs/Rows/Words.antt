@@ -1,6 +1,6 @@
 -- Words for worked cases: requests and short forms of replies, with a digest that is quick to compute.
-use Rattle.std.specs.Prelude.{ℕ, ◌+◌, ◌*◌, ◌%◌, List, [], ◌∷◌, Option, Some, None, Result, Ok, Err, Bool, true, false, fold, map, codes, pos}
-use Rattle.std.specs.Option.{option_map_or}
+use Rattle.std.specs.Prelude.{ℕ, ◌+◌, ◌*◌, ◌%◌, List, [], ◌∷◌, Option, Some, None, Result, Ok, Err, true, false, fold, map, codes, pos}
+use Rattle.std.specs.Option.{option_map, option_map_or}
 use Rattle.cat_names.specs.Fields.{Key}
 use Rattle.cat_names.specs.declared.hash.Hash.{Hash}
 use Rattle.cat_names.specs.declared.hash.ContentId.{ContentId}
@@ -24,8 +24,11 @@ use Rattle.cat_model.specs.declared.reply.Reply.TheVariants as replies
 use Rattle.cat_model.specs.declared.reply.Told.{Told}
 use Rattle.cat_model.specs.declared.wanted.Wanted.{Wanted}
 use Rattle.cat_model.specs.declared.wanted.Wanted.TheVariants.{Read, Change}
+use Rattle.cat_model.specs.declared.commit.Commit.{Commit}
+use Rattle.cat_model.specs.Limits.{program_limits}
+use Rattle.cat_model.specs.Chain.{entries, commit_of}
 use Rattle.cat_model.specs.State.{Digest, entry_for, no_ancestor, reference_of}
-use Rattle.cat_model.specs.Script.{Session, script}
+use Rattle.cat_model.specs.Script.{Session, first_session, script}
 
 -- a digest of one number
 abbrev pub quick : Digest
@@ -124,3 +127,52 @@ head s = option_map_or (λ r. r.head) (reference_of s.state.references main) H0
 
 abbrev pub refused_at : ℕ → Key → ConflictKind → Short
 refused_at place key kind = not (Some place) (Conflicts (record { key = Some key; kind = kind } ∷ []))
+
+-- ---- keys and sessions
+
+abbrev pub t1 : Key
+t1 = codes "t1" ∷ []
+
+abbrev pub t2 : Key
+t2 = codes "t2" ∷ []
+
+abbrev pub t9 : Key
+t9 = codes "t9" ∷ []
+
+abbrev pub a : Key
+a = codes "a" ∷ []
+
+abbrev pub a-t : Key
+a-t = codes "a" ∷ codes "t" ∷ []
+
+abbrev pub m1 : List ℕ
+m1 = codes "m1"
+
+abbrev pub empty : Session
+empty = first_session quick program_limits
+
+-- a session on an empty catalogue with other limits
+abbrev pub limited : Limits → Session
+limited = first_session quick
+
+abbrev pub ample : Limits
+ample = program_limits
+
+-- the keys and ids at the head of main
+abbrev pub ids : Session → List (Key × ContentId)
+ids s = map (λ x. (x.0, x.1.id)) (entries s.state.commits (head s))
+
+-- the commit at the head of main
+abbrev pub head_commit : Session → Option Commit
+head_commit s = commit_of s.state.commits (head s)
+
+abbrev pub parent_of_head : Session → Option Hash
+parent_of_head s = option_map (λ c. c.parent) (head_commit s)
+
+-- one table
+abbrev pub one : Session
+one = after empty (put_new None t1 m1 ∷ [])
+
+-- a namespace and a key in it
+abbrev pub both : Request
+both = commit main None (new a (namespace a) ∷ new a-t (table no_id m1) ∷ []) (namespace a ∷ table no_id m1 ∷ [])

@@ -1,5 +1,5 @@
-use Rattle.std.proofs.Common.{◌≡◌, true, sym, ◌∙◌, subst, ap}
-use Rattle.cat_codes.specs.Code.{ascends, follows, last_key}
+use Rattle.std.proofs.Common.{◌≡◌, true, sym, ◌∙◌}
+use Rattle.cat_codes.specs.Code.{follows, last_key}
 use Rattle.cat_codes.proofs.Ascents.{ascends-push}
 use Rattle.cat_codes.proofs.ascending.Ascending.push.Goals as goal
 

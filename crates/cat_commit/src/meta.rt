@@ -1,0 +1,127 @@
+//! What is said of commits, as JSON.
+
+ghost use Rattle.std.specs.Prelude.{◌≡◌, IfOk};
+ghost use Rattle.serde_json.specs.View.{view};
+ghost use Rattle.cat_json.specs.Reading.{Gives};
+ghost use Rattle.cat_json.specs.Writing.{held};
+ghost use Rattle.cat_commit.specs.Metas.{meta_as, meta_members, meta_data, parents_of, commit_meta_data, no_float_meta, no_float_commit_meta};
+
+use crate::instant::InstantForm;
+use cat_codes::ascending::Ascending;
+use cat_codes::fault::NoMemory;
+use cat_codes::seq::Seq;
+use cat_codes::text::Text;
+use cat_json::fault::JsonFault;
+use cat_json::read::{ReadForm, defaulted, optional, required};
+use cat_json::write::{Object, WriteForm};
+use cat_model::commit::{Commit, Meta};
+use cat_names::hash::Hash;
+use serde_json::Value;
+use std::alloc::Global;
+
+/// The meta that JSON gives. `message` is required; `authors`, `allSignedOffBy`, `allProperties`
+/// and `authorTime` may be absent or null.
+#[tactic(auto, unfolding(crate::specs::Metas::meta_as))]
+pub fn meta_from_json(alloc: Global, value: &Value) -> Result<Meta, JsonFault>
+    ensures { Gives result (meta_as (view value.now)) }
+{
+    let message = required::<Text>(alloc, value, "message")?;
+    let none = Seq::new(alloc);
+    let authors = defaulted::<Seq<Text>>(alloc, value, "authors", none)?;
+    let none = Seq::new(alloc);
+    let signed = defaulted::<Seq<Text>>(alloc, value, "allSignedOffBy", none)?;
+    let none = Ascending::new(alloc);
+    let properties = defaulted::<Ascending<Text, Seq<Text>>>(alloc, value, "allProperties", none)?;
+    let author_time = optional::<InstantForm>(alloc, value, "authorTime")?;
+    Ok(Meta {
+        message,
+        authors,
+        signed,
+        properties,
+        author_time,
+    })
+}
+
+fn meta_object(alloc: Global, meta: &Meta) -> Result<Object, NoMemory>
+    ensures { IfOk result (λ o. held o ≡ meta_members meta.now) }
+{
+    Object::new(alloc)
+        .with::<Ascending<Text, Seq<Text>>>("allProperties", &meta.properties)?
+        .with::<Seq<Text>>("allSignedOffBy", &meta.signed)?
+        .with_some::<InstantForm>("authorTime", &meta.author_time)?
+        .with::<Seq<Text>>("authors", &meta.authors)?
+        .with::<Text>("message", &meta.message)
+}
+
+/// A meta as a JSON object, without `authorTime` where it has none.
+pub fn meta_to_json(alloc: Global, meta: &Meta) -> Result<Value, NoMemory>
+    ensures { IfOk result (λ v. view v ≡ meta_data meta.now) }
+{
+    Ok(meta_object(alloc, meta)?.into_value())
+}
+
+/// The form of metas.
+pub struct MetaForm;
+
+impl ReadForm for MetaForm {
+    type Of = Meta;
+
+    ghost reads = { meta_as };
+
+    fn from_json(alloc: Global, value: &Value) -> Result<Meta, JsonFault> {
+        meta_from_json(alloc, value)
+    }
+}
+
+impl WriteForm for MetaForm {
+    type Of = Meta;
+
+    ghost writes = { meta_data };
+
+    ghost no_float = { no_float_meta };
+
+    fn to_json(alloc: Global, value: &Meta) -> Result<Value, NoMemory> {
+        meta_to_json(alloc, value)
+    }
+}
+
+/// The parent, and the merge parent where there is one.
+fn parents(alloc: Global, commit: &Commit) -> Result<Seq<Hash>, NoMemory>
+    ensures { IfOk result (λ hashes. hashes ≡ parents_of commit.now.parent commit.now.merge_parent) }
+{
+    let mut hashes = Seq::new(alloc);
+    hashes.push(commit.parent)?;
+    if let Some(hash) = commit.merge_parent {
+        hashes.push(hash)?;
+    }
+    Ok(hashes)
+}
+
+/// What replies say of a commit: its meta, `commitTime`, `hash` and `parentCommitHashes`.
+pub fn commit_meta_to_json(alloc: Global, hash: &Hash, commit: &Commit) -> Result<Value, NoMemory>
+    ensures { IfOk result (λ v. view v ≡ commit_meta_data hash.now commit.now) }
+{
+    Ok(
+        meta_object(alloc, &commit.meta)?
+            .with::<InstantForm>("commitTime", &commit.time)?
+            .with::<Hash>("hash", hash)?
+            .with::<Seq<Hash>>("parentCommitHashes", &parents(alloc, commit)?)?
+            .into_value(),
+    )
+}
+
+/// The form in replies of commits with their hashes.
+pub struct CommitMetaForm;
+
+impl WriteForm for CommitMetaForm {
+    type Of = (Hash, Commit);
+
+    ghost writes = { λ x. commit_meta_data x.0 x.1 };
+
+    ghost no_float = { λ x. no_float_commit_meta x.0 x.1 };
+
+    fn to_json(alloc: Global, value: &(Hash, Commit)) -> Result<Value, NoMemory> {
+        let (hash, commit) = value;
+        commit_meta_to_json(alloc, hash, commit)
+    }
+}

@@ -1,0 +1,68 @@
+//! Commits and instants against values from outside.
+
+use crate::{CommitMetaForm, MetaForm, from_bytes, id, read_instant, to_bytes, write_instant};
+use cat_codes::fault::FieldFault;
+use cat_json::fault::JsonFault;
+use cat_json::read::from_bytes as read;
+use cat_json::write::to_text;
+use cat_model::moment::Moment;
+use std::test::Fail;
+
+#[test]
+fn a_commit_has_its_bytes_and_their_hash(rt: HostRuntime) -> Result<(), Fail> {
+    let alloc = rt.alloc();
+    let commit = from_bytes(alloc, COMMIT)?;
+    let bytes = to_bytes(alloc, &commit)?;
+    assert!(rt; bytes.as_slice() == COMMIT);
+    let hash = id(alloc, &commit)?;
+    let text = to_text::<CommitMetaForm>(alloc, &(hash, commit))?;
+    assert!(rt; text.as_str() == COMMIT_TEXT);
+    assert!(rt; from_bytes(alloc, b"NC2") == Err(FieldFault::Range));
+    assert!(rt; from_bytes(alloc, b"NC1") == Err(FieldFault::Short));
+    Ok(())
+}
+
+#[test]
+fn instants_are_read_by_jiff_and_written_with_six_digits(rt: HostRuntime) -> Result<(), Fail> {
+    let alloc = rt.alloc();
+    let meta = read::<MetaForm>(alloc, META)?;
+    let text = to_text::<MetaForm>(alloc, &meta)?;
+    assert!(rt; text.as_str() == META_TEXT);
+    assert!(rt; read::<MetaForm>(alloc, b"{}") == Err(JsonFault::Bad));
+    assert!(rt;
+        read::<MetaForm>(alloc, br#"{"message":"","authorTime":"2024-02-03"}"#)
+            == Err(JsonFault::Bad)
+    );
+    for text in [
+        "1969-12-31T23:59:59.9999999Z",
+        "2024-02-03T04:05:06",
+        "9999-12-30T22:00:01Z",
+    ] {
+        assert!(rt; read_instant(text).is_none());
+    }
+    let leap = read_instant("2016-12-31T23:59:60Z");
+    assert!(rt; leap == read_instant("2016-12-31T23:59:59Z"));
+    assert!(rt; leap == Some(Moment::from_micros(1_483_228_799_000_000)));
+    for (micros, text) in [
+        (0, "1970-01-01T00:00:00.000000Z"),
+        (951_782_400_000_001, "2000-02-29T00:00:00.000001Z"),
+        (4_107_542_399_999_999, "2100-02-28T23:59:59.999999Z"),
+        (253_402_207_200_999_999, "9999-12-30T22:00:00.999999Z"),
+    ] {
+        assert!(rt; write_instant(Moment::from_micros(micros)).as_slice() == text.as_bytes());
+    }
+    Ok(())
+}
+
+const META: &[u8] =
+    br#"{"message":"m","authors":["a"],"allSignedOffBy":null,"allProperties":{"q":[],"p":["1","2"]},"authorTime":"2024-02-03T04:05:06.1234567Z"}"#;
+
+const META_TEXT: &str =
+    r#"{"allProperties":{"p":["1","2"],"q":[]},"allSignedOffBy":[],"authorTime":"2024-02-03T04:05:06.123456Z","authors":["a"],"message":"m"}"#;
+
+const COMMIT: &[u8] =
+    b"\x4e\x43\x31\x2e\x1c\xfa\x82\xb0\x35\xc2\x6c\xbb\xbd\xae\x63\x2c\xea\x07\x05\x14\xeb\x8b\x77\x3f\x61\x6a\xae\xaf\x66\x8e\x2f\x0b\xe8\xf1\x0d\x00\x00\x00\x00\x00\x00\x00\x00\x01\x00\x00\x00\x00\x00\x0f\x42\x40\x00\x00\x00\x03\x6f\x6e\x65\x00\x00\x00\x00\x00\x00\x00\x00\x00\x00\x00\x00\x00\x00\x00\x00\x01\x01\x00\x02\x74\x31\x01\x01\x00\x00\x00\x00\x00\x00\x00\x01\x00\x00\x00\x00\x00\x00\x00\x00\xfc\xbe\x22\x8a\xdc\x7d\xb2\xe1\xca\x9c\x94\xf6\x62\xf8\x6c\x55\x25\x03\x8d\xe6\x26\x43\xeb\x70\xd5\xd7\x29\x0d\x91\xfb\xab\x0a";
+
+// with the SHA-256 of the bytes above
+const COMMIT_TEXT: &str =
+    r#"{"allProperties":{},"allSignedOffBy":[],"authors":[],"commitTime":"1970-01-01T00:00:01.000000Z","hash":"f92df14c291c55081a6374c5074b1394016591b1981cd32b3bddb20a3f86d5d4","message":"one","parentCommitHashes":["2e1cfa82b035c26cbbbdae632cea070514eb8b773f616aaeaf668e2f0be8f10d"]}"#;

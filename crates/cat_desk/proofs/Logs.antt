@@ -1,0 +1,116 @@
+-- Logs that go on.
+use Rattle.std.proofs.Common.{◌≡◌, ◌≢◌, ℕ, ◌+◌, ◌<◌, ◌≤◌, List, [], ◌∷◌, ◌++◌, length, sym, ap, ◌∙◌, subst, arith, length-append, cond, max, nat_lt, true, false}
+use Rattle.std.proofs.lemmas.List.{append_assoc, append-nil}
+use mathlib.Core.Logic.{dite}
+use native.Mathlib.Decide.{dec_le}
+use Rattle.std.proofs.lemmas.Bool.Decides.{nat_tests}
+use Rattle.cat_model.specs.declared.log_entry.LogEntry.{LogEntry}
+use Rattle.cat_model.specs.Turns.{Own, Adds}
+use Rattle.cat_desk.specs.Log.{Others, Below, Follows, Missed, Since, longer}
+
+others_more : (n : ℕ) (xs ys : List LogEntry) → Others n xs → Others n ys → Others n (xs ++ ys)
+others_more n [] ys a b = b
+others_more n (x ∷ xs) ys a b = (a.0, others_more n xs ys a.1 b)
+
+below_more : (n : ℕ) (xs ys : List LogEntry) → Below n xs → Below n ys → Below n (xs ++ ys)
+below_more n [] ys a b = b
+below_more n (x ∷ xs) ys a b = (a.0, below_more n xs ys a.1 b)
+
+own_others : (n m : ℕ) (xs : List LogEntry) → m ≢ n → Own n xs → Others m xs
+own_others n m [] ne a = tt
+own_others n m (x ∷ xs) ne a = ((λ e. ne (sym e ∙ a.0)), own_others n m xs ne a.1)
+
+own_below : (n next : ℕ) (xs : List LogEntry) → n < next → Own n xs → Below next xs
+own_below n next [] lt a = tt
+own_below n next (x ∷ xs) lt a = (let e : x.caller ≡ n = a.0 in omega arith, own_below n next xs lt a.1)
+
+below_later : (n m : ℕ) (xs : List LogEntry) → n ≤ m → Below n xs → Below m xs
+below_later n m [] le a = tt
+below_later n m (x ∷ xs) le a = (let b : x.caller < n = a.0 in omega arith, below_later n m xs le a.1)
+
+-- a number that was not given has no entry
+below_others : (n : ℕ) (xs : List LogEntry) → Below n xs → Others n xs
+below_others n [] a = tt
+below_others n (x ∷ xs) a = (let b : x.caller < n = a.0 in (λ (e : x.caller ≡ n). omega arith), below_others n xs a.1)
+
+pub missed_none : (n next : ℕ) (xs : List LogEntry) → Missed n next xs xs
+missed_none n next xs = ([], sym (append-nil xs), tt, tt)
+
+pub missed_follows : (n next : ℕ) (seen log : List LogEntry) → Missed n next seen log → Follows n seen log
+missed_follows n next seen log m = (m.0, m.1, m.2)
+
+-- what another caller adds keeps what a pass has seen a beginning
+pub missed_more : (n m next : ℕ) (seen found log : List LogEntry) → m ≢ n → n < next → Missed m next seen found → Adds n found log → Missed m next seen log
+missed_more n m next seen found log ne lt f a = (
+  f.0 ++ a.0,
+  a.1 ∙ (ap (λ l. l ++ a.0) f.1 ∙ append_assoc seen f.0 a.0),
+  others_more m f.0 a.0 f.2 (own_others n m a.0 ne a.2),
+  below_more next f.0 a.0 f.3 (own_below n next a.0 lt a.2),
+)
+
+pub missed_later : (n next later : ℕ) (seen log : List LogEntry) → next ≤ later → Missed n next seen log → Missed n later seen log
+missed_later n next later seen log le m = (m.0, m.1, m.2, below_later next later m.0 le m.3)
+
+-- the next number to be given has no entry in what a pass has missed
+pub missed_next : (n next : ℕ) (seen log : List LogEntry) → Missed n next seen log → Missed next (next + 1) seen log
+missed_next n next seen log m = (m.0, m.1, below_others next m.0 m.3, below_later next (next + 1) m.0 (omega arith) m.3)
+
+pub since_none : (next : ℕ) (xs : List LogEntry) → Since next xs xs
+since_none next xs = ([], sym (append-nil xs), tt)
+
+pub since_later : (next later : ℕ) (first log : List LogEntry) → next ≤ later → Since next first log → Since later first log
+since_later next later first log le s = (s.0, s.1, below_later next later s.0 le s.2)
+
+pub since_more : (n next : ℕ) (first found log : List LogEntry) → n < next → Since next first found → Adds n found log → Since next first log
+since_more n next first found log lt s a = (s.0 ++ a.0, a.1 ∙ (ap (λ l. l ++ a.0) s.1 ∙ append_assoc first s.0 a.0), below_more next s.0 a.0 s.2 (own_below n next a.0 lt a.2))
+
+-- the next number to be given has no entry since the first
+pub since_next : (next : ℕ) (first log : List LogEntry) → Since next first log → Follows next first log
+since_next next first log s = (s.0, s.1, below_others next s.0 s.2)
+
+pub adds_longer : (n : ℕ) (found log : List LogEntry) → Adds n found log → length found ≤ length log
+adds_longer n found log a = let e : length log ≡ length found + length a.0 = ap length a.1 ∙ length-append found a.0 in omega arith
+
+others_tail : (n : ℕ) (xs ys : List LogEntry) → Others n (xs ++ ys) → Others n ys
+others_tail n [] ys a = a
+others_tail n (x ∷ xs) ys a = others_tail n xs ys a.1
+
+after_first : List LogEntry → List LogEntry
+after_first [] = []
+after_first (x ∷ xs) = xs
+
+-- of two beginnings of one list the longer has less behind it
+overlap : (xs ys a b : List LogEntry) → xs ++ a ≡ ys ++ b → length xs ≤ length ys → (mid : List LogEntry) × (a ≡ mid ++ b)
+unfolding after_first
+overlap [] ys a b e le = (ys, e)
+overlap (x ∷ xs) [] a b e le = absurd (omega arith)
+overlap (x ∷ xs) (y ∷ ys) a b e le = overlap xs ys a b (ap after_first e) (omega arith)
+
+pub longer_cases : (xs ys : List LogEntry) (P : List LogEntry → Type 0) → (length xs < length ys → P ys) → (length ys ≤ length xs → P xs) → P (longer xs ys)
+longer_cases xs ys P more less = dite (dec_le (length ys) (length xs))
+    (λ le. subst (λ b. P (cond b ys xs)) (sym (let not_lt : nat_lt (length xs) (length ys) ≡ false = grind (arith, nat_tests) in not_lt)) (less le))
+    (λ gt. let lt : length xs < length ys = omega arith in subst (λ b. P (cond b ys xs)) (sym (let is : nat_lt (length xs) (length ys) ≡ true = grind (arith, nat_tests) in is)) (more lt))
+
+pub since_longer : (next : ℕ) (first xs ys : List LogEntry) → Since next first xs → Since next first ys → Since next first (longer xs ys)
+since_longer next first xs ys a b = longer_cases xs ys (λ l. Since next first l) (λ _. b) (λ _. a)
+
+pub longer_first : (xs ys : List LogEntry) → length xs ≤ length (longer xs ys)
+longer_first xs ys = longer_cases xs ys (λ l. length xs ≤ length l) (λ lt. omega arith) (λ le. omega arith)
+
+pub longer_second : (xs ys : List LogEntry) → length ys ≤ length (longer xs ys)
+longer_second xs ys = longer_cases xs ys (λ l. length ys ≤ length l) (λ lt. omega arith) (λ le. omega arith)
+
+pub missed_longer : (n m next : ℕ) (xs ys log : List LogEntry) → Missed n next xs log → Missed m next ys log → Missed n next (longer xs ys) log
+missed_longer n m next xs ys log a b = longer_cases xs ys (λ l. Missed n next l log)
+    (λ lt. let o = overlap xs ys a.0 b.0 (sym a.1 ∙ b.1) (omega arith) in (b.0, b.1, others_tail n o.0 b.0 (subst (Others n) o.1 a.2), b.3))
+    (λ _. a)
+
+none_left : (seen rest log : List LogEntry) → log ≡ seen ++ rest → length log ≤ length seen → seen ≡ log
+none_left seen [] log e le = sym (e ∙ append-nil seen)
+none_left seen (x ∷ xs) log e le = let n : length log ≡ length seen + length (x ∷ xs) = ap length e ∙ length-append seen (x ∷ xs) in absurd (omega arith)
+
+pub whole : (n next : ℕ) (seen log : List LogEntry) → Missed n next seen log → length log ≤ length seen → seen ≡ log
+whole n next seen log m le = none_left seen m.0 log m.1 le
+
+pub longer_bound : (xs ys : List LogEntry) (a b : ℕ) → length xs ≤ a → length ys ≤ b → length (longer xs ys) ≤ max a b
+longer_bound xs ys a b p q = longer_cases xs ys (λ l. length l ≤ max a b) (λ _. omega arith) (λ _. omega arith)

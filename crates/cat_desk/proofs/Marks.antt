@@ -1,0 +1,57 @@
+-- Marks that go on, and numbers that were given.
+use Rattle.std.proofs.Common.{◌≡◌, ◌≢◌, ℕ, ◌+◌, ◌<◌, ◌≤◌, sym, refl, ◌∙◌, subst, inl, inr, ⊎_elim, arith, Some}
+use Rattle.cat_model.specs.Drafts.{Open, nothing_open, open_of, LeavesOthers, StaysOpen}
+use Rattle.cat_model.specs.Mark.{FailedAppend, Mark, Grows, Later}
+use Rattle.cat_model.specs.TurnLaws.{grows_self, grows_on, nothing_stays}
+use Rattle.cat_desk.specs.Marks.{Linked, IsGiven, AreGiven}
+
+pub linked_self : (n : ℕ) (a : Mark) → Linked n a a
+linked_self n a = record { grows = grows_self a; own_fault = λ x e _. e; own_draft = λ _. refl }
+
+-- after a turn of another caller
+pub linked_more : (n m : ℕ) (a b c : Mark) → m ≢ n → Linked m a b → Later n b c → Linked m a c
+linked_more n m a b c ne l t = record {
+  grows = grows_on a b c l.grows t.grows;
+  own_fault = λ x e is. ⊎_elim (λ (o : b.fault ≡ Some x). l.own_fault x o is) (λ (o : x.caller ≡ n). absurd (ne (sym is ∙ o))) (t.new_fault x e);
+  own_draft = λ is. ⊎_elim (λ (o : b.draft ≡ c.draft). l.own_draft (t.grows.drafter o ∙ is) ∙ o) (λ (o : c.drafter ≡ n). absurd (ne (sym is ∙ o))) t.new_draft;
+}
+
+pub given_self : (next : ℕ) (a : Mark) → IsGiven next a a
+given_self next a = record { fault = λ x e. inr e; draft = inr refl }
+
+pub given_more : (n next : ℕ) (first a b : Mark) → n < next → IsGiven next first a → Later n a b → IsGiven next first b
+given_more n next first a b lt g t = record {
+  fault = λ x e. ⊎_elim (λ (o : a.fault ≡ Some x). g.fault x o) (λ (o : x.caller ≡ n). inl (subst (λ (k : ℕ). k < next) (sym o) lt)) (t.new_fault x e);
+  draft = ⊎_elim
+      (λ (o : a.draft ≡ b.draft). ⊎_elim (λ (below : a.drafter < next). inl (subst (λ (k : ℕ). k < next) (t.grows.drafter o) below)) (λ (same : first.draft ≡ a.draft). inr (same ∙ o)) g.draft)
+      (λ (o : b.drafter ≡ n). inl (subst (λ (k : ℕ). k < next) (sym o) lt)) t.new_draft;
+}
+
+pub given_later : (next : ℕ) (first a : Mark) → IsGiven next first a → IsGiven (next + 1) first a
+given_later next first a g = record {
+  fault = λ x e. ⊎_elim (λ (lt : x.caller < next). inl (omega arith)) (λ (was : first.fault ≡ Some x). inr was) (g.fault x e);
+  draft = ⊎_elim (λ (lt : a.drafter < next). inl (omega arith)) (λ (same : first.draft ≡ a.draft). inr same) g.draft;
+}
+
+-- a number that wasn't given has no part in the mark since the first
+pub linked_next : (n next : ℕ) (first a b : Mark) → IsGiven next first b → Grows first a → Linked n a b → Linked next a b
+linked_next n next first a b g begun l = record {
+  grows = l.grows;
+  own_fault = λ x e is. ⊎_elim (λ (lt : x.caller < next). absurd (omega arith)) (λ (was : first.fault ≡ Some x). begun.fault x was) (g.fault x e);
+  own_draft = λ is. ⊎_elim (λ (lt : b.drafter < next). absurd (omega arith))
+      (λ (same : first.draft ≡ b.draft). let low : first.draft ≤ a.draft = begun.draft in let high : a.draft ≤ b.draft = l.grows.draft in omega arith) g.draft;
+}
+
+-- the mark of a later turn
+pub linked_later : (n m : ℕ) (a b c : Mark) → Grows a b → Linked n a c → Linked m b c → Linked n b c
+linked_later n m a b c g l k = record {
+  grows = k.grows;
+  own_fault = λ x e is. g.fault x (l.own_fault x e is);
+  own_draft = λ is. let same : a.draft ≡ c.draft = l.own_draft is in let up : a.draft ≤ b.draft = g.draft in let on : b.draft ≤ c.draft = k.grows.draft in omega arith;
+}
+
+pub are_given_later : (next : ℕ) (xs : Open) → AreGiven next xs → AreGiven (next + 1) xs
+are_given_later next xs g m le = g m (omega arith)
+
+pub are_given_more : (n next : ℕ) (xs ys : Open) → n < next → AreGiven next xs → LeavesOthers n xs ys → AreGiven next ys
+are_given_more n next xs ys lt g leaves m le = nothing_stays (open_of m ys) (subst (λ (x : Open). StaysOpen x (open_of m ys)) (g m le) (leaves m (λ e. omega arith)))

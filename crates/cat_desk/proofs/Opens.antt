@@ -1,0 +1,66 @@
+-- The rule holds of a desk that is made.
+use Rattle.std.proofs.Common.{◌≡◌, ◌≢◌, ℕ, zero, suc, ◌+◌, ◌-◌, ◌%◌, ◌^◌, ◌<◌, ◌≤◌, List, [], ◌∷◌, length, get_or, set, eqb, eq-eqb, ne_eqb, cond, sym, refl, ap, ◌∙◌, subst, ⊎_elim, arith, Option, Some, None, le_refl}
+use mathlib.Core.Option.{some, none, some-injective, some-ne-none}
+use native.Mathlib.Nat.{mod-eq_of_lt}
+use mathlib.Core.Option.{Option as Maybe}
+use mathlib.Core.Logic.{dite}
+use native.Mathlib.Decide.{ℕ_discrete}
+use lib.ListN.{get_elem?}
+use lib.Seq.{set-get_or}
+use Rattle.atomic_table.specs.Table.{State, Me, keeps, takes, gives, stepped, opening, Allows}
+use Rattle.atomic_table.proofs.Lists.{at_set, set_else, set_here, one_turn}
+use Rattle.cat_model.specs.declared.log_entry.LogEntry.{LogEntry}
+use Rattle.cat_model.specs.Drafts.{Open, nothing_open, open_of, StaysOpen, LeavesOthers}
+use Rattle.cat_model.specs.Mark.{Mark, Grows, Later}
+use Rattle.cat_model.specs.Turns.{Opened, Adds}
+use Rattle.cat_model.specs.TurnLaws.{grows_self, grows_on, stays_self, stays_on}
+use Rattle.cat_desk.specs.Sight.{Origin, Stage, Idle, Making, Waiting, Called, Holding, Leaving, Spent, View}
+use Rattle.cat_desk.specs.Log.{Follows, Missed, Since}
+use Rattle.cat_desk.specs.Marks.{Linked, IsGiven, AreGiven}
+use Rattle.cat_desk.specs.Rule.{Place, home, unborn, out, IsLive, IsBusy, IsServed, IsAlone, IsMaking, IsUnborn, tickets_of, total, queue, weight, Fits, Turned, SomeoneSaw, Stands, Kept, newcomer, at_stage, waiting, knowing, drew, called, served, met, unnumbered, finding, leaving, Begins, Found, TookAt, took, gave}
+use Rattle.cat_desk.proofs.Logs.{missed_none, missed_follows, missed_more, adds_longer, since_none, since_later, since_more, since_next}
+use Rattle.cat_desk.proofs.Marks.{linked_self, linked_more, given_self, given_more, given_later, are_given_later, are_given_more}
+use Rattle.cat_desk.proofs.Totals.{total_set, total_le, two_of}
+
+module _ {V : Type 0} (log : V → List LogEntry) (opened : V → Opened) (legal : Opened → List LogEntry → Type 0) (mark : V → Mark) (left_open : V → Open) (key : V) where
+  pub opens : (c : ℕ) → legal (opened key) (log key) → left_open key ≡ nothing_open → c ≡ length (log key) → c < 4294967296 → Kept log opened legal mark left_open key (opening (c ∷ 1 ∷ 0 ∷ []) (None ∷ []) (newcomer log opened mark left_open key))
+  opens c ok none_open is small = record {
+    all = log key;
+    tickets = 1;
+    next = 2;
+    keeper = 0;
+    owner = λ _. 0;
+    named = λ _. 0;
+    last = 0;
+    marks = λ _. mark key;
+    opens = left_open key;
+    place = unborn;
+    three = refl;
+    count = is;
+    small = omega arith;
+    drawn = refl;
+    queued = refl;
+    weighs = refl;
+    is_legal = ok;
+    since = since_none 2 (log key);
+    each = first;
+    spent = first_spent;
+    grows = λ i j _ _. grows_self (mark key);
+    first_mark = refl;
+    mark_given = given_self 2 (mark key);
+    opens_given = subst (AreGiven 2) (sym none_open) (λ m le. refl);
+    longest = (0, newcomer log opened mark left_open key, refl, tt, refl, refl);
+    stands = (refl, (newcomer log opened mark left_open key, refl, refl));
+  } where
+    first : (j : ℕ) (d : View) → get_elem? (newcomer log opened mark left_open key ∷ []) j ≡ some d → IsLive d.stage → Fits (opened key, log key) (log key) 1 0 2 0 (λ _. 0) (λ _. 0) (Unit {0}) 0 (λ _. mark key) (left_open key) j d
+    first zero d e _ = subst (λ (x : View). Fits (opened key, log key) (log key) 1 0 2 0 (λ _. 0) (λ _. 0) (Unit {0}) 0 (λ _. mark key) (left_open key) 0 x) (some-injective (newcomer log opened mark left_open key) d e) record {
+      saw = record { based = refl; since = since_none 2 (log key); missed = missed_none 1 2 (log key); least = le_refl (length (log key)); most = le_refl (length (log key)) };
+      numbered = record { own_number = refl; given = omega arith; stands_for = omega arith; may_give = λ _. (refl, refl) };
+      in_line = record { has_ticket = λ _. (omega arith, omega arith, refl); served = λ _. refl; alone = λ _. refl; making = λ _. tt };
+      marked = record { turn = le_refl 0; mark = refl; linked = linked_self 1 (mark key); own = stays_self (open_of 1 (left_open key)); whole = λ _. (refl, refl) };
+    }
+    first (suc j) d e _ = absurd (some-ne-none d (sym e))
+
+    first_spent : (j : ℕ) (d : View) → get_elem? (newcomer log opened mark left_open key ∷ []) j ≡ some d → ¬ IsLive d.stage → tickets_of d.stage ≡ 0
+    first_spent zero d e gone = absurd (gone (subst (λ (x : View). IsLive x.stage) (some-injective (newcomer log opened mark left_open key) d e) tt))
+    first_spent (suc j) d e gone = absurd (some-ne-none d (sym e))

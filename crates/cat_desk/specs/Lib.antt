@@ -1,0 +1,6 @@
+pub mod Log
+pub mod Marks
+pub mod Sight
+pub mod Rule
+pub mod Pass
+pub mod Hold

@@ -1,0 +1,87 @@
+//! A gate that holds calls, for tests.
+ghost use Rattle.std.specs.Prelude.{◌≡◌, ◌≤◌, length};
+ghost use Rattle.cat_desk.specs.Pass.{IsFree, Keeps, seen, known};
+
+use crate::desk::Desk;
+use crate::gate::Gate;
+use crate::pass::Pass;
+use cat_model::logged::Logged;
+use std::sync::Wait;
+
+/// It holds a call until the desk's log has so many entries, for at most so many turns, which it
+/// takes on a pass of its own. It must be ended.
+pub struct Hold<'a, R, V: Logged> {
+    rt: &'a R,
+    desk: &'a Desk<V>,
+    pass: Pass,
+    entries: u32,
+    turns: u32,
+    late: bool,
+}
+
+impl<'a, R, V: Logged> Hold<'a, R, V> {
+    ghost use Rattle.std.specs.Prelude.{◌≡◌};
+    ghost use Rattle.cat_desk.specs.Pass.{IsFree};
+    ghost use Rattle.cat_desk.specs.Hold.{own_pass, own_desk};
+
+    /// A gate over a pass of the desk.
+    pub fn new(rt: &'a R, desk: &'a Desk<V>, pass: Pass, entries: u32, turns: u32) -> Hold<'a, R, V>
+        requires { IsFree desk.now pass }
+        ensures { (own_desk result ≡ desk.now) × (own_pass result ≡ pass) }
+    {
+        Hold {
+            rt,
+            desk,
+            pass,
+            entries,
+            turns,
+            late: false,
+        }
+    }
+
+    /// Gives the pass back, and tells whether every call was held until the entries were there.
+    pub fn end(self) -> (Pass, bool)
+        ensures { result.0 ≡ own_pass self.entry }
+    {
+        let Hold {
+            rt: _,
+            desk: _,
+            pass,
+            entries: _,
+            turns: _,
+            late,
+        } = self;
+        (pass, !late)
+    }
+}
+
+impl<'a, R: Wait, V: Logged> Gate for Hold<'a, R, V> {
+    ghost use Rattle.std.specs.Prelude.{[], ◌∷◌};
+    ghost use Rattle.cat_desk.specs.Pass.{IsFree};
+    ghost use Rattle.cat_desk.specs.Hold.{own_pass, own_desk};
+
+    ghost ready = { λ h. IsFree (own_desk h) (own_pass h) };
+
+    ghost desks = { λ h. own_desk h ∷ [] };
+
+    fn between(&mut self, _pass: &Pass, _attempt: u32) {
+        for _ in 0..self.turns {
+            if count(self.rt, self.desk, &mut self.pass) >= self.entries {
+                return;
+            }
+        }
+        self.late = true;
+    }
+}
+
+/// How many entries the log has, in a turn that does nothing else.
+fn count<R: Wait, V: Logged>(rt: &R, desk: &Desk<V>, pass: &mut Pass) -> u32
+    requires { IsFree desk.now pass.old }
+    ensures kept { Keeps desk.now pass.old pass.new }
+    ensures count { (result ≡ length (seen pass.new)) × (known pass.old ≤ result) }
+{
+    let held = desk.enter(rt, pass);
+    let count = held.value.count();
+    desk.leave(held, pass);
+    count
+}

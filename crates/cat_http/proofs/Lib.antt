@@ -1,0 +1,11 @@
+pub mod BlankLemmas
+pub mod HeadLemmas
+pub mod StreamLemmas
+pub mod NumberLemmas
+pub mod NextLemmas
+pub mod ReadingLemmas
+pub mod PutLemmas
+pub mod OneWay
+pub mod ChunkLemmas
+pub mod ChunkSteps
+pub mod ChunkBuffer

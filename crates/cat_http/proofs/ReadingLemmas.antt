@@ -1,0 +1,46 @@
+-- From what the buffer's bytes say to what callers see.
+use Rattle.std.proofs.Common.{arith, ◌≡◌, ℕ, ◌+◌, ◌-◌, ◌≤◌, List, ◌++◌, length, take, drop, sym, ap, ◌∙◌, length-drop, subst}
+use Rattle.std.specs.Prelude.{Option, Some, None, slice_range}
+use Rattle.std.specs.List.{copy_within}
+use Rattle.std.proofs.lemmas.List.{take_at, length-take-le}
+use Rattle.httparse.specs.declared.spans.HeaderSpan.{HeaderSpan}
+use Rattle.httparse.specs.declared.spans.RequestSpans.{RequestSpans}
+use Rattle.cat_http.specs.Message.{Buffered, message_at}
+use Rattle.cat_http.specs.Next.{IsRequest, IsMalformed}
+use Rattle.cat_http.specs.Outcome.{OutcomeOf}
+use Rattle.cat_http.specs.Reading.{IncomingOf}
+use Rattle.cat_http.specs.declared.next.Outcome.TheVariants as outcome
+use Rattle.cat_http.specs.declared.buffer.Incoming.TheVariants as incoming
+
+-- what was moved to the front
+pub moved : (bytes new : List ℕ) (i j : ℕ) → i ≤ j → j ≤ length bytes → new ≡ copy_within bytes i j 0 → take (j - i) new ≡ slice_range bytes i j
+moved bytes new i j order within is =
+    let part : length (take (j - i) (drop i bytes)) ≡ j - i = length-take-le (j - i) (drop i bytes) (omega (arith, length-drop i bytes)) in
+    ap (take (j - i)) is ∙ take_at (take (j - i) (drop i bytes)) (drop (0 + (j - i)) bytes) (j - i) part
+
+pub incoming_request : (old new : Option (List ℕ)) (before : Buffered) (seen bytes bytes' : List ℕ) (hs hs' : List HeaderSpan) (head : RequestSpans) (stop next end : ℕ)
+    → seen ≡ before.unread → OutcomeOf (outcome.Request head stop next) old new seen bytes hs end → bytes' ≡ bytes → hs' ≡ hs
+    → IncomingOf incoming.Request old before new (record { message = message_at bytes' hs' head stop; unread = slice_range bytes' next end })
+incoming_request None new before seen bytes bytes' hs hs' head stop next end same is eb eh = tt
+incoming_request (Some xs) None before seen bytes bytes' hs hs' head stop next end same is eb eh = is
+incoming_request (Some xs) (Some ys) before seen bytes bytes' hs hs' head stop next end same is eb eh =
+    let one : IsRequest (before.unread ++ xs) (message_at bytes hs head stop) (slice_range bytes next end ++ ys) =
+    subst (λ s. IsRequest (s ++ xs) (message_at bytes hs head stop) (slice_range bytes next end ++ ys)) same is in
+    let two : IsRequest (before.unread ++ xs) (message_at bytes' hs head stop) (slice_range bytes' next end ++ ys) =
+    subst (λ b. IsRequest (before.unread ++ xs) (message_at b hs head stop) (slice_range b next end ++ ys)) (sym eb) one in
+    subst (λ h. IsRequest (before.unread ++ xs) (message_at bytes' h head stop) (slice_range bytes' next end ++ ys)) (sym eh) two
+
+pub incoming_malformed : (old new : Option (List ℕ)) (before now : Buffered) (seen bytes : List ℕ) (hs : List HeaderSpan) (end : ℕ)
+    → seen ≡ before.unread → OutcomeOf outcome.Malformed old new seen bytes hs end → IncomingOf incoming.BadHead old before new now
+incoming_malformed None new before now seen bytes hs end same is = tt
+incoming_malformed (Some xs) None before now seen bytes hs end same is = is
+incoming_malformed (Some xs) (Some ys) before now seen bytes hs end same is = subst (λ s. IsMalformed (s ++ xs)) same is
+
+-- the unread bytes stand at the front
+pub compacted : (items first new second unread : List ℕ) (i j len : ℕ) → i ≤ j → j ≤ length items → len ≡ length items → first ≡ items
+    → new ≡ copy_within first i j 0 → length new ≡ length first → second ≡ take len (new ++ drop (length new) items) → slice_range items i j ≡ unread
+    → take (j - i) second ≡ unread
+compacted items first new second unread i j len order within all same is kept writes shows =
+    let whole : second ≡ new = writes ∙ take_at new (drop (length new) items) len (omega (arith, ap length same)) in
+    let front : take (j - i) new ≡ slice_range items i j = moved items new i j order within (is ∙ ap (λ xs. copy_within xs i j 0) same) in
+    ap (take (j - i)) whole ∙ front ∙ shows

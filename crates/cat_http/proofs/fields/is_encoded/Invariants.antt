@@ -1,0 +1,8 @@
+use Rattle.std.proofs.Common.{◌≡◌, map, drop}
+use Rattle.httparse.specs.Spans.{header_bytes}
+use Rattle.cat_http.specs.Fields.{is_encoded}
+use Rattle.cat_http.proofs.fields.is_encoded.Given as goal
+
+-- the rest of the fields decides
+abbrev pub invariant-loop-header : goal.invariant-loop-header
+invariant-loop-header l = is_encoded (map (header_bytes l.bytes) (drop l.header-index l.headers)) ≡ is_encoded (map (header_bytes l.bytes) l.headers)

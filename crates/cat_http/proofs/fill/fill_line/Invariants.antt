@@ -1,0 +1,18 @@
+use Rattle.std.proofs.Common.{◌≡◌, ◌-◌, ◌≤◌, length, take}
+use Rattle.cat_http.specs.Streams.{KeepsStream}
+use Rattle.cat_http.proofs.fill.fill_line.Given as goal
+
+abbrev pub invariant-reads : goal.invariant-reads
+invariant-reads g l = record {
+  within : l.end ≤ length l.bytes;
+  len : length l.bytes ≡ length l.fn.bytes;
+  grows : l.fn.end ≤ l.end;
+  first : l.first ≡ l.fn.end;
+  some : l.end ≤ l.limit;
+  later : g.S.Source.faults l.fn.source ≤ g.S.Source.faults l.source;
+  front : take l.fn.end l.bytes ≡ take l.fn.end l.fn.bytes;
+  stream : KeepsStream (g.S.Source.left l.fn.source) (g.S.Source.left l.source) (take l.fn.end l.fn.bytes) (take l.end l.bytes);
+}
+
+abbrev pub decreases-reads : goal.decreases-reads
+decreases-reads g l = length l.bytes - l.end

@@ -1,0 +1,14 @@
+pub mod Blank
+pub mod Buffer
+pub mod Chunked
+pub mod ChunkedRead
+pub mod Fields
+pub mod Head
+pub mod Message
+pub mod Next
+pub mod Outcome
+pub mod Reading
+pub mod Reply
+pub mod Request
+pub mod Streams
+pub mod Writing

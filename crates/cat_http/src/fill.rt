@@ -1,0 +1,100 @@
+ghost use Rattle.std.specs.Prelude.{◌≡◌, ◌<◌, ◌≤◌, length, take};
+ghost use Rattle.cat_io.specs.Causes.{Rose};
+ghost use Rattle.std.specs.Io.KnownBytes.{IsAtEnd};
+ghost use Rattle.cat_http.specs.Streams.{KeepsStream};
+
+use cat_io::Source;
+
+/// What one read gave.
+#[derive(Clone, Copy, Debug, PartialEq, Eq)]
+pub enum Filled {
+    More,
+    End,
+    Fault,
+}
+
+/// Reads once behind the first `end` bytes.
+pub fn fill<S: Source>(source: &mut S, bytes: &mut [u8], end: &mut usize) -> Filled
+    requires { end.old < length bytes.old }
+    ensures grows { end.old ≤ end.new }
+    ensures within { end.new ≤ length bytes.new }
+    ensures more { result ≡ Filled.More → end.old < end.new }
+    ensures ends { result ≡ Filled.End → IsAtEnd (S.left source.new) × (end.new ≡ end.old) }
+    ensures fault { result ≡ Filled.Fault → Rose (S.faults source.old) (S.faults source.new) }
+    ensures later { S.faults source.old ≤ S.faults source.new }
+    ensures front { take end.old bytes.new ≡ take end.old bytes.old }
+    ensures stream { KeepsStream (S.left source.old) (S.left source.new) (take end.old bytes.old) (take end.new bytes.new) }
+{
+    match source.read(&mut bytes[*end..]) {
+        Ok(0) => Filled::End,
+        Ok(count) => {
+            *end += count;
+            Filled::More
+        }
+        Err(_) => Filled::Fault,
+    }
+}
+
+/// Reads until there are `need` bytes.
+pub fn read_until<S: Source>(
+    source: &mut S,
+    bytes: &mut [u8],
+    end: &mut usize,
+    need: usize,
+) -> Filled
+    requires room { need ≤ length bytes.old }
+    requires filled { end.old ≤ length bytes.old }
+    ensures grows { end.old ≤ end.new }
+    ensures within { end.new ≤ length bytes.new }
+    ensures more { result ≡ Filled.More → need ≤ end.new }
+    ensures ends { result ≡ Filled.End → IsAtEnd (S.left source.new) × (end.new < need) }
+    ensures fault { result ≡ Filled.Fault → Rose (S.faults source.old) (S.faults source.new) }
+    ensures later { S.faults source.old ≤ S.faults source.new }
+    ensures front { take end.old bytes.new ≡ take end.old bytes.old }
+    ensures stream { KeepsStream (S.left source.old) (S.left source.new) (take end.old bytes.old) (take end.new bytes.new) }
+{
+    'reads: while *end < need {
+        match fill(source, bytes, end) {
+            Filled::More => {}
+            other => return other,
+        }
+    }
+    Filled::More
+}
+
+/// Reads until a line feed has come, or more than `limit` bytes are there: a line that comes in
+/// small pieces isn't to be parsed at each of them.
+pub fn fill_line<S: Source>(
+    source: &mut S,
+    bytes: &mut [u8],
+    end: &mut usize,
+    limit: usize,
+) -> Filled
+    requires some { end.old ≤ limit }
+    requires room { limit < length bytes.old }
+    ensures grows { end.old ≤ end.new }
+    ensures within { end.new ≤ length bytes.new }
+    ensures more { result ≡ Filled.More → end.old < end.new }
+    ensures ends { result ≡ Filled.End → IsAtEnd (S.left source.new) × (end.new ≡ end.old) }
+    ensures fault { result ≡ Filled.Fault → Rose (S.faults source.old) (S.faults source.new) }
+    ensures later { S.faults source.old ≤ S.faults source.new }
+    ensures front { take end.old bytes.new ≡ take end.old bytes.old }
+    ensures stream { KeepsStream (S.left source.old) (S.left source.new) (take end.old bytes.old) (take end.new bytes.new) }
+{
+    let first = *end;
+    'reads: loop {
+        let before = *end;
+        match fill(source, bytes, end) {
+            Filled::More => {}
+            Filled::End if before > first => return Filled::More,
+            other => return other,
+        }
+        if *end > limit || has_line_feed(&bytes[before..*end]) {
+            return Filled::More;
+        }
+    }
+}
+
+fn has_line_feed(bytes: &[u8]) -> bool {
+    bytes.contains(&b'\n')
+}

@@ -1,0 +1,67 @@
+ghost use Rattle.std.specs.Prelude.{◌≡◌, ◌<◌, ◌≤◌, length, take};
+ghost use Rattle.std.specs.Io.KnownBytes.{IsAtEnd};
+ghost use Rattle.cat_io.specs.Causes.{Rose};
+ghost use Rattle.cat_http.specs.Outcome.{OutcomeFits, OutcomeOf};
+
+use crate::chunked::{ChunkedRead, read_chunks};
+use crate::fields::{BodyLength, body_length};
+use crate::fill::{Filled, read_until};
+use crate::head::{HeadRead, read_head};
+use cat_io::Source;
+use httparse::spans::{HeaderSpan, RequestSpans};
+
+/// How many bytes a buffer has: those of a head and of a body in chunks, and two more.
+pub const BUFFER_LEN: usize = 2113538;
+
+/// What reading a request gave.
+#[derive(Clone, Copy, Debug, PartialEq, Eq)]
+pub enum Outcome {
+    /// The head, where the body ends, and where the next bytes stand.
+    Request(RequestSpans, usize, usize),
+    End,
+    Malformed,
+    TooLarge,
+    Fault,
+}
+
+/// Reads until the bytes begin with a request.
+pub fn read_next<S: Source>(
+    source: &mut S,
+    bytes: &mut [u8],
+    headers: &mut [HeaderSpan],
+    end: &mut usize,
+) -> Outcome
+    requires room { length bytes.old ≡ 2113538 }
+    requires filled { end.old ≤ length bytes.old }
+    requires slots { length headers.old ≡ 64 }
+    ensures within { end.new ≤ length bytes.new }
+    ensures fits { OutcomeFits result bytes.new headers.new end.new }
+    ensures is { OutcomeOf result (S.left source.old) (S.left source.new) (take end.old bytes.old) bytes.new headers.new end.new }
+    ensures ends { result ≡ Outcome.End → IsAtEnd (S.left source.new) }
+    ensures fault { result ≡ Outcome.Fault → Rose (S.faults source.old) (S.faults source.new) }
+    ensures later { S.faults source.old ≤ S.faults source.new }
+{
+    let head = match read_head(source, bytes, headers, end) {
+        HeadRead::Found(head) => head,
+        HeadRead::End => return Outcome::End,
+        HeadRead::Malformed => return Outcome::Malformed,
+        HeadRead::Fault => return Outcome::Fault,
+    };
+    let body = match body_length(&bytes[..*end], &headers[..head.headers]) {
+        BodyLength::Bytes(count) => count,
+        BodyLength::Chunked => return match read_chunks(source, bytes, end, head.len) {
+            ChunkedRead::Whole(kept, at) => Outcome::Request(head, head.len + kept, at),
+            ChunkedRead::Malformed => Outcome::Malformed,
+            ChunkedRead::TooLarge => Outcome::TooLarge,
+            ChunkedRead::Fault => Outcome::Fault,
+        },
+        BodyLength::Malformed => return Outcome::Malformed,
+        BodyLength::Excess => return Outcome::TooLarge,
+    };
+    let stop = head.len + body;
+    match read_until(source, bytes, end, stop) {
+        Filled::More => Outcome::Request(head, stop, stop),
+        Filled::End => Outcome::Malformed,
+        Filled::Fault => Outcome::Fault,
+    }
+}

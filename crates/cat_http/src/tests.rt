@@ -1,0 +1,155 @@
+use crate::{Body, Buffer, Incoming, Response, WriteFault, read_request, write_reply};
+use cat_io::{MemorySink, MemorySource};
+use http::StatusCode;
+use std::alloc::Global;
+use std::test::Fail;
+
+const COMMIT: &str =
+    "{\"commitMeta\":{\"message\":\"one\"},\"operations\":[{\"type\":\"PUT\",\"key\":{\"elements\":[\"t1\"]},\"content\":{\"type\":\"ICEBERG_TABLE\",\"metadataLocation\":\"m1\",\"snapshotId\":1,\"schemaId\":0,\"specId\":0,\"sortOrderId\":0}}]}";
+
+const CONFIG: &str =
+    "{\"actualApiVersion\":2,\"defaultBranch\":\"main\",\"maxSupportedApiVersion\":2,\"minSupportedApiVersion\":2,\"noAncestorHash\":\"2e1cfa82b035c26cbbbdae632cea070514eb8b773f616aaeaf668e2f0be8f10d\"}";
+
+fn source(alloc: Global, text: &str, piece: usize) -> Result<MemorySource, Fail> {
+    let mut bytes = Vec::new(alloc);
+    bytes.extend_from_slice(text.as_bytes())?;
+    Ok(MemorySource::new(bytes, piece.max(1), Vec::new(alloc)))
+}
+
+fn config(alloc: Global, status: StatusCode, head_only: bool) -> Result<Response, Fail> {
+    let mut body = Vec::new(alloc);
+    body.extend_from_slice(CONFIG.as_bytes())?;
+    Ok(Response {
+        status,
+        allow: Some("GET, HEAD").filter(|_| status == StatusCode::METHOD_NOT_ALLOWED),
+        place: Some(0),
+        close: head_only,
+        head_only,
+        body: Body::Bytes(body),
+    })
+}
+
+#[test]
+fn requests_in_any_pieces_keep_what_follows(rt: HostRuntime) -> Result<(), Fail> {
+    let text = format!(in rt.alloc();
+        "\r\nPOST /a HTTP/1.1\r\ntransfer-encoding: Chunked\r\n\r\nca\r\n{COMMIT}\r\n0\r\n\r\nGET /b HTTP/1.0\n\n\r\n"
+    )?;
+    for piece in [1, 7, 1000] {
+        let mut from = source(rt.alloc(), text.as_str(), piece)?;
+        let mut buffer = Buffer::new(rt.alloc())?;
+        assert_eq!(rt; read_request(&mut from, &mut buffer), Incoming::Request);
+        let first = buffer.request();
+        assert_eq!(rt; first.method(), b"POST".as_slice());
+        assert_eq!(rt; first.body(), COMMIT.as_bytes());
+        assert_eq!(rt;
+            first.field(b"Transfer-Encoding"),
+            Some(b"Chunked".as_slice())
+        );
+        assert!(rt; !first.closes());
+        assert_eq!(rt; read_request(&mut from, &mut buffer), Incoming::Request);
+        let second = buffer.request();
+        assert_eq!(rt; second.target(), b"/b".as_slice());
+        assert_eq!(rt; second.minor(), 0);
+        assert!(rt; second.closes());
+        assert_eq!(rt; read_request(&mut from, &mut buffer), Incoming::End);
+    }
+    Ok(())
+}
+
+#[test]
+fn a_stream_without_a_request_ends_or_is_refused(rt: HostRuntime) -> Result<(), Fail> {
+    let table = [
+        ("", Incoming::End),
+        ("\r\n\n\r\n", Incoming::End),
+        ("\r", Incoming::BadHead),
+        ("GET /api/v2/conf", Incoming::BadHead),
+        (
+            "GET / HTTP/1.1\r\nContent-Length: 1048577\r\n\r\n",
+            Incoming::TooLarge,
+        ),
+        (
+            "GET / HTTP/1.1\r\nContent-Length: 99999999999999999999\r\n\r\n",
+            Incoming::TooLarge,
+        ),
+        (
+            "GET / HTTP/1.1\r\nContent-Length: 5\r\nContent-Length: 05\r\n\r\nabcde",
+            Incoming::BadHead,
+        ),
+        (
+            "GET / HTTP/1.1\r\nContent-Length: +5\r\n\r\nabcde",
+            Incoming::BadHead,
+        ),
+        (
+            "GET / HTTP/1.1\r\nContent-Length: 2\r\n\r\na",
+            Incoming::BadHead,
+        ),
+        (
+            "GET / HTTP/1.1\r\nContent-Length: 2000000\r\nTransfer-Encoding: chunked\r\n\r\n",
+            Incoming::BadHead,
+        ),
+        (
+            "GET / HTTP/1.1\r\nTransfer-Encoding: chunked\r\nTransfer-Encoding: chunked\r\n\r\n0\r\n\r\n",
+            Incoming::BadHead,
+        ),
+        (
+            "GET / HTTP/1.1\r\nTransfer-Encoding: gzip\r\n\r\n",
+            Incoming::BadHead,
+        ),
+        (
+            "GET / HTTP/1.1\r\nTransfer-Encoding: chunked\r\n\r\n100001\r\n",
+            Incoming::TooLarge,
+        ),
+        (
+            "GET / HTTP/1.1\r\nTransfer-Encoding: chunked\r\n\r\n3\nabc\r\n0\r\n\r\n",
+            Incoming::BadHead,
+        ),
+        (
+            "GET / HTTP/1.1\r\nTransfer-Encoding: chunked\r\n\r\n0\r\nA: b\r\n\r\n",
+            Incoming::BadHead,
+        ),
+    ];
+    for (text, answer) in table {
+        let mut from = source(rt.alloc(), text, 9)?;
+        let mut buffer = Buffer::new(rt.alloc())?;
+        assert_eq!(rt; read_request(&mut from, &mut buffer), answer);
+    }
+    Ok(())
+}
+
+#[test]
+fn the_config_reply_is_these_bytes(rt: HostRuntime) -> Result<(), Fail> {
+    let mut sink = MemorySink::new(rt.alloc(), 1000, Vec::new(rt.alloc()))?;
+    let reply = config(rt.alloc(), StatusCode::OK, false)?;
+    assert_eq!(rt; write_reply(&mut sink, &reply), Ok(()));
+    let text = format!(in rt.alloc();
+        "HTTP/1.1 200 OK\r\nContent-Type: application/json\r\nCatalogue-Place: 0\r\nContent-Length: 183\r\n\r\n{CONFIG}"
+    )?;
+    assert_eq!(rt; sink.bytes(), text.as_bytes());
+    let mut small = MemorySink::new(rt.alloc(), 20, Vec::new(rt.alloc()))?;
+    assert_eq!(rt; write_reply(&mut small, &reply), Err(WriteFault));
+    Ok(())
+}
+
+#[test]
+fn replies_to_head_have_no_length(rt: HostRuntime) -> Result<(), Fail> {
+    let mut sink = MemorySink::new(rt.alloc(), 1000, Vec::new(rt.alloc()))?;
+    let reply = config(rt.alloc(), StatusCode::METHOD_NOT_ALLOWED, true)?;
+    assert_eq!(rt; write_reply(&mut sink, &reply), Ok(()));
+    let head =
+        "HTTP/1.1 405 Method Not Allowed\r\nContent-Type: application/json\r\nAllow: GET, HEAD\r\nCatalogue-Place: 0\r\nConnection: close\r\n\r\n";
+    assert_eq!(rt; sink.bytes(), head.as_bytes());
+    Ok(())
+}
+
+#[test]
+fn want_of_memory_is_told_by_a_fixed_text(rt: HostRuntime) -> Result<(), Fail> {
+    let mut sink = MemorySink::new(rt.alloc(), 1000, Vec::new(rt.alloc()))?;
+    assert_eq!(rt;
+        write_reply(&mut sink, &Response::no_memory(false, false)),
+        Ok(())
+    );
+    let text =
+        "HTTP/1.1 507 Insufficient Storage\r\nContent-Type: application/json\r\nContent-Length: 92\r\n\r\n{\"errorCode\":\"NO_MEMORY\",\"message\":\"no memory\",\"reason\":\"Insufficient Storage\",\"status\":507}";
+    assert_eq!(rt; sink.bytes(), text.as_bytes());
+    Ok(())
+}

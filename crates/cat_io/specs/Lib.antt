@@ -1,0 +1,5 @@
+pub mod Absent
+pub mod Causes
+pub mod Clocks
+pub mod Memory
+pub mod Standard

@@ -1,0 +1,51 @@
+-- The mark: what is kept beside the log of faults, sweeps and drafts.
+use Rattle.std.specs.Prelude.{◌≡◌, ℕ, ◌≤◌, max, ◌⊎◌, Option, Some, None}
+use Rattle.cat_model.specs.Drafts.{Opening}
+
+-- whose append failed, and how many entries there were
+pub record FailedAppend : Type 0 where
+  pub caller : ℕ
+  pub count : ℕ
+
+-- a sweep that was closed, with how many names it had
+pub record ClosedSweep : Type 0 where
+  pub opening : Opening
+  pub names : ℕ
+
+-- the one append that failed; the open sweep and the last closed one; the last draft number and who took it (0: the opened journal); the last draft that was dropped, and the last that was refused as Expired
+pub record Mark : Type 0 where
+  pub fault : Option FailedAppend
+  pub sweep : Option Opening
+  pub closed : Option ClosedSweep
+  pub draft : ℕ
+  pub drafter : ℕ
+  pub dropped : Option Opening
+  pub expired : Option Opening
+
+abbrev pub no_mark : Mark
+no_mark = record { fault = None; sweep = None; closed = None; draft = 0; drafter = 0; dropped = None; expired = None }
+
+abbrev pub open_number : Option Opening → ℕ
+open_number None = 0
+open_number (Some o) = o.number
+
+abbrev pub closed_number : Option ClosedSweep → ℕ
+closed_number None = 0
+closed_number (Some s) = s.opening.number
+
+-- the greatest number of a sweep in a mark, 0 where there is none
+abbrev pub last_sweep : Mark → ℕ
+last_sweep m = max (open_number m.sweep) (closed_number m.closed)
+
+-- what is true of a mark and any later one: a fault is kept, the last numbers don't fall, and a last draft number that stays keeps its caller
+pub record Grows (a b : Mark) : Type 0 where
+  pub fault : (x : FailedAppend) → a.fault ≡ Some x → b.fault ≡ Some x
+  pub draft : a.draft ≤ b.draft
+  pub drafter : a.draft ≡ b.draft → a.drafter ≡ b.drafter
+  pub sweep : last_sweep a ≤ last_sweep b
+
+-- what a turn of a caller makes of a mark: a fault or a last draft number that is new is the caller's
+pub record Later (caller : ℕ) (a b : Mark) : Type 0 where
+  pub grows : Grows a b
+  pub new_fault : (x : FailedAppend) → b.fault ≡ Some x → (a.fault ≡ Some x) ⊎ (x.caller ≡ caller)
+  pub new_draft : (a.draft ≡ b.draft) ⊎ (b.drafter ≡ caller)

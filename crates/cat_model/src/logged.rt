@@ -1,0 +1,24 @@
+//! A value that stands for a log.
+ghost use Rattle.std.specs.Prelude.{◌≡◌, List, length};
+ghost use Rattle.cat_model.specs.declared.log_entry.LogEntry.{LogEntry};
+ghost use Rattle.cat_model.specs.Drafts.{Open};
+ghost use Rattle.cat_model.specs.Mark.{Mark};
+ghost use Rattle.cat_model.specs.Turns.{Opened};
+
+/// A value that stands for a list of log entries, the oldest first. Contracts see the log, what it
+/// starts from, which logs are legal, the mark that is kept beside the log, and what is open.
+pub trait Logged {
+    ghost log: { Self → List LogEntry };
+
+    ghost opened: { Self → Opened };
+
+    ghost legal: { Opened → List LogEntry → Type 0 };
+
+    ghost mark: { Self → Mark };
+
+    ghost left_open: { Self → Open };
+
+    /// The number of entries.
+    fn count(&self) -> u32
+        ensures { result ≡ length (log self.now) };
+}

@@ -1,0 +1,45 @@
+-- References and keys in paths.
+use Rattle.std.specs.Prelude.{ℕ, ◌==◌, List, Option, Some, None, is_some, Bool, bytes_eq, if◌then◌else◌, codes}
+use Rattle.std.specs.List.{before_first, after_first, position}
+use Rattle.std.specs.Str.{is_utf8}
+use Rattle.percent_encoding.specs.Percent.{percent_decode}
+use Rattle.cat_json.specs.Names.{made}
+use Rattle.cat_json.specs.Reading.{◌>>=◌}
+use Rattle.cat_names.specs.Fields.{Key, key_of, pieces}
+use Rattle.cat_names.specs.Hashes.{hash_of}
+use Rattle.cat_names.specs.RefNames.{is_reference_name}
+use Rattle.cat_rest.specs.declared.path.PathReference.{PathReference}
+
+-- a parameter without its escapes, where that is a text
+abbrev pub decoded : List ℕ → Option (List ℕ)
+decoded part = if is_utf8 (percent_decode part) then Some (percent_decode part) else None
+
+abbrev pub name_of : List ℕ → Option (List ℕ)
+name_of text = if is_reference_name text then Some text else None
+
+-- `-` is the default branch
+abbrev pub name_in : List ℕ → Option (List ℕ)
+name_in text = name_of (if bytes_eq text (codes "-") then codes "main" else text)
+
+abbrev pub is_at : ℕ → Bool
+is_at byte = byte == 64
+
+-- a name, or a name, `@` and a hash
+unfoldable pub reference_in : List ℕ → Option PathReference
+reference_in text =
+    if is_some (position is_at text) then
+    (name_in (before_first is_at text) >>= λ name.
+    hash_of (after_first is_at text) >>= λ hash.
+    Some (record { name = name; hash = Some hash }))
+    else (name_in text >>= λ name. Some (record { name = name; hash = None }))
+
+-- the reference that a parameter stands for
+abbrev pub reference_at : Option (List ℕ) → Option PathReference
+reference_at part = part >>= decoded >>= reference_in
+
+abbrev pub key_in : List ℕ → Option Key
+key_in path = made (key_of (pieces path))
+
+-- the key that a parameter stands for
+abbrev pub key_at : Option (List ℕ) → Option Key
+key_at part = part >>= decoded >>= key_in

@@ -1,0 +1,19 @@
+//! Requests as what they want of the catalogue, and its answers as JSON. What a request wants, or the
+//! refusal of one that has no reading, is one function of its method, target, fields and body; each
+//! reply and each refusal has one text.
+#![tactic(auto)]
+
+mod command;
+mod commit;
+mod path;
+mod refusal;
+mod reply;
+#[cfg(test)]
+mod tests;
+mod wording;
+
+pub use cat_routes::Routes;
+pub use command::to_command;
+pub use refusal::refusal_to_json;
+pub use reply::to_json;
+pub use wording::status_of;

@@ -1,0 +1,127 @@
+//! References and keys in paths.
+
+ghost use Rattle.std.specs.Prelude.{option_map};
+ghost use Rattle.cat_rest.specs.Faults.{GivesPath, GivesText, BecomesRefused, NameBecomes, KeyBecomes};
+ghost use Rattle.cat_rest.specs.Paths.{decoded, name_in, reference_in, reference_at, key_at};
+
+use cat_model::refusal::{Reason, Refusal, Refused};
+use cat_names::hash::Hash;
+use cat_names::key::ContentKey;
+use cat_names::key_fault::KeyFault;
+use cat_names::name_fault::NameFault;
+use cat_names::ref_name::RefName;
+use percent_encoding::{DecodeError, percent_decode_str};
+use std::alloc::Global;
+use std::borrow::CowStr;
+
+/// Why a parameter of a path has no reading.
+#[derive(Clone, Copy, Debug, PartialEq, Eq)]
+pub enum PathFault {
+    Bad,
+    NoMemory,
+}
+
+/// A reference of a path, and the hash behind its `@`.
+#[derive(Debug, PartialEq, Eq, Drop)]
+pub struct PathReference {
+    pub name: RefName,
+    pub hash: Option<Hash>,
+}
+
+impl From<PathFault> for Refused {
+    ghost from_gives = { BecomesRefused };
+
+    fn from(fault: PathFault) -> Refused {
+        let why = match fault {
+            PathFault::Bad => Refusal::BadRequest(Reason::BadPath),
+            PathFault::NoMemory => Refusal::NoMemory,
+        };
+        Refused { place: None, why }
+    }
+}
+
+impl From<NameFault> for PathFault {
+    ghost from_gives = { NameBecomes };
+
+    fn from(fault: NameFault) -> PathFault {
+        match fault {
+            NameFault::Bad => PathFault::Bad,
+            NameFault::NoMemory => PathFault::NoMemory,
+        }
+    }
+}
+
+impl From<KeyFault> for PathFault {
+    ghost from_gives = { KeyBecomes };
+
+    fn from(fault: KeyFault) -> PathFault {
+        match fault {
+            KeyFault::NoMemory => PathFault::NoMemory,
+            _ => PathFault::Bad,
+        }
+    }
+}
+
+// A parameter without its escapes.
+#[tactic(auto, using(cat_json::proofs::Utf8::utf8))]
+fn decoded(alloc: Global, part: &str) -> Result<CowStr<'_, Global>, PathFault>
+    ensures { GivesText result (decoded part.now) }
+{
+    match percent_decode_str(part).decode_utf8(alloc) {
+        Ok(text) => Ok(text),
+        Err(DecodeError::OutOfMemory) => Err(PathFault::NoMemory),
+        Err(DecodeError::Utf8(_)) => Err(PathFault::Bad),
+    }
+}
+
+// A name, or `-` for the default branch.
+fn name_in(alloc: Global, text: &str) -> Result<RefName, PathFault>
+    ensures { GivesPath result (name_in text.now) }
+{
+    let name = if text == "-" { "main" } else { text };
+    Ok(RefName::parse(alloc, name)?)
+}
+
+#[tactic(auto, unfolding(crate::specs::Paths::reference_in))]
+fn reference_in(alloc: Global, text: &str) -> Result<PathReference, PathFault>
+    ensures { GivesPath result (reference_in text.now) }
+{
+    match text.split_once('@') {
+        None => {
+            let name = name_in(alloc, text)?;
+            Ok(PathReference { name, hash: None })
+        }
+        Some((name, hash)) => {
+            let name = name_in(alloc, name)?;
+            match Hash::parse(hash) {
+                Some(hash) => Ok(PathReference {
+                    name,
+                    hash: Some(hash),
+                }),
+                None => Err(PathFault::Bad),
+            }
+        }
+    }
+}
+
+/// The reference that a parameter stands for.
+pub(crate) fn reference_at(alloc: Global, part: Option<&str>) -> Result<PathReference, PathFault>
+    ensures { GivesPath result (reference_at (option_map (λ s. s.now) part.entry)) }
+{
+    let Some(part) = part else {
+        return Err(PathFault::Bad);
+    };
+    let text = decoded(alloc, part)?;
+    reference_in(alloc, text.as_str())
+}
+
+/// The key that a parameter stands for.
+pub(crate) fn key_at(alloc: Global, part: Option<&str>) -> Result<ContentKey, PathFault>
+    ensures { GivesPath result (key_at (option_map (λ s. s.now) part.entry)) }
+{
+    let Some(part) = part else {
+        return Err(PathFault::Bad);
+    };
+    let text = decoded(alloc, part)?;
+    Ok(ContentKey::parse_path(alloc, text.as_str())?)
+}

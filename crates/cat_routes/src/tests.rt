@@ -1,0 +1,47 @@
+use crate::{Path, Route, Routes};
+use std::alloc::Global;
+use std::test::Fail;
+
+fn route(alloc: Global, routes: &Routes, path: &str) -> Result<Option<Route>, Fail> {
+    let path = Path::new(alloc, path.as_bytes()).ok().ok_or("memory")?;
+    Ok(routes.find(&path).map(|found| found.route))
+}
+
+#[test]
+fn each_route_has_its_paths_alone(rt: HostRuntime) -> Result<(), Fail> {
+    let alloc = rt.alloc();
+    let routes = Routes::new(alloc).ok().ok_or("memory")?;
+    for (path, wanted) in [
+        ("/api/v2/config", Some(Route::Config)),
+        ("/api/v2/config/", None),
+        ("api/v2/config", None),
+        ("*", None),
+        ("", None),
+        ("/api/v2/trees/main", Some(Route::Tree)),
+        ("/api/v2/trees/main/", None),
+        ("/api/v2/trees/", None),
+        ("/api/v2/tree%73/main", None),
+        ("/api/v2/trees/a%2Fb@00", Some(Route::Tree)),
+        ("/api/v2/trees/é/contents/ü.t", Some(Route::Content)),
+        ("/api/v2/trees/a/contents/b/c", None),
+        ("/api/v2/trees/a/contents", None),
+        ("/api/v2/trees/a/history/commit", Some(Route::Commit)),
+        ("/api/v2/trees/a/history", None),
+    ] {
+        assert!(rt; route(alloc, &routes, path)? == wanted);
+    }
+    Ok(())
+}
+
+#[test]
+fn parts_stay_escaped(rt: HostRuntime) -> Result<(), Fail> {
+    let alloc = rt.alloc();
+    let routes = Routes::new(alloc).ok().ok_or("memory")?;
+    let path = Path::new(alloc, "/api/v2/trees/-@ab/contents/ü.%1D".as_bytes())
+        .ok()
+        .ok_or("memory")?;
+    let found = routes.find(&path).ok_or("no route")?;
+    assert!(rt; found.reference == Some("-@ab"));
+    assert!(rt; found.key == Some("%C3%BC.%1D"));
+    Ok(())
+}
