@@ -17,7 +17,7 @@ use crate::failure::Failure;
 use crate::map::entry_at;
 use crate::references::find_reference;
 use crate::store::Store;
-use cat_codes::text::Text as RefName;
+use cat_names::ref_name::RefName;
 use cat_model::ask::{Ask, ContentAsk};
 use cat_model::entry::Entry;
 use cat_model::reference::{Effective, Pointer, Reference};

@@ -5,10 +5,10 @@ ghost use Rattle.std.specs.Option.{option_copied};
 ghost use Rattle.cat_model.specs.State.{moved_reference, reference_of};
 
 use cat_model::reference::Reference;
-use cat_codes::text::Text;
+use cat_names::ref_name::RefName;
 
 /// The reference of a name.
-pub(crate) fn find_reference<'a>(references: &'a [Reference], name: &Text) -> Option<&'a Reference>
+pub(crate) fn find_reference<'a>(references: &'a [Reference], name: &RefName) -> Option<&'a Reference>
     ensures { option_copied result ≡ reference_of references.now name.now }
 {
     references.iter().find(|reference| reference.name == *name)

@@ -7,7 +7,7 @@ ghost use Rattle.cat_core.specs.Keeping.{recorded, AreKept};
 
 use crate::commits::Kept;
 use cat_codes::fault::NoMemory;
-use cat_codes::text::Text as RefName;
+use cat_names::ref_name::RefName;
 use cat_model::content::Content;
 use cat_model::limits::Limits;
 use cat_model::log_entry::LogEntry;
@@ -50,7 +50,7 @@ impl Store {
     {
         let mut references = Vec::new(alloc);
         references.push(Reference {
-            name: RefName::from_str(alloc, "main")?,
+            name: RefName::main(alloc)?,
             kind: Kind::Branch,
             head: Hash::none(),
         })?;
