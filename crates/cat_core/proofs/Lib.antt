@@ -9,3 +9,5 @@ pub mod Put
 pub mod Room
 pub mod Adding
 pub mod PlainCalls
+pub mod Moved
+pub mod Accepts
