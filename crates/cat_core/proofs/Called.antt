@@ -13,7 +13,7 @@ use Rattle.cat_model.specs.Commits.{commit_opening, step_commit, given_request}
 use Rattle.cat_core.specs.declared.committing.Accepted.{Accepted}
 use Rattle.cat_core.specs.declared.failure.Failure.{Failure}
 use Rattle.cat_core.specs.declared.failure.Failure.TheVariants as failures
-use Rattle.cat_core.specs.Giving.{refused_at}
+use Rattle.cat_core.specs.Giving.{Fails, refused_at}
 use Rattle.cat_core.specs.Putting.{Commits, accepted_book, accepted_told, outcome_of, taking}
 use Rattle.cat_core.proofs.Plain.{IsOther, IsPlain}
 use Rattle.cat_core.proofs.PlainCalls.{call_refused, plain_opening, plain_limit, plain_step}
@@ -57,3 +57,17 @@ step_accepted caller book c moment a o e d s r = record { said = rw (e, d, s, mo
 pub applies_fails : (called : Called) (before after : Book) (failure : Failure) → Commits called before after (Err failure) → Applies called before after (Err (refused_at before.state.place failure))
 applies_fails called before after failures.NoMemory e = e
 applies_fails called before after (failures.Refused why) e = e
+
+failed : (caller : ℕ) (book : Book) (c : CommitRequest) (moment : ℕ) (failure : Failure) (o : Reference × Hash) → commit_opening sha256 book.state c ≡ Ok o → needs_draft book.state book.draft true ≡ Ok tt
+    → Fails failure (step_commit sha256 book.state c (book.draft + 1) moment)
+    → Commits (call_on sha256 caller book (commands.Commit c) moment) book (taking book (book.draft + 1)) (Err failure)
+failed caller book c moment failures.NoMemory o e d s = record { place = refl; state = refl; log = refl; draft_kept = omega arith; draft_taken = omega arith }
+failed caller book c moment (failures.Refused why) o e d s = step_refused caller book c moment why o e d s
+
+-- the step has no answer; its draft number is taken
+pub step_fails : (caller : ℕ) (book after : Book) (c : CommitRequest) (moment draft : ℕ) (failure : Failure) (o : Reference × Hash) → commit_opening sha256 book.state c ≡ Ok o → needs_draft book.state book.draft true ≡ Ok tt
+    → draft ≡ book.draft → after ≡ taking book (draft + 1) → Fails failure (step_commit sha256 book.state c (draft + 1) moment)
+    → Commits (call_on sha256 caller book (commands.Commit c) moment) book after (Err failure)
+step_fails caller book after c moment draft failure o e d n t s =
+    subst (λ (b : Book). Commits (call_on sha256 caller book (commands.Commit c) moment) book b (Err failure)) (sym (t ∙ ap (λ (k : ℕ). taking book (k + 1)) n))
+    (failed caller book c moment failure o e d (subst (λ (k : ℕ). Fails failure (step_commit sha256 book.state c (k + 1) moment)) n s))
