@@ -1,6 +1,5 @@
 -- The book after what is accepted, from the lists of the store.
-use Rattle.std.proofs.Common.{◌≡◌, ℕ, ◌+◌, List, [], ◌∷◌, reverse, Some, refl, sym, ap, subst, ◌∙◌}
-use Rattle.std.specs.Option.{option_map}
+use Rattle.std.proofs.Common.{◌≡◌, ℕ, ◌+◌, List, ◌∷◌, reverse, Some, refl, subst}
 use Rattle.cat_names.specs.declared.hash.Hash.{Hash}
 use Rattle.cat_model.specs.declared.content.Content.{Content}
 use Rattle.cat_model.specs.declared.limits.Limits.{Limits}
@@ -8,11 +7,11 @@ use Rattle.cat_model.specs.declared.log_entry.LogEntry.{LogEntry}
 use Rattle.cat_model.specs.declared.command.Command.TheVariants as commands
 use Rattle.cat_model.specs.declared.reference.Reference.{Reference}
 use Rattle.cat_model.specs.Book.{Book}
-use Rattle.cat_model.specs.State.{State, moved_reference}
+use Rattle.cat_model.specs.State.{moved_reference}
 use Rattle.cat_core.specs.declared.commits.Kept.{Kept}
 use Rattle.cat_core.specs.declared.committing.Accepted.{Accepted}
 use Rattle.cat_core.specs.Keeping.{recorded}
-use Rattle.cat_core.specs.Putting.{accepted_book, recorded_one, with_first}
+use Rattle.cat_core.specs.Putting.{accepted_book, with_first}
 use Rattle.cat_core.proofs.Kept.{recorded_first}
 
 -- the book of a store's lists, the oldest first

@@ -1,41 +1,30 @@
 -- No step refuses for want of memory.
-use Rattle.std.proofs.Common.{◌≡◌, ℕ, ◌+◌, length, List, [], ◌∷◌, Option, Some, None, Result, Ok, Err, Bool, true, false, if◌then◌else◌, nat_lt, nat_le, map, filter_map, refl, subst, ap}
+use Rattle.std.proofs.Common.{ℕ, ◌+◌, length, List, [], ◌∷◌, Option, Some, None, Result, Ok, Err, Bool, nat_lt, nat_le, map, filter_map}
 use Rattle.sha2.specs.Sha256.{sha256}
 use Rattle.cat_names.specs.declared.hash.Hash.{Hash}
-use Rattle.cat_model.specs.declared.ask.Ask.{Ask}
-use Rattle.cat_model.specs.declared.ask.Ask.TheVariants as asks
-use Rattle.cat_model.specs.declared.command.Command.{Command}
-use Rattle.cat_model.specs.declared.command.Command.TheVariants as commands
 use Rattle.cat_model.specs.declared.command.CommitRequest.{CommitRequest}
 use Rattle.cat_model.specs.declared.commit.Commit.{Commit}
 use Rattle.cat_model.specs.declared.conflict.Conflict.{Conflict}
 use Rattle.cat_model.specs.declared.content.Content.{Content}
 use Rattle.cat_model.specs.declared.limits.Quantity.{Quantity}
 use Rattle.cat_model.specs.declared.limits.Quantity.TheVariants as quantities
-use Rattle.cat_model.specs.declared.reference.Reference.{Reference}
 use Rattle.cat_model.specs.declared.op.Op.{Op}
 use Rattle.cat_model.specs.declared.reply.Reply.{Reply}
 use Rattle.cat_model.specs.Judge.{judge}
 use Rattle.cat_model.specs.declared.refusal.Refusal.{Refusal}
 use Rattle.cat_model.specs.declared.refusal.Refusal.TheVariants.{BadRequest, RefNotFound, RefExists, ContentNotFound, Conflicts, Expired, RetriesSpent, SweepOpen, Limit, Collision, Fault, Down, NoMemory, NoRoute, WrongMethod, TooLarge, Encoding}
 use Rattle.cat_model.specs.declared.refusal.Refused.{Refused}
-
-use Rattle.cat_model.specs.Answer.{answer, answer_reference, answer_content}
-use Rattle.cat_model.specs.Book.{Book, Reads, ReadRefuses, CallRefuses, IsCalled}
-use Rattle.cat_model.specs.Calls.{Called, told_at}
+use Rattle.cat_model.specs.Book.{Book, CallRefuses, IsCalled}
+use Rattle.cat_model.specs.Calls.{Called}
 use Rattle.cat_model.specs.Chain.{entries}
 use Rattle.cat_model.specs.Commits.{commit_opening, committed, given_ops, or_conflicts, needs_commit_room, puts, request_commit, step_commit}
 use Rattle.cat_model.specs.Maps.{Map}
 use Rattle.cat_model.specs.Contents.{content_code}
 use Rattle.cat_model.specs.Formats.{commit_code}
 use Rattle.cat_model.specs.Records.{added, commit_bytes, content_bytes, with_commit, with_content, with_contents}
-use Rattle.cat_model.specs.Refusing.{◌>>=◌, Outcome, Tested, needs, found, named, perhaps_named, pointed}
+use Rattle.cat_model.specs.Refusing.{◌>>=◌, needs, named, pointed}
 use Rattle.cat_model.specs.State.{State, commit_hash, content_hash}
-use Rattle.cat_core.specs.declared.failure.Failure.{Failure}
-use Rattle.cat_core.specs.declared.failure.Failure.TheVariants as failures
-use Rattle.cat_core.specs.Giving.{Fails, refused_at}
-
-use Rattle.cat_core.proofs.Plain.{IsOther, IsPlain, plain_bind, plain_needs, plain_found, plain_choice, plain_named, plain_perhaps, plain_pointed}
+use Rattle.cat_core.proofs.Plain.{IsOther, IsPlain, plain_bind, plain_needs, plain_choice, plain_named, plain_pointed}
 
 -- ---- changing
 
@@ -111,4 +100,3 @@ call_refused called before after NoRoute refused p e = e
 call_refused called before after (WrongMethod x) refused p e = e
 call_refused called before after TooLarge refused p e = e
 call_refused called before after Encoding refused p e = e
-

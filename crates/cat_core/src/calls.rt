@@ -128,10 +128,11 @@ impl Store {
         ensures { Applies (call_on sha256 caller self.old command.now moment) self.old self.new result }
     {
         let place = self.place();
-        let Command::Commit(request) = command;
-        match self.commit(alloc, caller, moment, request) {
-            Ok(told) => Ok(told),
-            Err(failure) => Err(refused(place, failure)),
+        match command {
+            Command::Commit(request) => match self.commit(alloc, caller, moment, request) {
+                Ok(told) => Ok(told),
+                Err(failure) => Err(refused(place, failure)),
+            },
         }
     }
 }

@@ -9,7 +9,10 @@ use cat_model::reference::Reference;
 use cat_names::ref_name::RefName;
 
 /// The reference of a name.
-pub(crate) fn find_reference<'a>(references: &'a [Reference], name: &RefName) -> Option<&'a Reference>
+pub(crate) fn find_reference<'a>(
+    references: &'a [Reference],
+    name: &RefName,
+) -> Option<&'a Reference>
     ensures { option_copied result ≡ reference_of references.now name.now }
 {
     references.iter().find(|reference| reference.name == *name)

@@ -1,4 +1,4 @@
-use Rattle.std.proofs.Common.{◌<◌, length, arith, refl}
+use Rattle.std.proofs.Common.{arith, refl}
 use Rattle.cat_core.proofs.Moved.{moved_next}
 use Rattle.cat_core.proofs.references.move_head.Goals as goal
 
