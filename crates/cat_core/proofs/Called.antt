@@ -1,5 +1,5 @@
 -- What a commit brings, by the outcome of its tests.
-use Rattle.std.proofs.Common.{◌≡◌, ℕ, ◌+◌, ◌<◌, Some, Ok, Err, Result, Bool, true, nat_lt, refl, sym, ap, subst, ◌∙◌, arith}
+use Rattle.std.proofs.Common.{◌≡◌, ℕ, ◌+◌, Some, Ok, Err, Result, true, nat_lt, refl, sym, ap, subst, ◌∙◌, arith}
 use Rattle.std.proofs.lemmas.Bool.Decides.{nat_tests}
 use Rattle.sha2.specs.Sha256.{sha256}
 use Rattle.cat_names.specs.declared.hash.Hash.{Hash}
@@ -7,13 +7,13 @@ use Rattle.cat_model.specs.declared.command.Command.TheVariants as commands
 use Rattle.cat_model.specs.declared.command.CommitRequest.{CommitRequest}
 use Rattle.cat_model.specs.declared.reference.Reference.{Reference}
 use Rattle.cat_model.specs.declared.refusal.Refusal.{Refusal}
-use Rattle.cat_model.specs.Book.{Book, IsCalled, Applies, CallRefuses, call_on}
-use Rattle.cat_model.specs.Calls.{Called, call, needs_draft, entry_made}
+use Rattle.cat_model.specs.Book.{Book, IsCalled, CallRefuses, call_on}
+use Rattle.cat_model.specs.Calls.{call, needs_draft, entry_made}
 use Rattle.cat_model.specs.Commits.{commit_opening, step_commit, given_request}
 use Rattle.cat_core.specs.declared.committing.Accepted.{Accepted}
 use Rattle.cat_core.specs.declared.failure.Failure.{Failure}
 use Rattle.cat_core.specs.declared.failure.Failure.TheVariants as failures
-use Rattle.cat_core.specs.Giving.{refused_at}
+use Rattle.cat_core.specs.Giving.{Fails}
 use Rattle.cat_core.specs.Putting.{Commits, accepted_book, accepted_told, outcome_of, taking}
 use Rattle.cat_core.proofs.Plain.{IsOther, IsPlain}
 use Rattle.cat_core.proofs.PlainCalls.{call_refused, plain_opening, plain_limit, plain_step}
@@ -53,7 +53,16 @@ pub step_accepted : (caller : ℕ) (book : Book) (c : CommitRequest) (moment : �
 unfolding call entry_made
 step_accepted caller book c moment a o e d s r = record { said = rw (e, d, s, more_is book.state.place) refl; book = rw (e, d, s, more_is book.state.place, r) refl }
 
--- what a changing call answers where it has no reply
-pub applies_fails : (called : Called) (before after : Book) (failure : Failure) → Commits called before after (Err failure) → Applies called before after (Err (refused_at before.state.place failure))
-applies_fails called before after failures.NoMemory e = e
-applies_fails called before after (failures.Refused why) e = e
+failed : (caller : ℕ) (book : Book) (c : CommitRequest) (moment : ℕ) (failure : Failure) (o : Reference × Hash) → commit_opening sha256 book.state c ≡ Ok o → needs_draft book.state book.draft true ≡ Ok tt
+    → Fails failure (step_commit sha256 book.state c (book.draft + 1) moment)
+    → Commits (call_on sha256 caller book (commands.Commit c) moment) book (taking book (book.draft + 1)) (Err failure)
+failed caller book c moment failures.NoMemory o e d s = record { place = refl; state = refl; log = refl; draft_kept = omega arith; draft_taken = omega arith }
+failed caller book c moment (failures.Refused why) o e d s = step_refused caller book c moment why o e d s
+
+-- the step has no answer; its draft number is taken
+pub step_fails : (caller : ℕ) (book after : Book) (c : CommitRequest) (moment draft : ℕ) (failure : Failure) (o : Reference × Hash) → commit_opening sha256 book.state c ≡ Ok o → needs_draft book.state book.draft true ≡ Ok tt
+    → draft ≡ book.draft → after ≡ taking book (draft + 1) → Fails failure (step_commit sha256 book.state c (draft + 1) moment)
+    → Commits (call_on sha256 caller book (commands.Commit c) moment) book after (Err failure)
+step_fails caller book after c moment draft failure o e d n t s =
+    subst (λ (b : Book). Commits (call_on sha256 caller book (commands.Commit c) moment) book b (Err failure)) (sym (t ∙ ap (λ (k : ℕ). taking book (k + 1)) n))
+    (failed caller book c moment failure o e d (subst (λ (k : ℕ). Fails failure (step_commit sha256 book.state c (k + 1) moment)) n s))

@@ -10,3 +10,5 @@ pub mod Counts
 pub mod Adding
 pub mod PlainCalls
 pub mod PutSteps
+pub mod Moved
+pub mod Accepts

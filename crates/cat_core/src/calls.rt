@@ -1,7 +1,6 @@
 //! The calls of a store.
 
-ghost use Rattle.std.specs.Prelude.{◌≡◌, ◌<◌, Ok, Some, true, IfOk, IfSome, IsTrue, OnErr, OnOk, reverse};
-ghost use Rattle.std.specs.Vec.{vec_len, vec_capacity};
+ghost use Rattle.std.specs.Prelude.{◌≡◌, ◌<◌, true, IsTrue, OnOk};
 ghost use Rattle.sha2.specs.Sha256.{sha256};
 ghost use Rattle.cat_model.specs.Book.{Applies, Reads, call_on};
 ghost use Rattle.cat_model.specs.Calls.{needs_draft};
@@ -9,22 +8,18 @@ ghost use Rattle.cat_model.specs.Commits.{commit_opening};
 ghost use Rattle.cat_model.specs.SinglePut.{is_one_put, is_single_put};
 ghost use Rattle.cat_model.specs.declared.command.Command.TheVariants as commands;
 ghost use Rattle.cat_core.specs.Giving.{SaysAs, refused_at};
-ghost use Rattle.cat_core.specs.Keeping.{IsNext};
-ghost use Rattle.cat_core.specs.Putting.{Commits, accepted_book, accepted_told, taking, with_first};
+ghost use Rattle.cat_core.specs.Putting.{Commits, taking};
 
-use crate::committing::{Accepted, Turn};
+use crate::committing::Turn;
 use crate::failure::Failure;
-use crate::references::move_head;
 use crate::store::Store;
-use cat_codes::fault::NoMemory;
 use cat_model::ask::Ask;
 use cat_model::command::{Command, CommitRequest};
 use cat_model::limits::Quantity;
-use cat_model::log_entry::LogEntry;
 use cat_model::moment::Moment;
 use cat_model::reference::{Kind, Reference};
 use cat_model::refusal::{Reason, Refusal, Refused};
-use cat_model::reply::{Committed, Reply, Told};
+use cat_model::reply::Told;
 use cat_names::hash::Hash;
 use std::alloc::Global;
 
@@ -87,47 +82,6 @@ impl Store {
         }
     }
 
-    /// Adds what is accepted, and its entry. All memory is taken before the first write.
-    fn accept(&mut self, turn: Turn, accepted: Accepted) -> Result<Told, NoMemory>
-        requires place { self.old.state.place < 4294967295 }
-        requires next { IfSome accepted.kept (IsNext self.old.state.commits) }
-        ensures ok { OnOk result (self.new ≡ accepted_book self.old turn.caller turn.draft turn.moment accepted) }
-        ensures told { IfOk result (λ told. told ≡ accepted_told self.old accepted) }
-        ensures err { OnErr result (self.new ≡ self.old) }
-    {
-        self.contents.try_reserve(1)?;
-        self.commits.try_reserve(1)?;
-        self.log.try_reserve(1)?;
-        let Accepted {
-            content,
-            kept,
-            moved,
-            added,
-            request,
-        } = accepted;
-        push_some(&mut self.contents, content);
-        push_some(&mut self.commits, kept);
-        move_head(&mut self.references, &moved);
-        self.place += 1;
-        self.draft = turn.draft;
-        let entry = LogEntry {
-            place: self.place,
-            caller: turn.caller,
-            draft: turn.draft,
-            moment: turn.moment,
-            command: Command::Commit(request),
-            head: Some(moved.head),
-        };
-        push_some(&mut self.log, Some(entry));
-        Ok(Told {
-            place: self.place,
-            reply: Reply::Committed(Committed {
-                added,
-                target: moved,
-            }),
-        })
-    }
-
     /// Takes the draft number of a call that is refused after its draft was opened.
     fn take(&mut self, draft: u64)
         ensures { self.new ≡ taking self.old draft }
@@ -174,22 +128,11 @@ impl Store {
         ensures { Applies (call_on sha256 caller self.old command.now moment) self.old self.new result }
     {
         let place = self.place();
-        let Command::Commit(request) = command;
-        match self.commit(alloc, caller, moment, request) {
-            Ok(told) => Ok(told),
-            Err(failure) => Err(refused(place, failure)),
+        match command {
+            Command::Commit(request) => match self.commit(alloc, caller, moment, request) {
+                Ok(told) => Ok(told),
+                Err(failure) => Err(refused(place, failure)),
+            },
         }
-    }
-}
-
-/// Adds a value to a list that has room for it, if there is one.
-fn push_some<T: Drop>(list: &mut Vec<T>, value: Option<T>)
-    requires { vec_len list.old < vec_capacity list.old }
-    ensures { reverse list.new.items ≡ with_first value (reverse list.old.items) }
-{
-    if let Some(value) = value {
-        let Ok(()) = list.push(value) else {
-            unreachable!()
-        };
     }
 }

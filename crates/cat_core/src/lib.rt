@@ -5,6 +5,7 @@
 //! of one element.
 #![tactic(auto)]
 
+mod accepting;
 mod calls;
 mod commits;
 mod committing;

@@ -19,6 +19,7 @@ use cat_model::refusal::{Refusal, Refused};
 use cat_model::reply::{Reply, Told};
 use cat_names::hash::{ContentId, Hash};
 use cat_names::key::ContentKey;
+use cat_names::ref_name::RefName;
 use std::alloc::Global;
 use std::test::Fail;
 
@@ -73,7 +74,7 @@ fn put(
     let mut contents = Seq::new(alloc);
     contents.push(Content { id, body })?;
     Ok(Command::Commit(CommitRequest {
-        branch: Text::from_str(alloc, "main")?,
+        branch: RefName::main(alloc)?,
         expected,
         meta: Meta {
             message: Text::from_str(alloc, message)?,
@@ -89,7 +90,7 @@ fn put(
 
 fn at_main(alloc: Global, hash: Option<Hash>) -> Result<Pointer, Fail> {
     Ok(Pointer {
-        name: Some(Text::from_str(alloc, "main")?),
+        name: Some(RefName::main(alloc)?),
         hash,
     })
 }
