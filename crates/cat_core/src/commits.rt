@@ -5,11 +5,11 @@ ghost use Rattle.std.specs.Option.{option_copied};
 ghost use Rattle.cat_model.specs.Chain.{on_chain};
 ghost use Rattle.cat_core.specs.Keeping.{kept_of, recorded};
 
+use cat_codes::seq::Seq;
 use cat_model::commit::Commit;
 use cat_model::entry::Entry;
 use cat_names::hash::Hash;
 use cat_names::key::ContentKey;
-use cat_codes::seq::Seq;
 
 /// A commit under its hash, with the entries of keys at it, keys ascending.
 #[derive(Debug, Drop)]

@@ -7,10 +7,10 @@ ghost use Rattle.cat_model.specs.Maps.{IsMap, entry_of, after_change};
 ghost use Rattle.cat_core.specs.Places.{place_of};
 ghost use Rattle.cat_core.specs.Places;
 
-use cat_model::entry::Entry;
 use cat_codes::fault::NoMemory;
-use cat_names::key::ContentKey;
 use cat_codes::seq::Seq;
+use cat_model::entry::Entry;
+use cat_names::key::ContentKey;
 use std::alloc::Global;
 
 fn is_below(pair: &(ContentKey, Entry), key: &ContentKey) -> bool

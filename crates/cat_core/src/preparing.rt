@@ -249,8 +249,14 @@ impl Store {
         ensures { IfOk result (λ made. IsPrepared self.now.state turn request.now branch.now key.now content.now made) }
     {
         let (content, content_record, entry) = given_content(alloc, turn.draft, content)?;
-        let (kept, commit_record) =
-            self.put_kept(alloc, turn.moment, &request.meta, &branch.head, key, entry)?;
+        let (kept, commit_record) = self.put_kept(
+            alloc,
+            turn.moment,
+            &request.meta,
+            &branch.head,
+            key,
+            entry,
+        )?;
         let (moved, added) = announced(alloc, branch, kept.hash, content.id, key)?;
         let request = logged_request(alloc, request, key, entry, &content)?;
         Ok(Prepared {

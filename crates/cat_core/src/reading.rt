@@ -17,7 +17,6 @@ use crate::failure::Failure;
 use crate::map::entry_at;
 use crate::references::find_reference;
 use crate::store::Store;
-use cat_names::ref_name::RefName;
 use cat_model::ask::{Ask, ContentAsk};
 use cat_model::entry::Entry;
 use cat_model::reference::{Effective, Pointer, Reference};
@@ -25,6 +24,7 @@ use cat_model::refusal::{Missing, Refusal};
 use cat_model::reply::{ContentReply, Reply};
 use cat_names::hash::Hash;
 use cat_names::key::ContentKey;
+use cat_names::ref_name::RefName;
 use std::alloc::Global;
 
 impl Store {
@@ -129,11 +129,7 @@ impl Store {
 }
 
 /// The commit as its reference's head, or detached.
-fn effective(
-    alloc: Global,
-    reference: Option<&Reference>,
-    hash: Hash,
-) -> Result<Effective, Failure>
+fn effective(alloc: Global, reference: Option<&Reference>, hash: Hash) -> Result<Effective, Failure>
     ensures { GivesAs (λ e. e) result (Ok (effective_at (option_copied reference.entry) hash)) }
 {
     let Some(reference) = reference else {

@@ -7,12 +7,12 @@ ghost use Rattle.cat_core.specs.Keeping.{recorded, AreKept};
 
 use crate::commits::Kept;
 use cat_codes::fault::NoMemory;
-use cat_names::ref_name::RefName;
 use cat_model::content::Content;
 use cat_model::limits::Limits;
 use cat_model::log_entry::LogEntry;
 use cat_model::reference::{Kind, Reference};
 use cat_names::hash::Hash;
+use cat_names::ref_name::RefName;
 use std::alloc::Global;
 use std::marker::Model;
 

@@ -153,19 +153,57 @@ fn a_content_is_read_at_each_commit_of_the_chain(rt: HostRuntime) -> Result<(), 
     let one = put(alloc, "t1", "m1", "one", None)?;
     let first = store.apply(alloc, 1, Moment::from_micros(1_000_000), &one);
     assert!(&rt; first.is_ok());
-    let found = store.read(alloc, &Ask::Content(ContentAsk {
-        at: at_main(alloc, Some(C1))?,
-        key: key(alloc, "t1")?,
-    }));
-    assert!(&rt; matches!(&found, Ok(Told { place: 1, reply: Reply::Content(_) })));
-    let absent = store.read(alloc, &Ask::Content(ContentAsk {
-        at: at_main(alloc, Some(Hash::none()))?,
-        key: key(alloc, "t1")?,
-    }));
-    assert!(&rt; matches!(&absent, Err(Refused { place: Some(1), why: Refusal::ContentNotFound(_) })));
+    let found = store.read(
+        alloc,
+        &Ask::Content(ContentAsk {
+            at: at_main(alloc, Some(C1))?,
+            key: key(alloc, "t1")?,
+        }),
+    );
+    assert!(&rt;
+        matches!(
+            &found,
+            Ok(Told {
+                place: 1,
+                reply: Reply::Content(_)
+            })
+        )
+    );
+    let absent = store.read(
+        alloc,
+        &Ask::Content(ContentAsk {
+            at: at_main(alloc, Some(Hash::none()))?,
+            key: key(alloc, "t1")?,
+        }),
+    );
+    assert!(&rt;
+        matches!(
+            &absent,
+            Err(Refused {
+                place: Some(1),
+                why: Refusal::ContentNotFound(_)
+            })
+        )
+    );
     let reference = store.read(alloc, &Ask::Reference(at_main(alloc, None)?));
-    assert!(&rt; matches!(&reference, Ok(Told { place: 1, reply: Reply::Effective(_) })));
+    assert!(&rt;
+        matches!(
+            &reference,
+            Ok(Told {
+                place: 1,
+                reply: Reply::Effective(_)
+            })
+        )
+    );
     let config = store.read(alloc, &Ask::Config);
-    assert!(&rt; matches!(&config, Ok(Told { place: 1, reply: Reply::Config })));
+    assert!(&rt;
+        matches!(
+            &config,
+            Ok(Told {
+                place: 1,
+                reply: Reply::Config
+            })
+        )
+    );
     Ok(())
 }
