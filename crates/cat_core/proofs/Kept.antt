@@ -1,0 +1,89 @@
+-- What is kept of a commit against the definitions.
+use Rattle.std.proofs.Common.{◌≡◌, ℕ, ◌+◌, ◌≤◌, List, [], ◌∷◌, length, Option, Some, None, Bool, true, false, if◌then◌else◌, refl, sym, ap, subst, ◌∙◌, arith}
+use Rattle.std.specs.Option.{option_map, is_some, IfSome}
+use Rattle.cat_names.specs.declared.hash.Hash.{Hash}
+use Rattle.cat_model.specs.declared.commit.Commit.{Commit}
+use Rattle.cat_model.specs.declared.limits.Limits.{Limits}
+use Rattle.cat_model.specs.Chain.{Commits, commit_of, chain, map_of, entries, generation}
+use Rattle.cat_model.specs.Maps.{Map, IsMap, after_changes}
+use Rattle.cat_model.specs.Same.{same_hash}
+use Rattle.cat_core.specs.declared.commits.Kept.{Kept}
+use Rattle.cat_core.specs.Keeping.{recorded, kept_of, kept_map, kept_generation, IsNext, IsStored, AreKept}
+use Rattle.cat_core.specs.Putting.{recorded_one, with_first}
+use Rattle.cat_core.proofs.MapLaws.{IsMap-after_changes}
+
+commit_by : (b : Bool) (k : Kept) (older : Option Kept) (commit : Option Commit) → commit ≡ option_map (λ (x : Kept). x.commit) older
+    → (if b then Some k.commit else commit) ≡ option_map (λ (x : Kept). x.commit) (if b then Some k else older)
+commit_by true k older commit e = refl
+commit_by false k older commit e = e
+
+pub commit_is : (kept : List Kept) (hash : Hash) → commit_of (recorded kept) hash ≡ option_map (λ (x : Kept). x.commit) (kept_of kept hash)
+commit_is [] hash = refl
+commit_is (k ∷ kept) hash = commit_by (same_hash k.hash hash) k (kept_of kept hash) (commit_of (recorded kept) hash) (commit_is kept hash)
+
+map_by : (b : Bool) (k : Kept) (older : Commits) (found : Option Kept) (hash : Hash) → IsNext older k → entries older hash ≡ kept_map found
+    → map_of (if b then (k.hash, k.commit) ∷ chain older k.commit.parent else chain older hash) ≡ kept_map (if b then Some k else found)
+unfolding entries
+map_by true k older found hash next e = sym next.changed
+map_by false k older found hash next e = e
+
+pub map_is : (kept : List Kept) (hash : Hash) → AreKept kept → entries (recorded kept) hash ≡ kept_map (kept_of kept hash)
+unfolding entries
+map_is [] hash are = refl
+map_is (k ∷ kept) hash are = map_by (same_hash k.hash hash) k (recorded kept) (kept_of kept hash) hash are.0 (map_is kept hash are.1)
+
+generation_by : (b : Bool) (k : Kept) (older : ℕ) (found : Option Kept) → older ≡ kept_generation found → (if b then k.commit.generation else older) ≡ kept_generation (if b then Some k else found)
+generation_by true k older found e = refl
+generation_by false k older found e = e
+
+pub generation_is : (kept : List Kept) (hash : Hash) → generation (recorded kept) hash ≡ kept_generation (kept_of kept hash)
+generation_is [] hash = refl
+generation_is (k ∷ kept) hash = generation_by (same_hash k.hash hash) k (generation (recorded kept) hash) (kept_of kept hash) (generation_is kept hash)
+
+bound_by : (b : Bool) (m n limit : ℕ) → m ≤ limit + 1 → n ≤ limit → (if b then m else n) ≤ limit + 1
+bound_by true m n limit h g = h
+bound_by false m n limit h g = omega arith
+
+pub generation_bound : (kept : List Kept) (hash : Hash) → AreKept kept → generation (recorded kept) hash ≤ length (recorded kept)
+generation_bound [] hash are = omega arith
+generation_bound (k ∷ kept) hash are =
+    let b = bound_by (same_hash k.hash hash) k.commit.generation (generation (recorded kept) hash) (length (recorded kept)) (are.0).bounded (generation_bound kept hash are.1) in
+    omega arith
+
+IsMap-map_of : (commits : Commits) → IsMap (map_of commits)
+IsMap-map_of [] = refl
+IsMap-map_of (x ∷ older) = IsMap-after_changes x.1.ops (map_of older) (IsMap-map_of older)
+
+-- the entries at a commit are a map
+pub IsMap-entries : (commits : Commits) (hash : Hash) → IsMap (entries commits hash)
+unfolding entries
+IsMap-entries commits hash = IsMap-map_of (chain commits hash)
+
+-- what is kept of a commit is a map
+pub is_map : (kept : List Kept) (hash : Hash) → AreKept kept → IsMap (kept_map (kept_of kept hash))
+is_map kept hash are = subst IsMap (map_is kept hash are) (IsMap-entries (recorded kept) hash)
+
+some_by : (b : Bool) (k : Kept) (commit : Option Commit) (older : Option Kept) → is_some commit ≡ is_some older → is_some (if b then Some k.commit else commit) ≡ is_some (if b then Some k else older)
+some_by true k commit older e = refl
+some_by false k commit older e = e
+
+pub known_is : (kept : List Kept) (hash : Hash) → is_some (commit_of (recorded kept) hash) ≡ is_some (kept_of kept hash)
+known_is [] hash = refl
+known_is (k ∷ kept) hash = some_by (same_hash k.hash hash) k (commit_of (recorded kept) hash) (kept_of kept hash) (known_is kept hash)
+
+-- one more at the front, if there is one
+pub recorded_first : (o : Option Kept) (kept : List Kept) → recorded (with_first o kept) ≡ with_first (option_map recorded_one o) (recorded kept)
+recorded_first None kept = refl
+recorded_first (Some k) kept = refl
+
+pub stored_first : (limits : Limits) (o : Option Kept) (kept : List Kept) → IsStored limits kept → IfSome o (IsNext (recorded kept)) → IsStored limits (with_first o kept)
+stored_first limits None kept stored next = stored
+stored_first limits (Some k) kept stored next = record { log_bound = stored.log_bound; commits_bound = stored.commits_bound; kept = (next, stored.kept) }
+
+-- the generation of what is kept is at most the number of commits
+pub found_bound : (kept : List Kept) (hash : Hash) (k : Kept) (commits : Commits) → AreKept kept → kept_of kept hash ≡ Some k → recorded kept ≡ commits → k.commit.generation ≤ length commits
+found_bound kept hash k commits are found all =
+    let e : generation (recorded kept) hash ≡ k.commit.generation = generation_is kept hash ∙ ap kept_generation found in
+    let l : length (recorded kept) ≡ length commits = ap length all in
+    let b = generation_bound kept hash are in
+    omega arith

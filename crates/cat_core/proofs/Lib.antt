@@ -1,0 +1,14 @@
+pub mod KeyOrder
+pub mod MapLaws
+pub mod Found
+pub mod Kept
+pub mod Parts
+pub mod Plain
+pub mod Called
+pub mod Put
+pub mod Counts
+pub mod Adding
+pub mod PlainCalls
+pub mod PutSteps
+pub mod Moved
+pub mod Accepts

@@ -1,0 +1,25 @@
+use Rattle.std.proofs.Common.{sym}
+use Rattle.std.proofs.lemmas.Result.{err_from_is_err_and}
+use Rattle.cat_core.proofs.Called.{opening_refused, draft_refused, step_accepted, step_fails}
+use Rattle.cat_core.proofs.store.Store.commit.Goals as goal
+
+pub returns-in_err-branch : goal.returns-in_err-branch
+returns-in_err-branch c =
+    let p = err_from_is_err_and c.from_residual.result c.from_residual.ensures.1 in
+    rw (p.1, p.2) (opening_refused c.args.caller c.args.self.now c.args.request.now c.args.moment c.in_err-branch.field-0.0 c.in_err-branch.ensures)
+
+pub returns-in_err-needs_draft : goal.returns-in_err-needs_draft
+returns-in_err-needs_draft c =
+    let p = err_from_is_err_and c.from_residual-in_err-needs_draft.result c.from_residual-in_err-needs_draft.ensures.1 in
+    rw (p.1, p.2) (draft_refused c.args.caller c.args.self.now c.args.request.now c.args.moment c.in_err-needs_draft.field-0.0 _ c.in_ok-branch.ensures (sym c.in_err-needs_draft.ensures.test))
+
+pub returns-in_ok-accept-in-Ok : goal.returns-in_ok-accept-in-Ok
+returns-in_ok-accept-in-Ok c =
+    let step = rw c.draft.ensures at c.in-Ok.ensures.step in
+    let logged = rw c.draft.ensures at c.in-Ok.ensures.logged in
+    rw (c.in_ok-accept-in-Ok.ensures.ok, c.in_ok-accept-in-Ok.ensures.told, c.draft.ensures)
+    (step_accepted c.args.caller c.args.self.now c.args.request.now c.args.moment c.in-Ok.accepted _ c.in_ok-branch.ensures (sym c.in_ok-needs_draft.ensures.test) step logged)
+
+pub returns-in-Err : goal.returns-in-Err
+returns-in-Err c =
+    step_fails c.args.caller c.args.self.now c.take.new.self c.args.request.now c.args.moment c.draft.result c.in-Err.failure _ c.in_ok-branch.ensures (sym c.in_ok-needs_draft.ensures.test) c.draft.ensures c.take.ensures c.in-Err.ensures.step

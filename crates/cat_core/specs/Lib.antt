@@ -1,0 +1,4 @@
+pub mod Keeping
+pub mod Giving
+pub mod Places
+pub mod Putting

@@ -1,0 +1,138 @@
+//! The calls of a store.
+
+ghost use Rattle.std.specs.Prelude.{◌≡◌, ◌<◌, true, IsTrue, OnOk};
+ghost use Rattle.sha2.specs.Sha256.{sha256};
+ghost use Rattle.cat_model.specs.Book.{Applies, Reads, call_on};
+ghost use Rattle.cat_model.specs.Calls.{needs_draft};
+ghost use Rattle.cat_model.specs.Commits.{commit_opening};
+ghost use Rattle.cat_model.specs.SinglePut.{is_one_put, is_single_put};
+ghost use Rattle.cat_model.specs.declared.command.Command.TheVariants as commands;
+ghost use Rattle.cat_core.specs.Giving.{SaysAs, refused_at};
+ghost use Rattle.cat_core.specs.Putting.{Commits, taking};
+
+use crate::committing::Turn;
+use crate::failure::Failure;
+use crate::store::Store;
+use cat_model::ask::Ask;
+use cat_model::command::{Command, CommitRequest};
+use cat_model::limits::Quantity;
+use cat_model::moment::Moment;
+use cat_model::reference::{Kind, Reference};
+use cat_model::refusal::{Reason, Refusal, Refused};
+use cat_model::reply::Told;
+use cat_names::hash::Hash;
+use std::alloc::Global;
+
+/// A call's refusal at a place; want of memory has none.
+fn refused(place: u32, failure: Failure) -> Refused
+    ensures { result ≡ refused_at place failure }
+{
+    match failure {
+        Failure::Refused(why) => Refused {
+            place: Some(place),
+            why,
+        },
+        Failure::NoMemory => Refused {
+            place: None,
+            why: Refusal::NoMemory,
+        },
+    }
+}
+
+impl Store {
+    /// Answers a reading call.
+    pub fn read(&self, alloc: Global, ask: &Ask) -> Result<Told, Refused>
+        ensures { Reads sha256 self.now ask.now result }
+    {
+        match self.answer(alloc, ask) {
+            Ok(reply) => Ok(Told {
+                place: self.place(),
+                reply,
+            }),
+            Err(failure) => Err(refused(self.place(), failure)),
+        }
+    }
+
+    /// The branch of a request, and the commit that it expects there.
+    #[tactic(auto, unfolding(cat_model::specs::Commits::commit_opening))]
+    fn open(&self, request: &CommitRequest) -> Result<(&Reference, Hash), Refusal>
+        ensures { SaysAs (λ o. (o.0.now, o.1)) result (commit_opening sha256 self.now.state request.now) }
+    {
+        let branch = self.named(&request.branch)?;
+        if branch.kind != Kind::Branch {
+            return Err(Refusal::BadRequest(Reason::NotABranch));
+        }
+        let expected = self.pointed(Some(branch), &request.expected)?;
+        Ok((branch, expected))
+    }
+
+    /// A draft number is left.
+    fn needs_draft(&self) -> Result<(), Refusal>
+        ensures test { result ≡ needs_draft self.now.state self.now.draft true }
+        ensures below { OnOk result (self.now.draft < 18446744073709551615) }
+    {
+        let limit = self.limits().drafts;
+        if self.draft < limit {
+            Ok(())
+        } else {
+            Err(Refusal::Limit {
+                which: Quantity::Drafts,
+                number: limit,
+            })
+        }
+    }
+
+    /// Takes the draft number of a call that is refused after its draft was opened.
+    fn take(&mut self, draft: u64)
+        ensures { self.new ≡ taking self.old draft }
+    {
+        self.draft = draft;
+    }
+
+    /// Commits one new content.
+    fn commit(
+        &mut self,
+        alloc: Global,
+        caller: u32,
+        moment: Moment,
+        request: &CommitRequest,
+    ) -> Result<Told, Failure>
+        requires { IsTrue (is_one_put request.now.ops request.now.contents) }
+        ensures { Commits (call_on sha256 caller self.old (commands.Commit request.now) moment) self.old self.new result }
+    {
+        let (branch, expected) = self.open(request)?;
+        self.needs_draft()?;
+        let turn = Turn {
+            caller,
+            draft: self.draft() + 1,
+            moment,
+        };
+        match self.put(alloc, turn, request, branch, &expected) {
+            Ok(accepted) => Ok(self.accept(turn, accepted)?),
+            Err(failure) => {
+                self.take(turn.draft);
+                Err(failure)
+            }
+        }
+    }
+
+    /// Makes a call that changes the catalogue.
+    pub fn apply(
+        &mut self,
+        alloc: Global,
+        caller: u32,
+        moment: Moment,
+        command: &Command,
+    ) -> Result<Told, Refused>
+        requires { IsTrue (is_single_put command.now) }
+        ensures { Applies (call_on sha256 caller self.old command.now moment) self.old self.new result }
+    {
+        let place = self.place();
+        match command {
+            Command::Commit(request) => match self.commit(alloc, caller, moment, request) {
+                Ok(told) => Ok(told),
+                Err(failure) => Err(refused(place, failure)),
+            },
+        }
+    }
+}

@@ -1,0 +1,26 @@
+//! A catalogue in memory: its references, its commits with the map at each, its contents, and the
+//! log that led to them. A store is seen as a book of the model. Each call answers what the model's
+//! call on the book does and leaves the book that it leaves, or is refused for want of memory,
+//! which leaves state and log as they were. So far a changing call commits one new content at a key
+//! of one element.
+#![tactic(auto)]
+
+mod accepting;
+mod calls;
+mod commits;
+mod committing;
+mod contents;
+mod copies;
+mod failure;
+mod judging;
+mod map;
+mod preparing;
+mod reading;
+mod records;
+mod references;
+mod room;
+mod store;
+#[cfg(test)]
+mod tests;
+
+pub use store::Store;
