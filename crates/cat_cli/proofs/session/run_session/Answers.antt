@@ -1,0 +1,34 @@
+use Rattle.std.proofs.Common.{◌≡◌, ℕ, ◌+◌, ◌-◌, ◌<◌, ◌≤◌, refl, arith}
+use Rattle.cat_cli.proofs.Points.{reaches_on}
+use Rattle.cat_cli.proofs.session.run_session.Goals as goal
+
+-- so many requests may follow the next one
+next_left : (left count : ℕ) → left + count ≡ 1000 → count < 1000 → left ≡ 1000 - 1 - count + 1
+next_left left count e h = omega arith
+
+counted : (left count : ℕ) → left ≡ 1000 - 1 - count → count < 1000 → left + (count + 1) ≡ 1000
+counted left count e h = omega arith
+
+none_left : (left count : ℕ) → left + count ≡ 1000 → 1000 ≤ count → left ≡ 0
+none_left left count e h = omega arith
+
+pub turns-preserved : goal.turns-preserved
+turns-preserved g c = record {
+  reached = λ k a whole stands.
+      let x = c.turns.invariant.reached k a whole stands in
+      let t = c.in_default-turn.ensures.on k x.0 (next_left x.0.left c.turns.count x.2 c.turns-test.true) x.3 in
+      (t.0.after, reaches_on k a x.0 t.0 x.1 t.1.answered t.1.goes_on, counted t.0.after.left c.turns.count t.1.left_is c.turns-test.true, t.1.stands);
+  later_source = omega (arith, c.in_default-turn.ensures.later_source, c.turns.invariant.later_source);
+  later_sink = omega (arith, c.in_default-turn.ensures.later_sink, c.turns.invariant.later_sink);
+}
+
+pub returns-in-Some-clause-ends : goal.returns-in-Some-clause-ends
+returns-in-Some-clause-ends g c k a whole stands =
+    let x = c.turns.invariant.reached k a whole stands in
+    let t = c.in-Some.ensures.ends k x.0 (next_left x.0.left c.turns.count x.2 c.turns-test.true) x.3 in
+    (t.0, t.1, (x.0, x.1, t.2))
+
+pub returns-clause-ends : goal.returns-clause-ends
+returns-clause-ends g c k a whole stands =
+    let x = c.turns.invariant.reached k a whole stands in
+    (x.0.written, x.3.held_is, (x.0, x.1, (none_left x.0.left c.turns.count x.2 c.turns-test.false, refl)))

@@ -1,0 +1,5 @@
+pub mod Words
+pub mod Replies
+pub mod Sessions
+pub mod Answers
+pub mod Runs

@@ -1,0 +1,36 @@
+//! How a run ended.
+
+ghost use Rattle.std.specs.Prelude.{◌≡◌};
+ghost use Rattle.cat_cli.specs.Runs.{code_of};
+
+/// How a run ended.
+#[derive(Clone, Copy, Debug, PartialEq, Eq, Drop)]
+pub enum Status {
+    /// The input was read to its end, or to a request that closes.
+    Done,
+    /// The words aren't the command's.
+    Usage,
+    NoMemory,
+    /// The source failed.
+    ReadFault,
+    /// The sink failed.
+    WriteFault,
+    /// The session ended before its input: after its last request, or at bytes that are no request.
+    Cut,
+}
+
+impl Status {
+    /// The status of the process.
+    pub fn code(self) -> u8
+        ensures { result ≡ code_of self }
+    {
+        match self {
+            Status::Done => 0,
+            Status::Usage => 1,
+            Status::NoMemory => 4,
+            Status::ReadFault => 5,
+            Status::WriteFault => 6,
+            Status::Cut => 8,
+        }
+    }
+}
