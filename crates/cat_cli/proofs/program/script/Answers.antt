@@ -24,6 +24,6 @@ returns-in-ReadFault-clause-replies g c k b w ahead bytes held = ended _ _ _ _ _
 pub returns-in-WriteFault-clause-replies : goal.returns-in-WriteFault-clause-replies
 returns-in-WriteFault-clause-replies g c k b w ahead bytes held = ended _ _ _ _ _ _ ends.WriteFault k b w c.in-Ok.ensures c.program.ensures c.in-WriteFault.ensures.ends ahead bytes held
 
-pub returns-in-NoMemory-clause-replies : goal.returns-in-NoMemory-clause-replies
-returns-in-NoMemory-clause-replies g c k b w ahead bytes held =
+pub returns-clause-replies : goal.returns-clause-replies
+returns-clause-replies g c k b w ahead bytes held =
     let x = ended _ _ _ _ _ _ ends.NoMemory k b w c.in-Ok.ensures c.program.ensures c.in-NoMemory.ensures.ends ahead bytes held in (x.0, x.1, inl x.2)
