@@ -2,7 +2,7 @@
 
 use cat_codes::fault::NoMemory;
 use cat_model::refusal::Refusal;
-use std::alloc::{AllocError, AllocFailed};
+use std::alloc::AllocError;
 
 /// A refusal by the rules, or want of memory.
 #[derive(Debug, Drop)]
@@ -40,17 +40,6 @@ impl From<AllocError> for Failure {
     ghost from_gives = { λ _ failure. failure ≡ failures.NoMemory };
 
     fn from(_: AllocError) -> Failure {
-        Failure::NoMemory
-    }
-}
-
-impl<T: Drop> From<AllocFailed<T>> for Failure {
-    ghost use Rattle.std.specs.Prelude.{◌≡◌};
-    ghost use Rattle.cat_core.specs.declared.failure.Failure.TheVariants as failures;
-
-    ghost from_gives = { λ _ failure. failure ≡ failures.NoMemory };
-
-    fn from(_: AllocFailed<T>) -> Failure {
         Failure::NoMemory
     }
 }
