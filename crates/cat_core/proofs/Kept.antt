@@ -5,7 +5,7 @@ use Rattle.cat_names.specs.declared.hash.Hash.{Hash}
 use Rattle.cat_model.specs.declared.commit.Commit.{Commit}
 use Rattle.cat_model.specs.declared.limits.Limits.{Limits}
 use Rattle.cat_model.specs.Chain.{Commits, commit_of, chain, map_of, entries, generation}
-use Rattle.cat_model.specs.Maps.{Map, IsMap, after_changes}
+use Rattle.cat_model.specs.Maps.{IsMap}
 use Rattle.cat_model.specs.Same.{same_hash}
 use Rattle.cat_core.specs.declared.commits.Kept.{Kept}
 use Rattle.cat_core.specs.Keeping.{recorded, kept_of, kept_map, kept_generation, IsNext, IsStored, AreKept}

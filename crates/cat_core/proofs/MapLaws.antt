@@ -1,14 +1,13 @@
 -- Looking keys up after changes.
-use Rattle.std.proofs.Common.{◌≡◌, List, [], ◌∷◌, ◌++◌, Option, Some, None, true, if◌then◌else◌, refl, sym, ap, ◌∙◌}
-use Rattle.std.specs.Ordering.{is_eq, ordering_reverse}
-use Rattle.std.specs.Cmp.Lexicographic.{pointwise_decides, bytes_decides, lists_ties, texts_ties, slice_cmp}
+use Rattle.std.proofs.Common.{◌≡◌, List, [], ◌∷◌, Option, Some, None, true, refl, ap, ◌∙◌}
+use Rattle.std.specs.Ordering.{ordering_reverse}
 use Rattle.std.specs.declared.cmp.Ordering.{Ordering}
 use Rattle.std.specs.declared.cmp.Ordering.TheVariants.{Less, Equal, Greater}
 use Rattle.cat_codes.specs.Code.{follows, ascends}
 use Rattle.cat_names.specs.Fields.{Key, key_cmp}
 use Rattle.cat_model.specs.declared.entry.Entry.{Entry}
-use Rattle.cat_model.specs.Maps.{Map, Change, entry_of, after_change, after_changes, present, placed, IsMap}
-use Rattle.cat_core.proofs.KeyOrder.{key_total, less_is, split3, both_true, head_tail, ascends_any, ascends_lower, ascends_alike}
+use Rattle.cat_model.specs.Maps.{Map, Change, entry_of, after_change, after_changes, placed, IsMap}
+use Rattle.cat_core.proofs.KeyOrder.{key_total, less_is, both_true, head_tail, ascends_lower, ascends_alike}
 
 -- ---- a change keeps the order
 

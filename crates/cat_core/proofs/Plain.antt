@@ -1,16 +1,10 @@
 -- No definition refuses for want of memory.
-use Rattle.std.proofs.Common.{◌≡◌, ℕ, List, [], ◌∷◌, Option, Some, None, Result, Ok, Err, Bool, true, false, if◌then◌else◌, nat_lt, nat_le, refl, subst, ap}
+use Rattle.std.proofs.Common.{◌≡◌, ℕ, List, Option, Some, None, Result, Ok, Err, Bool, true, false, if◌then◌else◌, refl, subst, ap}
 use Rattle.sha2.specs.Sha256.{sha256}
 use Rattle.cat_names.specs.declared.hash.Hash.{Hash}
 use Rattle.cat_model.specs.declared.ask.Ask.{Ask}
 use Rattle.cat_model.specs.declared.ask.Ask.TheVariants as asks
-use Rattle.cat_model.specs.declared.command.Command.{Command}
-use Rattle.cat_model.specs.declared.command.Command.TheVariants as commands
-use Rattle.cat_model.specs.declared.command.CommitRequest.{CommitRequest}
-use Rattle.cat_model.specs.declared.commit.Commit.{Commit}
-use Rattle.cat_model.specs.declared.conflict.Conflict.{Conflict}
 use Rattle.cat_model.specs.declared.content.Content.{Content}
-use Rattle.cat_model.specs.declared.limits.Quantity.{Quantity}
 use Rattle.cat_model.specs.declared.reference.Reference.{Reference}
 use Rattle.cat_model.specs.declared.refusal.Refusal.{Refusal}
 use Rattle.cat_model.specs.declared.refusal.Refusal.TheVariants.{BadRequest, RefNotFound, RefExists, ContentNotFound, Conflicts, Expired, RetriesSpent, SweepOpen, Limit, Collision, Fault, Down, NoMemory, NoRoute, WrongMethod, TooLarge, Encoding}
@@ -20,13 +14,11 @@ use Rattle.cat_model.specs.declared.entry.Entry.{Entry}
 use Rattle.cat_model.specs.declared.reference.Effective.{Effective}
 use Rattle.cat_model.specs.declared.reply.Reply.TheVariants as replies
 use Rattle.cat_model.specs.Answer.{answer, effective_at, answer_reference, answer_content}
-use Rattle.cat_model.specs.Book.{Book, Reads, ReadRefuses, CallRefuses, IsCalled}
-use Rattle.cat_model.specs.Calls.{Called, told_at}
+use Rattle.cat_model.specs.Book.{Book, Reads, ReadRefuses}
+use Rattle.cat_model.specs.Calls.{told_at}
 use Rattle.cat_model.specs.Chain.{entries}
-use Rattle.cat_model.specs.Commits.{commit_opening, or_conflicts, needs_commit_room, step_commit}
-use Rattle.cat_model.specs.Maps.{Map, entry_of}
-use Rattle.cat_model.specs.Records.{added, with_commit, with_content, with_contents}
-use Rattle.cat_model.specs.Refusing.{◌>>=◌, Outcome, Tested, needs, found, named, perhaps_named, pointed}
+use Rattle.cat_model.specs.Maps.{entry_of}
+use Rattle.cat_model.specs.Refusing.{◌>>=◌, needs, found, named, perhaps_named, pointed}
 use Rattle.cat_model.specs.State.{State, content_at}
 use Rattle.cat_core.specs.declared.failure.Failure.{Failure}
 use Rattle.cat_core.specs.declared.failure.Failure.TheVariants as failures

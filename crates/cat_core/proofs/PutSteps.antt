@@ -1,25 +1,23 @@
 -- The step of a commit of one new content, by how far it comes.
-use Rattle.std.proofs.Common.{◌≡◌, ℕ, [], ◌∷◌, Result, Ok, Err, refl, sym, subst, ap, ◌∙◌}
+use Rattle.std.proofs.Common.{◌≡◌, ℕ, Result, Ok, refl, sym, subst, ◌∙◌}
 use Rattle.sha2.specs.Sha256.{sha256}
 use Rattle.cat_names.specs.Fields.{Key}
 use Rattle.cat_names.specs.declared.hash.Hash.{Hash}
 use Rattle.cat_model.specs.declared.command.CommitRequest.{CommitRequest}
 use Rattle.cat_model.specs.declared.content.Content.{Content}
-use Rattle.cat_model.specs.declared.op.Op.TheVariants.{Put}
 use Rattle.cat_model.specs.declared.reference.Reference.{Reference}
 use Rattle.cat_model.specs.declared.refusal.Refusal.{Refusal}
 use Rattle.cat_model.specs.Chain.{entries}
-use Rattle.cat_model.specs.Commits.{commit_opening, needs_commit_room, step_commit, committed, given_request}
+use Rattle.cat_model.specs.Commits.{commit_opening, needs_commit_room, step_commit, given_request}
 use Rattle.cat_model.specs.Maps.{entry_of}
-use Rattle.cat_model.specs.Records.{with_content, with_commit}
 use Rattle.cat_model.specs.Refusing.{◌>>=◌, Outcome, Tested}
-use Rattle.cat_model.specs.State.{State, entry_for, commit_hash}
+use Rattle.cat_model.specs.State.{State, commit_hash}
 use Rattle.cat_core.specs.declared.committing.Turn.{Turn}
 use Rattle.cat_core.specs.declared.failure.Failure.{Failure}
 use Rattle.cat_core.specs.declared.failure.Failure.TheVariants as failures
 use Rattle.cat_core.specs.declared.preparing.Prepared.{Prepared}
 use Rattle.cat_core.specs.Giving.{Fails}
-use Rattle.cat_core.specs.Putting.{IsOnePut, IsPrepared, add_step, fresh, needs_no_fault, put_commit, put_fault, put_step}
+use Rattle.cat_core.specs.Putting.{IsOnePut, IsPrepared, add_step, needs_no_fault, put_fault, put_step}
 use Rattle.cat_core.proofs.Put.{step_is, logged_is}
 
 abbrev pub room : State → Reference → Tested

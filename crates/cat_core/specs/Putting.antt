@@ -14,10 +14,8 @@ use Rattle.cat_model.specs.declared.entry.Entry.{Entry}
 use Rattle.cat_model.specs.declared.op.Op.{Op}
 use Rattle.cat_model.specs.declared.op.Op.TheVariants.{Put}
 use Rattle.cat_model.specs.declared.reference.Reference.{Reference}
-use Rattle.cat_model.specs.declared.refusal.Refusal.{Refusal}
 use Rattle.cat_model.specs.declared.refusal.Refusal.TheVariants.{Conflicts}
 use Rattle.cat_model.specs.declared.refusal.Refusal.TheVariants as refusals
-use Rattle.cat_model.specs.declared.refusal.Refused.{Refused}
 use Rattle.cat_core.specs.declared.failure.Failure.{Failure}
 use Rattle.cat_core.specs.declared.failure.Failure.TheVariants as failures
 use Rattle.cat_model.specs.declared.reply.Reply.{Reply}
@@ -28,7 +26,7 @@ use Rattle.cat_model.specs.Calls.{Called}
 use Rattle.cat_model.specs.Chain.{entries, generation}
 use Rattle.cat_model.specs.Commits.{needs_commit_room, committed}
 use Rattle.cat_model.specs.Differs.{differs}
-use Rattle.cat_model.specs.Judge.{new_fault, conflict_at}
+use Rattle.cat_model.specs.Judge.{new_fault}
 use Rattle.cat_model.specs.Maps.{entry_of}
 use Rattle.cat_model.specs.Records.{with_content, with_commit}
 use Rattle.cat_model.specs.Refusing.{◌>>=◌, Outcome, Tested}

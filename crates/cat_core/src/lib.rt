@@ -20,7 +20,5 @@ mod records;
 mod references;
 mod room;
 mod store;
-#[cfg(test)]
-mod tests;
 
 pub use store::Store;
