@@ -63,7 +63,10 @@ fn operations_in_any_order_make_one_map(rt: HostRuntime) -> Result<(), Fail> {
     assert_eq!(rt; later.len(), 2);
     assert_eq!(rt; later.get(&key(rt, &["a"])?), Some(entry(9)));
     let changed = map.changed(rt.alloc(), &later)?;
-    assert_eq!(rt; changed.as_slice(), [key(rt, &["a"])?, key(rt, &["b"])?].as_slice());
+    assert_eq!(rt;
+        changed.as_slice(),
+        [key(rt, &["a"])?, key(rt, &["b"])?].as_slice()
+    );
     Ok(())
 }
 
@@ -78,10 +81,16 @@ fn a_page_follows_a_key_under_a_filter(rt: HostRuntime) -> Result<(), Fail> {
     };
     let first = map.page(rt.alloc(), &filter, None, 1)?;
     assert!(rt; first.more);
-    assert_eq!(rt; first.pairs.as_slice(), [(key(rt, &["a"])?, entry(1))].as_slice());
+    assert_eq!(rt;
+        first.pairs.as_slice(),
+        [(key(rt, &["a"])?, entry(1))].as_slice()
+    );
     let rest = map.page(rt.alloc(), &filter, Some(&key(rt, &["a"])?), 1)?;
     assert!(rt; !rest.more);
-    assert_eq!(rt; rest.pairs.as_slice(), [(key(rt, &["a", "t"])?, entry(2))].as_slice());
+    assert_eq!(rt;
+        rest.pairs.as_slice(),
+        [(key(rt, &["a", "t"])?, entry(2))].as_slice()
+    );
     Ok(())
 }
 
