@@ -22,6 +22,7 @@ pub mod Book
 pub mod Script
 pub mod SinglePut
 pub mod Distinct
+pub mod WellMade
 pub mod Listing
 pub mod KeySets
 pub mod Changed

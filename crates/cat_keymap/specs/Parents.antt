@@ -1,0 +1,28 @@
+-- What a map has at the parent of a key.
+use Rattle.std.specs.Prelude.{[], ◌∷◌, Option, Some, None}
+use Rattle.cat_names.specs.Fields.{Key}
+use Rattle.cat_model.specs.declared.entry.ContentKind.{ContentKind}
+use Rattle.cat_model.specs.declared.entry.ContentKind.TheVariants.{IcebergTable, IcebergView, DeltaLakeTable, Namespace}
+use Rattle.cat_model.specs.declared.entry.Entry.{Entry}
+use Rattle.cat_model.specs.Keys.{parent}
+use Rattle.cat_model.specs.Maps.{Map, entry_of}
+use Rattle.cat_keymap.specs.declared.key_map.ParentState.{ParentState}
+use Rattle.cat_keymap.specs.declared.key_map.ParentState.TheVariants as state
+
+-- a namespace, or another content
+abbrev pub kind_state : ContentKind → ParentState
+kind_state IcebergTable = state.Other
+kind_state IcebergView = state.Other
+kind_state DeltaLakeTable = state.Other
+kind_state Namespace = state.Namespace
+
+-- what an entry, or none, is as a parent
+abbrev pub entry_state : Option Entry → ParentState
+entry_state None = state.Absent
+entry_state (Some entry) = kind_state entry.kind
+
+-- what the map has at the parent of a key; a key of one element needs none
+abbrev pub parent_state : Map → Key → ParentState
+parent_state map [] = state.Root
+parent_state map (element ∷ []) = state.Root
+parent_state map (element ∷ next ∷ key) = entry_state (entry_of map (parent (element ∷ next ∷ key)))
