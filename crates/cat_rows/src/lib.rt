@@ -3,9 +3,15 @@
 #![tactic(auto)]
 
 #[cfg(test)]
+mod commits;
+#[cfg(test)]
 mod faults;
 #[cfg(test)]
 mod first_path;
+#[cfg(test)]
+mod judging;
+#[cfg(test)]
+mod limits;
 #[cfg(test)]
 mod refusals;
 #[cfg(test)]

@@ -84,3 +84,19 @@ pub fn wrote(ran: &Ran, replies: &[&str]) -> bool {
     }
     rest.is_empty()
 }
+
+/// Whether a run of requests ends well and writes their replies, each beside its request.
+pub fn answers<R: Threads + Wait + Sync>(
+    rt: &R,
+    alloc: Global,
+    turns: &[(String, String)],
+) -> Result<bool, AllocError> {
+    let mut requests = Vec::new(alloc);
+    let mut replies = Vec::new(alloc);
+    for (request, reply) in turns {
+        requests.push(request.as_str())?;
+        replies.push(reply.as_str())?;
+    }
+    let ran = script(rt, alloc, &requests, 4096)?;
+    Ok(ran.status == Status::Done && wrote(&ran, &replies))
+}

@@ -1,0 +1,127 @@
+//! Commits on a store whose limits are low.
+
+use crate::commits::{commit, new_table};
+use cat_core::Store;
+use cat_http::{Buffer, Incoming, read_request};
+use cat_io::MemorySource;
+use cat_model::limits::{Limits, Quantity};
+use cat_model::moment::Moment;
+use cat_model::refusal::{Refusal, Refused};
+use cat_model::reply::Told;
+use cat_model::wanted::Wanted;
+use cat_rest::{Routes, to_command};
+use std::alloc::Global;
+use std::test::Fail;
+
+/// What a store tells of a commit of these operations on `main`.
+fn tell(
+    alloc: Global,
+    store: &mut Store,
+    operations: &str,
+) -> Result<Result<Told, Refused>, Fail> {
+    let text = commit(alloc, "main", operations)?;
+    let mut source = MemorySource::new(text.as_bytes().to_vec(alloc)?, 4096, Vec::new(alloc));
+    let mut buffer = Buffer::new(alloc)?;
+    if read_request(&mut source, &mut buffer) != Incoming::Request {
+        return Err(Fail::from("no request"));
+    }
+    let routes = Routes::new(alloc).ok().ok_or("memory")?;
+    match to_command(alloc, &routes, &buffer.request()) {
+        Ok(Wanted::Change(command)) => {
+            Ok(store.apply(alloc, 1, Moment::from_micros(1_000_000), &command))
+        }
+        Ok(Wanted::Read(_)) => Err(Fail::from("no command")),
+        Err(refused) => Ok(Err(refused)),
+    }
+}
+
+/// A store of these limits.
+fn store(alloc: Global, limits: Limits) -> Result<Store, Fail> {
+    let all = Limits::program();
+    if limits.log > all.log || limits.commits > all.commits {
+        return Err(Fail::from("a limit above the program's"));
+    }
+    Ok(Store::new(alloc, limits)?)
+}
+
+/// Where a call was accepted, or the limit that refused it, and where.
+#[derive(Clone, Copy, Debug, PartialEq, Eq)]
+enum Met {
+    Accepted(u32),
+    Full(Quantity, u64, Option<u32>),
+    Other,
+}
+
+fn met(told: &Result<Told, Refused>) -> Met {
+    match told {
+        Ok(told) => Met::Accepted(told.place),
+        Err(Refused {
+            place,
+            why: Refusal::Limit { which, number },
+        }) => Met::Full(*which, *number, *place),
+        Err(_) => Met::Other,
+    }
+}
+
+#[test]
+fn a_limit_of_one_lets_one_pass(rt: HostRuntime) -> Result<(), Fail> {
+    let alloc = rt.alloc();
+    let all = Limits::program();
+    let table = [
+        (Limits { log: 1, ..all }, Quantity::Log),
+        (Limits { commits: 1, ..all }, Quantity::Commits),
+        (Limits { keys: 1, ..all }, Quantity::Keys),
+        (Limits { contents: 1, ..all }, Quantity::Contents),
+        (Limits { drafts: 1, ..all }, Quantity::Drafts),
+    ];
+    let t1 = new_table(alloc, "\"t1\"", "m1")?;
+    let t2 = new_table(alloc, "\"t2\"", "m1")?;
+    for (limits, which) in table {
+        let mut store = store(alloc, limits)?;
+        let first = tell(alloc, &mut store, t1.as_str())?;
+        assert_eq!(rt; met(&first), Met::Accepted(1), "{which:?}");
+        let second = tell(alloc, &mut store, t2.as_str())?;
+        assert_eq!(rt; met(&second), Met::Full(which, 1, Some(1)), "{which:?}");
+    }
+    Ok(())
+}
+
+#[test]
+fn the_puts_of_a_commit_count_together(rt: HostRuntime) -> Result<(), Fail> {
+    let alloc = rt.alloc();
+    let all = Limits::program();
+    let t1 = new_table(alloc, "\"t1\"", "m1")?;
+    let t2 = new_table(alloc, "\"t2\"", "m2")?;
+    let both = format!(in alloc; "{t1},{t2}")?;
+    let table = [
+        (Limits { keys: 1, ..all }, Met::Full(Quantity::Keys, 1, Some(0))),
+        (Limits { keys: 2, ..all }, Met::Accepted(1)),
+        (
+            Limits { contents: 1, ..all },
+            Met::Full(Quantity::Contents, 1, Some(0)),
+        ),
+        (Limits { contents: 2, ..all }, Met::Accepted(1)),
+        (
+            Limits {
+                keys: 1,
+                contents: 1,
+                ..all
+            },
+            Met::Full(Quantity::Keys, 1, Some(0)),
+        ),
+        (
+            Limits {
+                log: 0,
+                commits: 0,
+                ..all
+            },
+            Met::Full(Quantity::Log, 0, Some(0)),
+        ),
+    ];
+    for (limits, expected) in table {
+        let mut store = store(alloc, limits)?;
+        let told = tell(alloc, &mut store, both.as_str())?;
+        assert_eq!(rt; met(&told), expected);
+    }
+    Ok(())
+}
