@@ -1,4 +1,5 @@
 -- What clauses say of a gate that holds calls.
+use Rattle.std.specs.Prelude.{ℕ, Bool}
 use Rattle.cat_desk.specs.Pass.{DeskId}
 use Rattle.cat_desk.specs.declared.pass.Pass.{Pass}
 use Rattle.cat_desk.specs.declared.hold.Hold.{Hold}
@@ -10,3 +11,14 @@ module _ {R V : Type 0} where
 
   abbrev pub own_desk : Hold R V → DeskId
   own_desk h = h.desk.now
+
+  -- how many entries it awaits, and in at most how many turns
+  abbrev pub awaits : Hold R V → ℕ
+  awaits h = h.entries
+
+  abbrev pub looks_in : Hold R V → ℕ
+  looks_in h = h.turns
+
+  -- a call went on although the entries were not there
+  abbrev pub was_late : Hold R V → Bool
+  was_late h = h.late

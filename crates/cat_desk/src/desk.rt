@@ -1,5 +1,5 @@
 //! The desk, and its calls.
-ghost use Rattle.std.specs.Prelude.{◌≡◌, ◌≢◌, ℕ, ◌+◌, ◌-◌, ◌%◌, ◌^◌, ◌<◌, ◌≤◌, ◌∷◌, [], max, IfOk, IfErr, Some, None, length};
+ghost use Rattle.std.specs.Prelude.{◌≡◌, ◌≢◌, ℕ, ◌+◌, ◌-◌, ◌%◌, ◌^◌, ◌<◌, ◌≤◌, ◌∷◌, [], max, IsOk, IfOk, IfErr, Some, None, length};
 ghost use Rattle.cat_model.specs.Drafts.{nothing_open, open_of, StaysOpen};
 ghost use Rattle.cat_model.specs.Turns.{Acts, snapshot};
 ghost use Rattle.cat_desk.specs.Sight.{Waiting, Called};
@@ -135,10 +135,11 @@ impl<V: Logged> Desk<V> {
     }
 
     /// Splits another pass off, which has seen as much. Its number has no entry since the desk was
-    /// made.
+    /// made. It takes no memory, and is never refused.
     pub fn split(&self, pass: &mut Pass) -> Result<Pass, NoMemory>
         requires free { IsFree self.now pass.old }
         requires spare { 0 < spare_of pass.old }
+        ensures succeeds { IsOk result }
         ensures refused { IfErr result (λ _. pass.new ≡ pass.old) }
         ensures kept { IfOk result (λ _. IsFree self.now pass.new × Remembers pass.old pass.new × (left_by pass.new ≡ left_by pass.old)) }
         ensures count { IfOk result (λ _. (number_of pass.new ≡ number_of pass.old) × (spare_of pass.new + 1 ≡ spare_of pass.old) × (stands_for pass.new ≡ stands_for pass.old)) }
@@ -183,10 +184,12 @@ impl<V: Logged> Desk<V> {
         pass.spare = pass.spare.max(spare);
     }
 
-    /// Ends the desk, once all passes are one, and gives the value back with the whole log.
+    /// Ends the desk, once all passes are one, and gives the value back with the whole log. It takes
+    /// no memory, and is never refused.
     pub fn close(self, pass: Pass) -> Result<V, (Desk<V>, Pass, NoMemory)>
         requires free { IsFree self pass }
         requires all { stands_for pass + spare_of pass ≡ 4294967295 }
+        ensures succeeds { IsOk result }
         ensures log { IfOk result (λ value. (V.log value ≡ seen pass) × (V.mark value ≡ mark_of pass)) }
         ensures legal { IfOk result (λ value. (V.opened value ≡ self.opened) × V.legal self.opened (V.log value)) }
         ensures own { IfOk result (λ value. StaysOpen (left_by pass) (open_of (number_of pass) (V.left_open value))) }

@@ -20,14 +20,15 @@ pub struct Hold<'a, R, V: Logged> {
 }
 
 impl<'a, R, V: Logged> Hold<'a, R, V> {
-    ghost use Rattle.std.specs.Prelude.{◌≡◌};
+    ghost use Rattle.std.specs.Prelude.{◌≡◌, not, IsFalse};
     ghost use Rattle.cat_desk.specs.Pass.{IsFree};
-    ghost use Rattle.cat_desk.specs.Hold.{own_pass, own_desk};
+    ghost use Rattle.cat_desk.specs.Hold.{own_pass, own_desk, awaits, looks_in, was_late};
 
     /// A gate over a pass of the desk.
     pub fn new(rt: &'a R, desk: &'a Desk<V>, pass: Pass, entries: u32, turns: u32) -> Hold<'a, R, V>
         requires { IsFree desk.now pass }
-        ensures { (own_desk result ≡ desk.now) × (own_pass result ≡ pass) }
+        ensures of { (own_desk result ≡ desk.now) × (own_pass result ≡ pass) }
+        ensures bounds { (awaits result ≡ entries) × (looks_in result ≡ turns) × IsFalse (was_late result) }
     {
         Hold {
             rt,
@@ -41,7 +42,7 @@ impl<'a, R, V: Logged> Hold<'a, R, V> {
 
     /// Gives the pass back, and tells whether every call was held until the entries were there.
     pub fn end(self) -> (Pass, bool)
-        ensures { result.0 ≡ own_pass self.entry }
+        ensures { (result.0 ≡ own_pass self.entry) × (result.1 ≡ not (was_late self.entry)) }
     {
         let Hold {
             rt: _,
@@ -56,15 +57,23 @@ impl<'a, R, V: Logged> Hold<'a, R, V> {
 }
 
 impl<'a, R: Wait, V: Logged> Gate for Hold<'a, R, V> {
-    ghost use Rattle.std.specs.Prelude.{[], ◌∷◌};
-    ghost use Rattle.cat_desk.specs.Pass.{IsFree};
-    ghost use Rattle.cat_desk.specs.Hold.{own_pass, own_desk};
+    ghost use Rattle.std.specs.Prelude.{◌≡◌, ◌<◌, ◌≤◌, ◌⊎◌, [], ◌∷◌, length, IsTrue, IsFalse};
+    ghost use Rattle.cat_desk.specs.Pass.{IsFree, seen};
+    ghost use Rattle.cat_desk.specs.Hold.{own_pass, own_desk, awaits, looks_in, was_late};
 
     ghost ready = { λ h. IsFree (own_desk h) (own_pass h) };
 
     ghost desks = { λ h. own_desk h ∷ [] };
 
-    fn between(&mut self, _pass: &Pass, _attempt: u32) {
+    /// It is late where even its last turn found too few entries.
+    fn between(&mut self, _pass: &Pass, _attempt: u32)
+        requires ready { IsFree (own_desk self.old) (own_pass self.old) }
+        ensures ready { IsFree (own_desk self.new) (own_pass self.new) }
+        ensures desks { own_desk self.new ≡ own_desk self.old }
+        ensures bounds { (awaits self.new ≡ awaits self.old) × (looks_in self.new ≡ looks_in self.old) }
+        ensures held { IsFalse (was_late self.new) → IsFalse (was_late self.old) × (awaits self.new ≤ length (seen (own_pass self.new))) }
+        ensures late { IsTrue (was_late self.new) → IsTrue (was_late self.old) ⊎ (looks_in self.new ≡ 0) ⊎ (length (seen (own_pass self.new)) < awaits self.new) }
+    {
         for _ in 0..self.turns {
             if count(self.rt, self.desk, &mut self.pass) >= self.entries {
                 return;

@@ -157,6 +157,14 @@ fn let_go(pass: Pass) {
     } = pass;
 }
 
+/// Two entries of other callers.
+fn two_notes(alloc: Global) -> Result<Notes, NoMemory> {
+    let mut notes = Notes::new(alloc);
+    notes.add(alloc, 7)?;
+    notes.add(alloc, 8)?;
+    Ok(notes)
+}
+
 /// Adds an entry once the log has so many, which it awaits for so many turns.
 fn add_after<R: Wait>(
     rt: &R,
@@ -284,5 +292,44 @@ fn a_held_call_goes_on_once_the_entry_is_there(rt: HostRuntime) -> Result<(), Fa
     desk.give_up(one);
     assert_eq!(rt; early, None);
     assert_eq!(rt; found, Some(1));
+    Ok(())
+}
+
+// Memory may be refused at any place of it: either the desk does all that it is asked, or the value
+// comes back whole. Only the making of a desk takes memory.
+#[test]
+fn a_refused_desk_hands_the_value_back_whole(rt: HostRuntime) -> Result<(), Fail> {
+    let alloc = rt.alloc();
+    let (Ok(notes), Ok(same)) = (two_notes(alloc), two_notes(alloc)) else {
+        println!(rt; "refused before the desk")?;
+        return Ok(());
+    };
+    let notes = match Desk::new(alloc, notes) {
+        Ok((desk, mut one)) => {
+            let Ok(mut two) = desk.split(&mut one) else {
+                panic!(rt; "a split took memory");
+            };
+            assert_eq!(rt; two.meet(&desk), 2);
+            let held = desk.enter(&rt, &mut two);
+            desk.leave(held, &mut two);
+            desk.join(&mut one, two);
+            let told = println!(rt; "the desk was made");
+            let closed = match desk.close(one) {
+                Ok(notes) => notes,
+                Err((desk, pass, _)) => {
+                    desk.give_up(pass);
+                    panic!(rt; "a close took memory");
+                }
+            };
+            told?;
+            closed
+        }
+        Err((notes, NoMemory)) => {
+            println!(rt; "the desk was refused")?;
+            notes
+        }
+    };
+    assert_eq!(rt; notes.count(), 2);
+    assert!(rt; notes.entries.as_slice() == same.entries.as_slice());
     Ok(())
 }
