@@ -43,7 +43,7 @@ as_pos : (z : ℤ) → pos 1970 ≤ℤ z → z ≡ pos (1970 + (unsigned_abs z -
 as_pos (pos n) h = let m : n ≡ 1970 + (n - 1970) = omega (arith, signed_arith) in ap pos m
 as_pos (negsuc n) h = absurd (omega (arith, signed_arith))
 
-from_start : (i : ℕ) → day_count (pos 1970) 1 1 ≤ day_count (pos (1970 + i)) 1 1
+pub from_start : (i : ℕ) → day_count (pos 1970) 1 1 ≤ day_count (pos (1970 + i)) 1 1
 from_start zero = omega arith
 from_start (suc n) = omega (arith, day_count-later_year (pos 1970) (pos (1970 + suc n)) (omega (arith, signed_arith)) (omega (arith, signed_arith)))
 

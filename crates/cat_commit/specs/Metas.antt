@@ -1,9 +1,9 @@
 -- What is said of commits, as JSON.
-use Rattle.std.specs.Prelude.{◌≡◌, ℕ, List, [], ◌∷◌, Option, Some, None, option_map, codes, false}
+use Rattle.std.specs.Prelude.{◌≡◌, ◌≤◌, ℕ, IfSome, List, [], ◌∷◌, Option, Some, None, option_map, codes, false}
 use Rattle.serde_json.specs.Data.{Data, string, object, Members, no_members}
 use Rattle.serde_json.specs.Find.{as_str}
 use Rattle.serde_json.specs.Written.{has_float, members_have_float}
-use Rattle.cat_json.specs.Reading.{◌>>=◌, required, optional, defaulted, list_as, map_as}
+use Rattle.cat_json.specs.Reading.{◌>>=◌, required, optional, defaulted, list_as, map_as, Ascends}
 use Rattle.cat_json.specs.Writing.{list_data, map_data, ◌+>◌, ◌+?>◌, floatless}
 use Rattle.cat_json.specs.Names.{hash_data}
 use Rattle.cat_names.specs.declared.hash.Hash.{Hash}
@@ -20,6 +20,10 @@ meta_as d =
     defaulted (map_as (list_as as_str)) [] (codes "allProperties") d >>= λ properties.
     optional moment_as (codes "authorTime") d >>= λ time.
     Some (record { message = message; authors = authors; signed = signed; properties = properties; author_time = time })
+
+-- the names of the properties ascend, and the time is a moment
+abbrev pub IsKept : Meta → Type 0
+IsKept m = Ascends m.properties × IfSome m.author_time (λ t. t ≤ 253_402_207_200_999_999)
 
 abbrev pub meta_members : Meta → Members
 meta_members m = no_members

@@ -1,6 +1,6 @@
 //! Instants as texts.
 
-ghost use Rattle.std.specs.Prelude.{◌≡◌, ◌<◌, ◌*ℤ◌, pos, refl};
+ghost use Rattle.std.specs.Prelude.{◌≡◌, ◌<◌, ◌≤◌, ◌*ℤ◌, Some, pos, refl};
 ghost use Rattle.jiff.specs.Words.{civil_nanos};
 ghost use Rattle.serde_json.specs.View.{view};
 ghost use Rattle.cat_json.specs.Reading.{Gives};
@@ -34,7 +34,8 @@ pub fn read_instant(text: &str) -> Option<Moment>
 
 /// The civil time of a moment, at UTC.
 fn civil_of(moment: Moment) -> DateTime
-    ensures { civil_nanos result ≡ pos moment *ℤ pos 1000 }
+    ensures civil { civil_nanos result ≡ pos moment *ℤ pos 1000 }
+    ensures known { moment ≤ 253402207200999999 }
 {
     let Ok(found) = Timestamp::from_microsecond(moment.micros() as i64) else {
         unreachable!()
@@ -90,9 +91,10 @@ fn civil_text(dt: DateTime) -> [u8; 27]
     ]
 }
 
-/// The text of a moment at UTC: `YYYY-MM-DDTHH:MM:SS.ffffffZ`.
+/// The text of a moment at UTC: `YYYY-MM-DDTHH:MM:SS.ffffffZ`. It is read as that moment again.
 pub fn write_instant(moment: Moment) -> [u8; 27]
-    ensures { result ≡ instant_text moment }
+    ensures text { result ≡ instant_text moment }
+    ensures reads_again { moment_of result ≡ Some moment }
 {
     civil_text(civil_of(moment))
 }

@@ -1,10 +1,10 @@
 //! What is said of commits, as JSON.
 
-ghost use Rattle.std.specs.Prelude.{◌≡◌, IfOk};
+ghost use Rattle.std.specs.Prelude.{◌≡◌, IfOk, Some};
 ghost use Rattle.serde_json.specs.View.{view};
 ghost use Rattle.cat_json.specs.Reading.{Gives};
 ghost use Rattle.cat_json.specs.Writing.{held};
-ghost use Rattle.cat_commit.specs.Metas.{meta_as, meta_members, meta_data, parents_of, commit_meta_data, no_float_meta, no_float_commit_meta};
+ghost use Rattle.cat_commit.specs.Metas.{meta_as, IsKept, meta_members, meta_data, parents_of, commit_meta_data, no_float_meta, no_float_commit_meta};
 
 use crate::instant::InstantForm;
 use cat_codes::ascending::Ascending;
@@ -53,10 +53,22 @@ fn meta_object(alloc: Global, meta: &Meta) -> Result<Object, NoMemory>
         .with::<Text>("message", &meta.message)
 }
 
-/// A meta as a JSON object, without `authorTime` where it has none.
-pub fn meta_to_json(alloc: Global, meta: &Meta) -> Result<Value, NoMemory>
-    ensures { IfOk result (λ v. view v ≡ meta_data meta.now) }
+/// What holds of each meta.
+fn known(meta: &Meta)
+    ensures { IsKept meta.now }
 {
+    meta.properties.known();
+    if let Some(time) = meta.author_time {
+        time.micros();
+    }
+}
+
+/// A meta as a JSON object, without `authorTime` where it has none. It is read as that meta again.
+pub fn meta_to_json(alloc: Global, meta: &Meta) -> Result<Value, NoMemory>
+    ensures data { IfOk result (λ v. view v ≡ meta_data meta.now) }
+    ensures reads_again { IfOk result (λ v. meta_as (view v) ≡ Some meta.now) }
+{
+    known(meta);
     Ok(meta_object(alloc, meta)?.into_value())
 }
 

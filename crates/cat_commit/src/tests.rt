@@ -23,6 +23,18 @@ fn a_commit_has_its_bytes_and_their_hash(rt: HostRuntime) -> Result<(), Fail> {
 }
 
 #[test]
+fn the_merge_parent_is_told_after_the_parent(rt: HostRuntime) -> Result<(), Fail> {
+    let alloc = rt.alloc();
+    let commit = from_bytes(alloc, MERGE)?;
+    let bytes = to_bytes(alloc, &commit)?;
+    assert!(rt; bytes.as_slice() == MERGE);
+    let hash = id(alloc, &commit)?;
+    let text = to_text::<CommitMetaForm>(alloc, &(hash, commit))?;
+    assert!(rt; text.as_str() == MERGE_TEXT);
+    Ok(())
+}
+
+#[test]
 fn instants_are_read_by_jiff_and_written_with_six_digits(rt: HostRuntime) -> Result<(), Fail> {
     let alloc = rt.alloc();
     let meta = read::<MetaForm>(alloc, META)?;
@@ -66,3 +78,11 @@ const COMMIT: &[u8] =
 // with the SHA-256 of the bytes above
 const COMMIT_TEXT: &str =
     r#"{"allProperties":{},"allSignedOffBy":[],"authors":[],"commitTime":"1970-01-01T00:00:01.000000Z","hash":"f92df14c291c55081a6374c5074b1394016591b1981cd32b3bddb20a3f86d5d4","message":"one","parentCommitHashes":["2e1cfa82b035c26cbbbdae632cea070514eb8b773f616aaeaf668e2f0be8f10d"]}"#;
+
+// parents H("empty") and 0, 1, 2, .. 31; no changes
+const MERGE: &[u8] =
+    b"\x4e\x43\x31\x2e\x1c\xfa\x82\xb0\x35\xc2\x6c\xbb\xbd\xae\x63\x2c\xea\x07\x05\x14\xeb\x8b\x77\x3f\x61\x6a\xae\xaf\x66\x8e\x2f\x0b\xe8\xf1\x0d\x01\x00\x01\x02\x03\x04\x05\x06\x07\x08\x09\x0a\x0b\x0c\x0d\x0e\x0f\x10\x11\x12\x13\x14\x15\x16\x17\x18\x19\x1a\x1b\x1c\x1d\x1e\x1f\x00\x00\x00\x00\x00\x00\x00\x02\x00\x00\x00\x00\x00\x1e\x84\x80\x00\x00\x00\x03\x74\x77\x6f\x00\x00\x00\x01\x00\x00\x00\x01\x61\x00\x00\x00\x00\x00\x00\x00\x00\x01\x00\x00\x00\x00\x00\x00\x00\x05\x00\x00\x00\x00";
+
+// with the SHA-256 of the bytes above
+const MERGE_TEXT: &str =
+    r#"{"allProperties":{},"allSignedOffBy":[],"authorTime":"1970-01-01T00:00:00.000005Z","authors":["a"],"commitTime":"1970-01-01T00:00:02.000000Z","hash":"96be1ec11cd836af5aaca993eca4b19ff86dbc5dd6036024adb3dbbf49ab97f7","message":"two","parentCommitHashes":["2e1cfa82b035c26cbbbdae632cea070514eb8b773f616aaeaf668e2f0be8f10d","000102030405060708090a0b0c0d0e0f101112131415161718191a1b1c1d1e1f"]}"#;

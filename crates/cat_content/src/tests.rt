@@ -70,6 +70,39 @@ fn absent_and_null_members_have_their_defaults(rt: HostRuntime) -> Result<(), Fa
     Ok(())
 }
 
+#[test]
+fn each_type_is_written_with_its_members_by_their_names(rt: HostRuntime) -> Result<(), Fail> {
+    let alloc = rt.alloc();
+    let table = [
+        (
+            r#"{"type":"ICEBERG_TABLE","metadataLocation":"m","snapshotId":1,"schemaId":-2,"specId":3,"sortOrderId":4}"#,
+            r#"{"id":"00000000-0000-0001-0000-000000000000","metadataLocation":"m","schemaId":-2,"snapshotId":1,"sortOrderId":4,"specId":3,"type":"ICEBERG_TABLE"}"#,
+        ),
+        (
+            r#"{"type":"ICEBERG_VIEW","metadataLocation":"m","versionId":-1,"schemaId":2}"#,
+            r#"{"id":"00000000-0000-0001-0000-000000000000","metadataLocation":"m","schemaId":2,"type":"ICEBERG_VIEW","versionId":-1}"#,
+        ),
+        (
+            r#"{"type":"DELTA_LAKE_TABLE","metadataLocationHistory":["a","b"],"checkpointLocationHistory":["c"],"lastCheckpoint":"d"}"#,
+            r#"{"checkpointLocationHistory":["c"],"id":"00000000-0000-0001-0000-000000000000","lastCheckpoint":"d","metadataLocationHistory":["a","b"],"type":"DELTA_LAKE_TABLE"}"#,
+        ),
+        (
+            r#"{"type":"NAMESPACE","elements":["a"],"properties":{"q":"2","p":"1"}}"#,
+            r#"{"elements":["a"],"id":"00000000-0000-0001-0000-000000000000","properties":{"p":"1","q":"2"},"type":"NAMESPACE"}"#,
+        ),
+    ];
+    for (given, written) in table {
+        let Given { body, .. } = read::<ContentForm>(alloc, given.as_bytes())?;
+        let content = Content { id: FIRST, body };
+        let text = to_text::<ContentForm>(alloc, &content)?;
+        assert!(rt; text.as_str() == written, "{given}");
+        let again = read::<ContentForm>(alloc, written.as_bytes())?;
+        assert!(rt; again.id == Some(FIRST), "{given}");
+        assert!(rt; again.body == content.body, "{given}");
+    }
+    Ok(())
+}
+
 const TABLE_GIVEN: &[u8] =
     br#"{"type":"ICEBERG_TABLE","metadataLocation":"m1","snapshotId":1,"schemaId":0,"specId":0,"sortOrderId":0}"#;
 

@@ -5,9 +5,15 @@
 #[cfg(test)]
 mod commits;
 #[cfg(test)]
+mod content_texts;
+#[cfg(test)]
+mod contents;
+#[cfg(test)]
 mod faults;
 #[cfg(test)]
 mod first_path;
+#[cfg(test)]
+mod heads;
 #[cfg(test)]
 mod judging;
 #[cfg(test)]
@@ -16,6 +22,8 @@ mod limits;
 mod refusals;
 #[cfg(test)]
 mod runs;
+#[cfg(test)]
+mod targets;
 #[cfg(test)]
 mod texts;
 #[cfg(test)]
