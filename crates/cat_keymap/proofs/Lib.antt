@@ -5,3 +5,4 @@ pub mod Listings
 pub mod Sorting
 pub mod KeyLists
 pub mod Walks
+pub mod Twice

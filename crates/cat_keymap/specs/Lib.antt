@@ -7,3 +7,4 @@ pub mod Ordered
 pub mod Parts
 pub mod MapsAt
 pub mod Walking
+pub mod Unlike

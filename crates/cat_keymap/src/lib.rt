@@ -8,6 +8,7 @@ mod below;
 mod changing;
 mod children;
 mod differing;
+pub mod distinct;
 pub mod key_map;
 pub mod listing;
 pub mod maps;
