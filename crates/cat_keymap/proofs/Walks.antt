@@ -1,13 +1,13 @@
 -- Where two maps differ, from the lowest key on.
 use Rattle.std.proofs.Common.{◌≡◌, ℕ, suc, ◌+◌, ◌<◌, List, [], ◌∷◌, ◌++◌, length, get_or, drop, Option, Some, None, Bool, true, false, ◌&&◌, ◌||◌, ◌⊎◌, inl, inr, if◌then◌else◌, refl, sym, ap, ◌∙◌, arith, append_assoc, drop-cons}
-use Rattle.std.specs.Prelude.{is_none, is_some, not, nat_eq}
+use Rattle.std.specs.Prelude.{is_none, is_some, not}
 use Rattle.std.specs.Ordering.{is_lt, is_eq, ordering_reverse}
 use Rattle.std.specs.Cmp.{tied_back}
 use Rattle.cat_model.specs.Differs.{differs}
 use Rattle.std.specs.declared.cmp.Ordering.TheVariants.{Less, Equal, Greater}
 use Rattle.cat_codes.specs.Code.{follows, ascends}
 use Rattle.cat_names.specs.Fields.{Key, key_cmp}
-use Rattle.cat_keymap.specs.KeyOrder.{key_total, less_is, split3, both_true, and_true, head_tail, below_alike, ascends_any}
+use Rattle.cat_keymap.specs.KeyOrder.{key_total, split3, both_true, head_tail, below_alike, ascends_any}
 use Rattle.cat_model.specs.declared.entry.Entry.{Entry}
 use Rattle.cat_model.specs.Maps.{Map, entry_of, IsMap}
 use Rattle.cat_keymap.specs.Places.{below, above}

@@ -1,5 +1,5 @@
 -- Operations in the order of their keys.
-use Rattle.std.specs.Prelude.{List, [], ◌∷◌, Option, Some, None, Bool, true, ◌&&◌, IsTrue, map}
+use Rattle.std.specs.Prelude.{List, [], ◌∷◌, Option, Some, None, Bool, true, ◌&&◌, map}
 use Rattle.std.proofs.Common.{Bor}
 use Rattle.cat_codes.specs.Code.{follows}
 use Rattle.cat_names.specs.Fields.{Key, key_cmp}

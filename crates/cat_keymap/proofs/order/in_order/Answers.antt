@@ -1,5 +1,4 @@
 use Rattle.std.proofs.Common.{rules, Bor}
-use Rattle.std.specs.List.Sorted.{IsSortedBy}
 use Rattle.std.specs.Ordering.{is_lt}
 use Rattle.std.proofs.lemmas.List.Sorted.{ranks_by, answers_always}
 use Rattle.cat_names.specs.Fields.{key_cmp}
