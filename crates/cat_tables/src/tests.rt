@@ -1,0 +1,67 @@
+use crate::table::Table;
+use cat_codes::text::Text;
+use cat_names::hash::Hash;
+use std::test::*;
+
+/// The hash of a number's bytes.
+fn hash(n: u64) -> Hash {
+    Hash::of(n.to_be_bytes().as_slice())
+}
+
+#[test]
+fn a_hash_keeps_its_first_value_until_it_is_cut(rt: HostRuntime) -> Result<(), Fail> {
+    let mut table = Table::new(rt.alloc());
+    table.add(hash(1), 10u64)?;
+    table.add(hash(2), 20)?;
+    table.add(hash(1), 30)?;
+    assert_eq!(rt; table.len(), 2);
+    assert_eq!(rt; table.get(&hash(1)), Some(&10));
+    assert_eq!(rt; table.as_slice(), [(hash(1), 10), (hash(2), 20)].as_slice());
+    table.cut(3);
+    assert_eq!(rt; table.len(), 2);
+    table.cut(1);
+    assert!(rt; table.get(&hash(2)).is_none());
+    table.add(hash(2), 40)?;
+    assert_eq!(rt; table.get(&hash(1)), Some(&10));
+    assert_eq!(rt; table.get(&hash(2)), Some(&40));
+    Ok(())
+}
+
+#[test]
+fn a_thousand_values_are_found(rt: HostRuntime) -> Result<(), Fail> {
+    let mut table = Table::new(rt.alloc());
+    for n in 0..1000u64 {
+        table.add(hash(n), n)?;
+    }
+    assert_eq!(rt; table.len(), 1000);
+    for n in 0..1000u64 {
+        assert_eq!(rt; table.get(&hash(n)), Some(&n));
+    }
+    assert!(rt; table.get(&hash(1000)).is_none());
+    table.cut(400);
+    assert_eq!(rt; table.len(), 400);
+    assert_eq!(rt; table.get(&hash(399)), Some(&399));
+    for n in 400..1000u64 {
+        assert!(rt; table.get(&hash(n)).is_none());
+    }
+    Ok(())
+}
+
+#[test]
+fn values_are_pushed_into_room_made_before(rt: HostRuntime) -> Result<(), Fail> {
+    let mut table = Table::new(rt.alloc());
+    table.reserve(2)?;
+    table.push(hash(7), Text::from_str(rt.alloc(), "first")?);
+    table.known();
+    let other = hash(8);
+    if table.get(&other).is_none() {
+        table.push(other, Text::from_str(rt.alloc(), "second")?);
+    }
+    assert_eq!(rt; table.len(), 2);
+    assert_eq!(rt;
+        table.get(&hash(7)).map(|text| text.as_str()),
+        Some("first")
+    );
+    assert_eq!(rt; table.get(&other).map(|text| text.as_str()), Some("second"));
+    Ok(())
+}
