@@ -1,5 +1,6 @@
 -- The book after what is accepted, from the lists of the store.
-use Rattle.std.proofs.Common.{◌≡◌, ℕ, ◌+◌, List, ◌∷◌, reverse, Some, refl, subst}
+use Rattle.std.proofs.Common.{◌≡◌, ℕ, ◌+◌, List, ◌∷◌, ◌++◌, reverse, Some, refl, ap, subst, ◌∙◌}
+use Rattle.std.proofs.lemmas.List.{reverse-append}
 use Rattle.cat_names.specs.declared.hash.Hash.{Hash}
 use Rattle.cat_model.specs.declared.content.Content.{Content}
 use Rattle.cat_model.specs.declared.limits.Limits.{Limits}
@@ -27,9 +28,11 @@ pub accepted_is : (before : Book) (caller draft moment : ℕ) (a : Accepted) (pl
     → book_of place references commits contents limits last log ≡ before
     → moved ≡ moved_reference references a.moved
     → commits1 ≡ commits → reverse commits2 ≡ with_first a.kept (reverse commits1)
-    → contents1 ≡ contents → reverse contents2 ≡ with_first a.content (reverse contents1)
+    → contents1 ≡ contents → contents2 ≡ contents1 ++ a.contents.items
     → log1 ≡ log → reverse log2 ≡ record { place = place + 1; caller = caller; draft = draft; moment = moment; command = commands.Commit a.request; head = Some a.moved.head } ∷ reverse log1
     → book_of (place + 1) moved commits2 contents2 limits draft log2 ≡ accepted_book before caller draft moment a
 accepted_is before caller draft moment a place references moved commits commits1 commits2 contents contents1 contents2 limits last log log1 log2 view r k1 k2 c1 c2 l1 l2 =
+    let present : reverse contents2 ≡ reverse a.contents.items ++ reverse contents =
+    ap reverse (c2 ∙ ap (λ (l : List (Hash × Content)). l ++ a.contents.items) c1) ∙ reverse-append contents a.contents.items in
     subst (λ (b : Book). book_of (place + 1) moved commits2 contents2 limits draft log2 ≡ accepted_book b caller draft moment a) view
-    (rw (r, k2, k1, c2, c1, l2, l1, recorded_first a.kept (reverse commits)) refl)
+    (rw (r, k2, k1, present, l2, l1, recorded_first a.kept (reverse commits)) refl)

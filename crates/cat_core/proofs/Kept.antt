@@ -1,16 +1,14 @@
 -- What is kept of a commit against the definitions.
-use Rattle.std.proofs.Common.{◌≡◌, ℕ, ◌+◌, ◌≤◌, List, [], ◌∷◌, length, Option, Some, None, Bool, true, false, if◌then◌else◌, refl, sym, ap, subst, ◌∙◌, arith}
+use Rattle.std.proofs.Common.{◌≡◌, ℕ, ◌+◌, ◌≤◌, List, [], ◌∷◌, length, Option, Some, None, Bool, true, false, if◌then◌else◌, refl, sym, ap, ◌∙◌, arith}
 use Rattle.std.specs.Option.{option_map, is_some, IfSome}
 use Rattle.cat_names.specs.declared.hash.Hash.{Hash}
 use Rattle.cat_model.specs.declared.commit.Commit.{Commit}
 use Rattle.cat_model.specs.declared.limits.Limits.{Limits}
 use Rattle.cat_model.specs.Chain.{Commits, commit_of, chain, map_of, entries, generation}
-use Rattle.cat_model.specs.Maps.{IsMap}
 use Rattle.cat_model.specs.Same.{same_hash}
 use Rattle.cat_core.specs.declared.commits.Kept.{Kept}
 use Rattle.cat_core.specs.Keeping.{recorded, kept_of, kept_map, kept_generation, IsNext, IsStored, AreKept}
 use Rattle.cat_core.specs.Putting.{recorded_one, with_first}
-use Rattle.cat_core.proofs.MapLaws.{IsMap-after_changes}
 
 commit_by : (b : Bool) (k : Kept) (older : Option Kept) (commit : Option Commit) → commit ≡ option_map (λ (x : Kept). x.commit) older
     → (if b then Some k.commit else commit) ≡ option_map (λ (x : Kept). x.commit) (if b then Some k else older)
@@ -49,19 +47,6 @@ generation_bound [] hash are = omega arith
 generation_bound (k ∷ kept) hash are =
     let b = bound_by (same_hash k.hash hash) k.commit.generation (generation (recorded kept) hash) (length (recorded kept)) (are.0).bounded (generation_bound kept hash are.1) in
     omega arith
-
-IsMap-map_of : (commits : Commits) → IsMap (map_of commits)
-IsMap-map_of [] = refl
-IsMap-map_of (x ∷ older) = IsMap-after_changes x.1.ops (map_of older) (IsMap-map_of older)
-
--- the entries at a commit are a map
-pub IsMap-entries : (commits : Commits) (hash : Hash) → IsMap (entries commits hash)
-unfolding entries
-IsMap-entries commits hash = IsMap-map_of (chain commits hash)
-
--- what is kept of a commit is a map
-pub is_map : (kept : List Kept) (hash : Hash) → AreKept kept → IsMap (kept_map (kept_of kept hash))
-is_map kept hash are = subst IsMap (map_is kept hash are) (IsMap-entries (recorded kept) hash)
 
 some_by : (b : Bool) (k : Kept) (commit : Option Commit) (older : Option Kept) → is_some commit ≡ is_some older → is_some (if b then Some k.commit else commit) ≡ is_some (if b then Some k else older)
 some_by true k commit older e = refl

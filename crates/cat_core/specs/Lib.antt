@@ -1,4 +1,4 @@
 pub mod Keeping
 pub mod Giving
-pub mod Places
+pub mod Ops
 pub mod Putting

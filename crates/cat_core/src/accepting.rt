@@ -1,6 +1,6 @@
 //! What an accepted commit adds to a store.
 
-ghost use Rattle.std.specs.Prelude.{◌≡◌, ◌<◌, Some, IfOk, IfSome, OnErr, OnOk, reverse};
+ghost use Rattle.std.specs.Prelude.{◌≡◌, ◌<◌, ◌≤◌, ◌+◌, ◌++◌, Some, IfOk, IfSome, OnErr, OnOk, reverse};
 ghost use Rattle.std.specs.Vec.{vec_len, vec_capacity};
 ghost use Rattle.cat_model.specs.State.{moved_reference};
 ghost use Rattle.cat_model.specs.declared.command.Command.TheVariants as commands;
@@ -19,23 +19,34 @@ use cat_model::reference::Reference;
 use cat_model::reply::{Committed, Reply, Told};
 use cat_names::hash::Hash;
 
-/// Takes memory for one more of each.
+/// Takes memory for so many contents, for a commit and for an entry.
 fn reserve(
     contents: &mut Vec<(Hash, Content)>,
+    count: usize,
     commits: &mut Vec<Kept>,
     log: &mut Vec<LogEntry>,
 ) -> Result<(), NoMemory>
     ensures contents { contents.new.items ≡ contents.old.items }
     ensures commits { commits.new.items ≡ commits.old.items }
     ensures log { log.new.items ≡ log.old.items }
-    ensures content_room { OnOk result (vec_len contents.new < vec_capacity contents.new) }
+    ensures content_room { OnOk result (vec_len contents.new + count ≤ vec_capacity contents.new) }
     ensures commit_room { OnOk result (vec_len commits.new < vec_capacity commits.new) }
     ensures log_room { OnOk result (vec_len log.new < vec_capacity log.new) }
 {
-    contents.try_reserve(1)?;
+    contents.try_reserve(count)?;
     commits.try_reserve(1)?;
     log.try_reserve(1)?;
     Ok(())
+}
+
+/// Adds values to a list that has room for them.
+fn push_all<T: Drop>(list: &mut Vec<T>, mut values: Vec<T>)
+    requires { vec_len list.old + vec_len values ≤ vec_capacity list.old }
+    ensures { list.new.items ≡ list.old.items ++ values.items }
+{
+    let Ok(()) = list.append(&mut values) else {
+        unreachable!()
+    };
 }
 
 /// Adds a value to a list that has room for it, if there is one.
@@ -80,9 +91,10 @@ impl Store {
         ensures told { IfOk result (λ told. told ≡ accepted_told self.old accepted) }
         ensures err { OnErr result (self.new ≡ self.old) }
     {
-        reserve(&mut self.contents, &mut self.commits, &mut self.log)?;
+        let count = accepted.contents.len();
+        reserve(&mut self.contents, count, &mut self.commits, &mut self.log)?;
         let Accepted {
-            content,
+            contents,
             kept,
             moved,
             added,
@@ -91,7 +103,7 @@ impl Store {
         self.place += 1;
         self.draft = turn.draft;
         let entry = entry(self.place, turn, request, moved.head);
-        push_some(&mut self.contents, content);
+        push_all(&mut self.contents, contents);
         push_some(&mut self.commits, kept);
         move_in(&mut self.references, &moved);
         push_some(&mut self.log, Some(entry));

@@ -5,7 +5,8 @@ ghost use Rattle.sha2.specs.Sha256.{sha256};
 ghost use Rattle.cat_model.specs.Book.{Applies, Reads, call_on};
 ghost use Rattle.cat_model.specs.Calls.{needs_draft};
 ghost use Rattle.cat_model.specs.Commits.{commit_opening};
-ghost use Rattle.cat_model.specs.SinglePut.{is_one_put, is_single_put};
+ghost use Rattle.cat_model.specs.Distinct.{are_distinct};
+ghost use Rattle.cat_model.specs.WellMade.{is_well_made};
 ghost use Rattle.cat_model.specs.declared.command.Command.TheVariants as commands;
 ghost use Rattle.cat_core.specs.Giving.{SaysAs, refused_at};
 ghost use Rattle.cat_core.specs.Putting.{Commits, taking};
@@ -89,7 +90,7 @@ impl Store {
         self.draft = draft;
     }
 
-    /// Commits one new content.
+    /// Commits the operations of a request on distinct keys.
     fn commit(
         &mut self,
         alloc: Global,
@@ -97,7 +98,7 @@ impl Store {
         moment: Moment,
         request: &CommitRequest,
     ) -> Result<Told, Failure>
-        requires { IsTrue (is_one_put request.now.ops request.now.contents) }
+        requires { IsTrue (are_distinct request.now.ops) }
         ensures { Commits (call_on sha256 caller self.old (commands.Commit request.now) moment) self.old self.new result }
     {
         let (branch, expected) = self.open(request)?;
@@ -117,6 +118,7 @@ impl Store {
     }
 
     /// Makes a call that changes the catalogue.
+    #[tactic(auto, using(crate::proofs::Asked::ops_are_distinct))]
     pub fn apply(
         &mut self,
         alloc: Global,
@@ -124,7 +126,7 @@ impl Store {
         moment: Moment,
         command: &Command,
     ) -> Result<Told, Refused>
-        requires { IsTrue (is_single_put command.now) }
+        requires { IsTrue (is_well_made sha256 command.now) }
         ensures { Applies (call_on sha256 caller self.old command.now moment) self.old self.new result }
     {
         let place = self.place();

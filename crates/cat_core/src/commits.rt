@@ -5,18 +5,16 @@ ghost use Rattle.std.specs.Option.{option_copied};
 ghost use Rattle.cat_model.specs.Chain.{on_chain};
 ghost use Rattle.cat_core.specs.Keeping.{kept_of, recorded};
 
-use cat_codes::seq::Seq;
+use cat_keymap::key_map::KeyMap;
 use cat_model::commit::Commit;
-use cat_model::entry::Entry;
 use cat_names::hash::Hash;
-use cat_names::key::ContentKey;
 
-/// A commit under its hash, with the entries of keys at it, keys ascending.
+/// A commit under its hash, with the map at it.
 #[derive(Debug, Drop)]
 pub(crate) struct Kept {
     pub(crate) hash: Hash,
     pub(crate) commit: Commit,
-    pub(crate) map: Seq<(ContentKey, Entry)>,
+    pub(crate) map: KeyMap,
 }
 
 /// The newest commit of a hash, of commits that stand the oldest first.

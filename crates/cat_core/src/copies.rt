@@ -4,6 +4,7 @@ ghost use Rattle.std.specs.Prelude.{◌≡◌, IfOk};
 
 use cat_model::commit::Meta;
 use cat_model::content::{Body, Content, DeltaLakeTable, IcebergTable, IcebergView, Namespace};
+use cat_model::op::Op;
 use std::alloc::AllocError;
 
 pub(crate) fn copy_meta(meta: &Meta) -> Result<Meta, AllocError>
@@ -49,4 +50,19 @@ pub(crate) fn copy_content(content: &Content) -> Result<Content, AllocError>
         id: content.id,
         body,
     })
+}
+
+pub(crate) fn copy_op(op: &Op) -> Result<Op, AllocError>
+    ensures { IfOk result (λ copy. copy ≡ op.now) }
+{
+    let copy = match op {
+        Op::Put { key, entry, fresh } => Op::Put {
+            key: key.clone()?,
+            entry: *entry,
+            fresh: *fresh,
+        },
+        Op::Delete { key } => Op::Delete { key: key.clone()? },
+        Op::Unchanged { key } => Op::Unchanged { key: key.clone()? },
+    };
+    Ok(copy)
 }

@@ -1,19 +1,30 @@
-//! What stands against a new content at a key.
+//! The map after the operations of a request, unless they conflict.
 
-ghost use Rattle.std.specs.Prelude.{◌≡◌};
-ghost use Rattle.cat_core.specs.Putting.{put_fault};
+ghost use Rattle.std.specs.Prelude.{◌≡◌, IsTrue};
+ghost use Rattle.cat_model.specs.Commits.{or_conflicts};
+ghost use Rattle.cat_model.specs.Distinct.{are_distinct};
+ghost use Rattle.cat_model.specs.Judge;
+ghost use Rattle.cat_core.specs.Giving.{Gives};
 
-use cat_model::conflict::{ConflictKind, differs};
-use cat_model::entry::Entry;
+use crate::failure::Failure;
+use cat_keymap::key_map::KeyMap;
+use cat_model::op::Op;
+use cat_model::refusal::Refusal;
+use cat_rules::judging::{Judged, judge};
+use std::alloc::Global;
 
-/// The first rule that a new content breaks at a key of one element, by the entries expected and
-/// found there.
-pub(crate) fn put_fault(expected: &Option<Entry>, found: &Option<Entry>) -> Option<ConflictKind>
-    ensures { result ≡ put_fault expected.now found.now }
+/// The map after the operations, by the maps that are expected and at the head.
+pub(crate) fn map_after(
+    alloc: Global,
+    expected: &KeyMap,
+    head: &KeyMap,
+    ops: &[Op],
+) -> Result<KeyMap, Failure>
+    requires { IsTrue (are_distinct ops.now) }
+    ensures { Gives result (or_conflicts (Judge.judge expected.now head.now ops.now)) }
 {
-    match (differs(expected, found), found) {
-        (Some(kind), _) => Some(kind),
-        (None, Some(_)) => Some(ConflictKind::KeyExists),
-        (None, None) => None,
+    match judge(alloc, expected, head, ops)? {
+        Judged::Map(map) => Ok(map),
+        Judged::Conflicts(conflicts) => Err(Failure::Refused(Refusal::Conflicts(conflicts))),
     }
 }

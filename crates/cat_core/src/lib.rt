@@ -1,8 +1,7 @@
 //! A catalogue in memory: its references, its commits with the map at each, its contents, and the
 //! log that led to them. A store is seen as a book of the model. Each call answers what the model's
 //! call on the book does and leaves the book that it leaves, or is refused for want of memory,
-//! which leaves state and log as they were. So far a changing call commits one new content at a key
-//! of one element.
+//! which leaves state and log as they were.
 #![tactic(auto)]
 
 mod accepting;
@@ -12,8 +11,9 @@ mod committing;
 mod contents;
 mod copies;
 mod failure;
+mod given;
 mod judging;
-mod map;
+mod ops;
 mod preparing;
 mod reading;
 mod records;

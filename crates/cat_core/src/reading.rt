@@ -1,10 +1,9 @@
 //! What reading calls answer.
 
-ghost use Rattle.std.specs.Prelude.{◌≡◌, reverse};
+ghost use Rattle.std.specs.Prelude.{◌≡◌, reverse, IfOk};
 ghost use Rattle.std.specs.Option.{option_copied, is_some};
 ghost use Rattle.sha2.specs.Sha256.{sha256};
 ghost use Rattle.cat_model.specs.Chain.{commit_of, entries};
-ghost use Rattle.cat_model.specs.Maps.{IsMap};
 ghost use Rattle.cat_model.specs.State.{is_known};
 ghost use Rattle.cat_model.specs.Refusing as refusing;
 ghost use Rattle.cat_model.specs.Answer.{effective_at, answer_reference, answer_content, answer};
@@ -14,29 +13,26 @@ use crate::commits::{find_kept, is_on_chain};
 use crate::contents::find_content;
 use crate::copies::copy_content;
 use crate::failure::Failure;
-use crate::map::entry_at;
 use crate::references::find_reference;
 use crate::store::Store;
+use cat_keymap::key_map::KeyMap;
 use cat_model::ask::{Ask, ContentAsk};
-use cat_model::entry::Entry;
 use cat_model::reference::{Effective, Pointer, Reference};
 use cat_model::refusal::{Missing, Refusal};
 use cat_model::reply::{ContentReply, Reply};
 use cat_names::hash::Hash;
-use cat_names::key::ContentKey;
 use cat_names::ref_name::RefName;
-use std::alloc::Global;
+use std::alloc::{AllocError, Global};
 
 impl Store {
-    /// The entries at a commit, keys ascending.
-    #[tactic(auto, using(crate::proofs::Kept::map_is, crate::proofs::Kept::is_map))]
-    pub(crate) fn map_at(&self, hash: &Hash) -> &[(ContentKey, Entry)]
-        ensures map { result.now ≡ entries self.now.state.commits hash.now }
-        ensures ascends { IsMap result.now }
+    /// The map at a commit.
+    #[tactic(auto, using(crate::proofs::Kept::map_is))]
+    pub(crate) fn map_at(&self, hash: &Hash) -> Result<KeyMap, AllocError>
+        ensures { IfOk result (λ map. map ≡ entries self.now.state.commits hash.now) }
     {
         match find_kept(self.commits(), hash) {
-            None => &[],
-            Some(kept) => kept.map.as_slice(),
+            None => Ok(KeyMap::empty()),
+            Some(kept) => kept.map.clone(),
         }
     }
 
@@ -105,7 +101,7 @@ impl Store {
     {
         let reference = self.perhaps_named(&ask.at.name)?;
         let hash = self.pointed(reference, &ask.at.hash)?;
-        let Some(entry) = entry_at(self.map_at(&hash), &ask.key) else {
+        let Some(entry) = self.map_at(&hash)?.get(&ask.key) else {
             return Err(Failure::Refused(Refusal::ContentNotFound(Missing::Absent)));
         };
         let Some(content) = find_content(self.contents(), &entry.hash) else {

@@ -1,14 +1,13 @@
 //! Room for what a commit adds.
 
-ghost use Rattle.std.specs.Prelude.{◌≡◌, ◌<◌, length, OnOk};
-ghost use Rattle.cat_model.specs.Chain.{entries};
+ghost use Rattle.std.specs.Prelude.{◌≡◌, ◌<◌, ◌+◌, length, OnOk};
 ghost use Rattle.cat_model.specs.Commits.{needs_commit_room};
 ghost use Rattle.cat_model.specs.Refusing as refusing;
 
 use crate::store::Store;
+use cat_keymap::key_map::KeyMap;
 use cat_model::limits::Quantity;
 use cat_model::refusal::Refusal;
-use cat_names::hash::Hash;
 
 /// There is room for one more.
 fn needs_room(count: u64, limit: u64, which: Quantity) -> Result<(), Refusal>
@@ -16,6 +15,21 @@ fn needs_room(count: u64, limit: u64, which: Quantity) -> Result<(), Refusal>
     ensures below { OnOk result (count < limit) }
 {
     if count < limit {
+        Ok(())
+    } else {
+        Err(Refusal::Limit {
+            which,
+            number: limit,
+        })
+    }
+}
+
+/// There is room for so many more.
+#[tactic(auto, using(std::proofs::lemmas::Bool::Decides::nat_tests))]
+fn needs_at_most(count: u64, more: u64, limit: u64, which: Quantity) -> Result<(), Refusal>
+    ensures { result ≡ refusing.needs_at_most (count + more) limit which }
+{
+    if count <= limit && more <= limit - count {
         Ok(())
     } else {
         Err(Refusal::Limit {
@@ -40,23 +54,22 @@ impl Store {
         self.contents().len() as u64
     }
 
-    fn key_count(&self, head: &Hash) -> u64
-        ensures { result ≡ length (entries self.now.state.commits head.now) }
-    {
-        self.map_at(head).len() as u64
-    }
-
-    /// There is room for an entry, for a commit, and for a content on the branch's map.
-    #[tactic(auto, unfolding(cat_model::specs::Commits::needs_commit_room), using(crate::proofs::Counts::at_most_is))]
-    pub(crate) fn needs_commit_room(&self, head: &Hash) -> Result<(), Refusal>
-        ensures test { result ≡ needs_commit_room self.now.state (entries self.now.state.commits head.now) 1 }
+    /// There is room for an entry, for a commit, and for so many PUTs on the branch's map.
+    #[tactic(auto, unfolding(cat_model::specs::Commits::needs_commit_room))]
+    pub(crate) fn needs_commit_room(&self, head: &KeyMap, puts: u64) -> Result<(), Refusal>
+        ensures test { result ≡ needs_commit_room self.now.state head.now puts }
         ensures place { OnOk result (self.now.state.place < 4294967295) }
         ensures commits { OnOk result (length self.now.state.commits < 4294967295) }
     {
         let limits = self.limits();
         needs_room(u64::from(self.place()), limits.log, Quantity::Log)?;
         needs_room(self.commit_count(), limits.commits, Quantity::Commits)?;
-        needs_room(self.key_count(head), limits.keys, Quantity::Keys)?;
-        needs_room(self.content_count(), limits.contents, Quantity::Contents)
+        needs_at_most(head.len() as u64, puts, limits.keys, Quantity::Keys)?;
+        needs_at_most(
+            self.content_count(),
+            puts,
+            limits.contents,
+            Quantity::Contents,
+        )
     }
 }

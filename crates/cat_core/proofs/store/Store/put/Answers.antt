@@ -1,28 +1,51 @@
-use Rattle.std.proofs.Common.{sym, subst, ◌∙◌}
+use Rattle.std.proofs.Common.{sym, ap, subst, ◌∙◌}
 use Rattle.std.proofs.lemmas.Result.{err_from_is_err_and, IfOk-weaker}
+use Rattle.cat_model.specs.Distinct.{are_distinct}
 use Rattle.cat_model.specs.Refusing.{Outcome}
 use Rattle.cat_core.specs.declared.failure.Failure.TheVariants.{Refused}
-use Rattle.cat_core.specs.Giving.{GivesAs}
+use Rattle.cat_core.specs.Giving.{Fails, GivesAs}
 use Rattle.cat_core.specs.Putting.{outcome_of}
-use Rattle.cat_core.proofs.PutSteps.{put_no_room, put_faulty, put_added, put_logged}
+use Rattle.cat_core.proofs.Ids.{still_distinct}
+use Rattle.cat_core.proofs.Steps.{judge_at, logged_is, map_is_after, room_is, step_added, step_conflicts, step_no_room}
 use Rattle.cat_core.proofs.store.Store.put.Goals as goal
 
 pub returns-in_err-needs_commit_room-clause-step : goal.returns-in_err-needs_commit_room-clause-step
 returns-in_err-needs_commit_room-clause-step c =
-    let p = err_from_is_err_and c.from_residual.result c.from_residual.ensures.1 in
-    rw (p.1, p.2) (put_no_room c.args.self.now.state c.args.turn.draft c.args.turn.moment c.args.request.now _ _ _ _ (Refused c.in_err-needs_commit_room.field-0.0) c.parts.ensures c.requires.opened (sym c.in_err-needs_commit_room.ensures.test))
+    let p = err_from_is_err_and c.from_residual-in_err-needs_commit_room.result c.from_residual-in_err-needs_commit_room.ensures.1 in
+    let room = room_is c.args.self.now.state _ _ _ _ c.in_ok-given.given.ops _ c.in_ok-head.ensures c.puts.ensures.value c.as_slice.ensures c.in_err-needs_commit_room.ensures.test in
+    rw (p.1, p.2) (step_no_room c.args.self.now.state c.args.request.now c.args.turn.draft c.args.turn.moment c.args.branch.now c.args.expected.now _ _ (Refused c.in_err-needs_commit_room.field-0.0)
+    (record { ops_are = c.in_ok-given.ensures.ops; contents_are = c.in_ok-given.ensures.contents }) c.requires.opened room)
 
-pub returns-in_err-needs_no_fault-clause-step : goal.returns-in_err-needs_no_fault-clause-step
-returns-in_err-needs_no_fault-clause-step c =
-    let p = err_from_is_err_and c.from_residual-in_err-needs_no_fault.result c.from_residual-in_err-needs_no_fault.ensures.1 in
-    rw (p.1, p.2) (put_faulty c.args.self.now.state c.args.turn.draft c.args.turn.moment c.args.request.now _ _ _ _ c.in_err-needs_no_fault.field-0.0 c.parts.ensures c.requires.opened (sym c.in_ok-needs_commit_room.ensures.test) c.in_err-needs_no_fault.ensures)
+pub map_after-requires : goal.map_after-requires
+map_after-requires c =
+    ap are_distinct c.as_slice-2.ensures ∙ still_distinct c.args.turn.draft c.args.request.now c.in_ok-given.given.ops c.in_ok-given.ensures.ops c.requires.distinct
+
+pub returns-in_err-map-clause-step : goal.returns-in_err-map-clause-step
+returns-in_err-map-clause-step c =
+    let p = err_from_is_err_and c.from_residual-in_err-map.result c.from_residual-in_err-map.ensures.1 in
+    let room = room_is c.args.self.now.state _ _ _ _ c.in_ok-given.given.ops _ c.in_ok-head.ensures c.puts.ensures.value c.as_slice.ensures c.in_ok-needs_commit_room.ensures.test in
+    let judged = judge_at _ _ _ _ _ c.in_ok-given.given.ops c.in_ok-before.ensures c.in_ok-head.ensures c.as_slice-2.ensures in
+    rw (p.1, p.2) (step_conflicts c.args.self.now.state c.args.request.now c.args.turn.draft c.args.turn.moment c.args.branch.now c.args.expected.now _ _ c.in_err-map.field-0.0
+    (record { ops_are = c.in_ok-given.ensures.ops; contents_are = c.in_ok-given.ensures.contents }) c.requires.opened room (subst (Fails c.in_err-map.field-0.0) judged c.in_err-map.ensures))
+
+pub prepare-requires-clause-distinct : goal.prepare-requires-clause-distinct
+prepare-requires-clause-distinct c = still_distinct c.args.turn.draft c.args.request.now c.in_ok-given.given.ops c.in_ok-given.ensures.ops c.requires.distinct
+
+pub prepare-requires-clause-map : goal.prepare-requires-clause-map
+prepare-requires-clause-map c =
+    let judged = judge_at _ _ _ _ _ c.in_ok-given.given.ops c.in_ok-before.ensures c.in_ok-head.ensures c.as_slice-2.ensures in
+    map_is_after _ _ _ c.in_ok-given.given.ops (sym judged ∙ c.in_ok-map.ensures)
 
 pub returns-clause-step : goal.returns-clause-step
 returns-clause-step c =
+    let room = room_is c.args.self.now.state _ _ _ _ c.in_ok-given.given.ops _ c.in_ok-head.ensures c.puts.ensures.value c.as_slice.ensures c.in_ok-needs_commit_room.ensures.test in
+    let judged = judge_at _ _ _ _ _ c.in_ok-given.given.ops c.in_ok-before.ensures c.in_ok-head.ensures c.as_slice-2.ensures in
     subst (λ (o : Outcome). GivesAs (outcome_of c.args.self.now.state) c.add.result o)
-    (sym (put_added c.args.self.now.state c.args.turn c.args.request.now _ _ _ _ c.in_ok-made.made c.parts.ensures c.requires.opened c.in_ok-made.ensures (sym c.in_ok-needs_commit_room.ensures.test) c.in_ok-needs_no_fault.ensures))
+    (sym (step_added c.args.self.now.state c.args.turn c.args.request.now c.args.branch.now c.args.expected.now c.in_ok-given.given c.in_ok-made.made c.in_ok-map.map
+    (record { ops_are = c.in_ok-given.ensures.ops; contents_are = c.in_ok-given.ensures.contents }) c.requires.opened room (sym judged ∙ c.in_ok-map.ensures) c.in_ok-made.ensures))
     c.add.ensures.step
 
 pub returns-clause-logged : goal.returns-clause-logged
 returns-clause-logged c =
-    IfOk-weaker c.add.result _ _ (λ a e. e ∙ put_logged c.args.self.now.state c.args.turn c.args.request.now c.args.branch.now _ _ c.in_ok-made.made c.parts.ensures c.in_ok-made.ensures) c.add.ensures.request
+    let given = logged_is c.args.request.now c.args.turn.draft c.in_ok-given.given.ops c.in_ok-given.given.contents (record { ops_are = c.in_ok-given.ensures.ops; contents_are = c.in_ok-given.ensures.contents }) in
+    IfOk-weaker c.add.result _ _ (λ a e. e ∙ c.in_ok-made.ensures.request ∙ given) c.add.ensures.request
