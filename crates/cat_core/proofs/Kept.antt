@@ -1,10 +1,12 @@
 -- What is kept of a commit against the definitions.
-use Rattle.std.proofs.Common.{◌≡◌, ℕ, ◌+◌, ◌≤◌, List, [], ◌∷◌, length, Option, Some, None, Bool, true, false, if◌then◌else◌, refl, sym, ap, ◌∙◌, arith}
+use Rattle.std.proofs.Common.{◌≡◌, ℕ, ◌+◌, ◌≤◌, List, [], ◌∷◌, length, Option, Some, None, Bool, true, false, if◌then◌else◌, refl, sym, ap, subst, ◌∙◌, arith}
 use Rattle.std.specs.Option.{option_map, is_some, IfSome}
 use Rattle.cat_names.specs.declared.hash.Hash.{Hash}
 use Rattle.cat_model.specs.declared.commit.Commit.{Commit}
 use Rattle.cat_model.specs.declared.limits.Limits.{Limits}
 use Rattle.cat_model.specs.Chain.{Commits, commit_of, chain, map_of, entries, generation}
+use Rattle.cat_model.specs.Maps.{Map}
+use Rattle.cat_model.specs.Namespaces.{is_well_formed}
 use Rattle.cat_model.specs.Same.{same_hash}
 use Rattle.cat_core.specs.declared.commits.Kept.{Kept}
 use Rattle.cat_core.specs.Keeping.{recorded, kept_of, kept_map, kept_generation, IsNext, IsStored, AreKept}
@@ -29,6 +31,20 @@ pub map_is : (kept : List Kept) (hash : Hash) → AreKept kept → entries (reco
 unfolding entries
 map_is [] hash are = refl
 map_is (k ∷ kept) hash are = map_by (same_hash k.hash hash) k (recorded kept) (kept_of kept hash) hash are.0 (map_is kept hash are.1)
+
+well_by : (b : Bool) (k : Kept) (older : Option Kept) → is_well_formed k.map ≡ true → is_well_formed (kept_map older) ≡ true → is_well_formed (kept_map (if b then Some k else older)) ≡ true
+well_by true k older h g = h
+well_by false k older h g = g
+
+well_kept : (kept : List Kept) (hash : Hash) → AreKept kept → is_well_formed (kept_map (kept_of kept hash)) ≡ true
+unfolding is_well_formed
+well_kept [] hash are = refl
+well_kept (k ∷ kept) hash are = well_by (same_hash k.hash hash) k (kept_of kept hash) (are.0).well_formed (well_kept kept hash are.1)
+
+-- the map at each commit is well-formed
+pub well_entries : (kept : List Kept) (commits : Commits) (hash : Hash) → AreKept kept → recorded kept ≡ commits → is_well_formed (entries commits hash) ≡ true
+well_entries kept commits hash are all =
+    subst (λ (l : Commits). is_well_formed (entries l hash) ≡ true) all (subst (λ (m : Map). is_well_formed m ≡ true) (sym (map_is kept hash are)) (well_kept kept hash are))
 
 generation_by : (b : Bool) (k : Kept) (older : ℕ) (found : Option Kept) → older ≡ kept_generation found → (if b then k.commit.generation else older) ≡ kept_generation (if b then Some k else found)
 generation_by true k older found e = refl

@@ -1,5 +1,5 @@
 -- The step of a commit, by how far it comes.
-use Rattle.std.proofs.Common.{◌≡◌, ℕ, ◌+◌, ◌≤◌, List, [], ◌∷◌, length, Result, Ok, map, filter_map, refl, sym, ap, subst, ◌∙◌}
+use Rattle.std.proofs.Common.{◌≡◌, ℕ, ◌+◌, ◌≤◌, List, [], ◌∷◌, length, Result, Ok, map, filter_map, refl, true, sym, ap, subst, ◌∙◌}
 use Rattle.sha2.specs.Sha256.{sha256}
 use Rattle.cat_names.specs.declared.hash.Hash.{Hash}
 use Rattle.cat_model.specs.declared.command.CommitRequest.{CommitRequest}
@@ -13,6 +13,7 @@ use Rattle.cat_model.specs.Chain.{entries}
 use Rattle.cat_model.specs.Commits.{commit_opening, committed, given_ops, given_request, needs_commit_room, or_conflicts, puts, request_commit, step_commit}
 use Rattle.cat_model.specs.Judge.{changes_of, judge, unless_conflicts}
 use Rattle.cat_model.specs.Maps.{Map, after_changes}
+use Rattle.cat_model.specs.Namespaces.{is_well_formed}
 use Rattle.cat_model.specs.Records.{with_commit, with_contents}
 use Rattle.cat_model.specs.Refusing.{◌>>=◌, Outcome, Tested}
 use Rattle.cat_model.specs.State.{State, commit_hash}
@@ -57,11 +58,12 @@ judge_at expected at before head slice ops b h s =
 
 -- a commit at a head, kept with the map after its operations
 pub next_kept : (state : State) (c : CommitRequest) (head : Hash) (moment : ℕ) (ops : List Op) (map : Map) (commit : Commit) (k : Kept) → commit ≡ request_commit state head moment c ops → commit.generation ≤ length state.commits + 1
-    → map ≡ after_changes (changes_of ops) (entries state.commits head) → k.commit ≡ commit → k.map ≡ map → IsNext state.commits k
+    → map ≡ after_changes (changes_of ops) (entries state.commits head) → is_well_formed map ≡ true → k.commit ≡ commit → k.map ≡ map → IsNext state.commits k
 unfolding request_commit
-next_kept state c head moment ops map commit k e b m kc km = record {
+next_kept state c head moment ops map commit k e b m w kc km = record {
   changed = subst (λ (x : Commit). k.map ≡ after_changes x.ops (entries state.commits x.parent)) (sym (kc ∙ e)) (km ∙ m);
   bounded = subst (λ (x : Commit). x.generation ≤ length state.commits + 1) (sym kc) b;
+  well_formed = subst (λ (m : Map). is_well_formed m ≡ true) (sym km) w;
 }
 
 abbrev room : State → Reference → List Op → Tested

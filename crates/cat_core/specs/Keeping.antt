@@ -1,9 +1,10 @@
 -- Commits with the maps at them, the newest first.
-use Rattle.std.specs.Prelude.{◌≡◌, ℕ, ◌+◌, ◌≤◌, List, [], ◌∷◌, length, Option, Some, None, if◌then◌else◌}
+use Rattle.std.specs.Prelude.{◌≡◌, ℕ, ◌+◌, ◌≤◌, List, [], ◌∷◌, length, Option, Some, None, IsTrue, if◌then◌else◌}
 use Rattle.cat_names.specs.declared.hash.Hash.{Hash}
 use Rattle.cat_model.specs.declared.limits.Limits.{Limits}
 use Rattle.cat_model.specs.Chain.{Commits, entries}
 use Rattle.cat_model.specs.Maps.{Map, after_changes}
+use Rattle.cat_model.specs.Namespaces.{is_well_formed}
 use Rattle.cat_model.specs.Same.{same_hash}
 use Rattle.cat_core.specs.declared.commits.Kept.{Kept}
 
@@ -17,10 +18,11 @@ abbrev pub kept_of : List Kept → Hash → Option Kept
 kept_of [] hash = None
 kept_of (k ∷ kept) hash = if same_hash k.hash hash then Some k else kept_of kept hash
 
--- a commit above older ones: its map is its changes of the map at its parent, and its generation is at most its place
+-- a commit above older ones: its map is its changes of the map at its parent, and well-formed, and its generation is at most its place
 pub record IsNext (older : Commits) (k : Kept) : Type 0 where
   pub changed : k.map ≡ after_changes k.commit.ops (entries older k.commit.parent)
   pub bounded : k.commit.generation ≤ length older + 1
+  pub well_formed : IsTrue (is_well_formed k.map)
 
 -- each is so above those older
 abbrev pub AreKept : List Kept → Type 0

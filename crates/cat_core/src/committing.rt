@@ -92,6 +92,7 @@ impl Store {
         ensures place { OnOk result (self.now.state.place < 4294967295) }
     {
         let given = with_ids(alloc, turn.draft, request)?;
+        self.map_is_well_formed(&branch.head);
         let head = self.map_at(&branch.head)?;
         self.needs_commit_room(&head, puts(given.ops.as_slice()))?;
         let before = self.map_at(expected)?;

@@ -1,9 +1,10 @@
 //! The map after the operations of a request, unless they conflict.
 
-ghost use Rattle.std.specs.Prelude.{◌≡◌, IsTrue};
+ghost use Rattle.std.specs.Prelude.{◌≡◌, IfOk, IsTrue};
 ghost use Rattle.cat_model.specs.Commits.{or_conflicts};
 ghost use Rattle.cat_model.specs.Distinct.{are_distinct};
 ghost use Rattle.cat_model.specs.Judge;
+ghost use Rattle.cat_model.specs.Namespaces.{is_well_formed};
 ghost use Rattle.cat_core.specs.Giving.{Gives};
 
 use crate::failure::Failure;
@@ -21,7 +22,8 @@ pub(crate) fn map_after(
     ops: &[Op],
 ) -> Result<KeyMap, Failure>
     requires { IsTrue (are_distinct ops.now) }
-    ensures { Gives result (or_conflicts (Judge.judge expected.now head.now ops.now)) }
+    ensures exact { Gives result (or_conflicts (Judge.judge expected.now head.now ops.now)) }
+    ensures well_formed { IsTrue (is_well_formed head.now) → IfOk result (λ map. IsTrue (is_well_formed map)) }
 {
     match judge(alloc, expected, head, ops)? {
         Judged::Map(map) => Ok(map),

@@ -8,6 +8,7 @@ ghost use Rattle.cat_model.specs.Distinct.{are_distinct};
 ghost use Rattle.cat_model.specs.Formats.{commit_code};
 ghost use Rattle.cat_model.specs.Judge;
 ghost use Rattle.cat_model.specs.Maps.{after_changes};
+ghost use Rattle.cat_model.specs.Namespaces.{is_well_formed};
 ghost use Rattle.cat_model.specs.State.{commit_hash};
 ghost use Rattle.cat_core.specs.Keeping.{IsNext};
 ghost use Rattle.cat_core.specs.Putting.{IsPrepared};
@@ -141,6 +142,7 @@ impl Store {
         requires room { length self.now.state.commits < 4294967295 }
         requires distinct { IsTrue (are_distinct ops.now) }
         requires map { map ≡ after_changes (Judge.changes_of ops.now) (entries self.now.state.commits head.now) }
+        requires well_formed { IsTrue (is_well_formed map) }
         ensures commit { IfOk result (λ x. x.0.commit ≡ request_commit self.now.state head.now moment request.now ops.now) }
         ensures next { IfOk result (λ x. IsNext self.now.state.commits x.0) }
         ensures kept_hash { IfOk result (λ x. x.0.hash ≡ x.1.hash) }
@@ -165,6 +167,7 @@ impl Store {
         requires room { length self.now.state.commits < 4294967295 }
         requires distinct { IsTrue (are_distinct given.ops) }
         requires map { map ≡ after_changes (Judge.changes_of given.ops) (entries self.now.state.commits branch.now.head) }
+        requires well_formed { IsTrue (is_well_formed map) }
         ensures { IfOk result (λ made. IsPrepared self.now.state turn request.now branch.now given made) }
     {
         let ops = given.ops.as_slice();

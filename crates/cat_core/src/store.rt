@@ -1,8 +1,10 @@
 //! The store.
 
-ghost use Rattle.std.specs.Prelude.{◌≡◌, ◌≤◌, reverse, IfOk, length};
+ghost use Rattle.std.specs.Prelude.{◌≡◌, ◌≤◌, reverse, IfOk, IsTrue, length};
 ghost use Rattle.sha2.specs.Sha256.{sha256};
 ghost use Rattle.cat_model.specs.Book.{first_book, Reads};
+ghost use Rattle.cat_model.specs.Chain.{entries};
+ghost use Rattle.cat_model.specs.Namespaces.{is_well_formed};
 ghost use Rattle.cat_core.specs.Keeping.{recorded, AreKept};
 
 use crate::commits::Kept;
@@ -63,6 +65,15 @@ impl Store {
             draft: 0,
             log: Vec::new(alloc),
         })
+    }
+
+    /// What holds of the map at each commit: the parent of each key is there as a namespace.
+    #[tactic(auto, using(crate::proofs::Kept::well_entries))]
+    pub fn map_is_well_formed(&self, hash: &Hash)
+        ensures { IsTrue (is_well_formed (entries self.now.state.commits hash.now)) }
+    {
+        let _ = hash;
+        let _ = self.commits();
     }
 
     pub(crate) fn place(&self) -> u32

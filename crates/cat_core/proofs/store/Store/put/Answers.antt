@@ -1,6 +1,8 @@
-use Rattle.std.proofs.Common.{sym, ap, subst, ◌∙◌}
+use Rattle.std.proofs.Common.{◌≡◌, true, sym, ap, subst, ◌∙◌}
 use Rattle.std.proofs.lemmas.Result.{err_from_is_err_and, IfOk-weaker}
 use Rattle.cat_model.specs.Distinct.{are_distinct}
+use Rattle.cat_model.specs.Maps.{Map}
+use Rattle.cat_model.specs.Namespaces.{is_well_formed}
 use Rattle.cat_model.specs.Refusing.{Outcome}
 use Rattle.cat_core.specs.declared.failure.Failure.TheVariants.{Refused}
 use Rattle.cat_core.specs.Giving.{Fails, GivesAs}
@@ -26,7 +28,7 @@ returns-in_err-map-clause-step c =
     let room = room_is c.args.self.now.state _ _ _ _ c.in_ok-given.given.ops _ c.in_ok-head.ensures c.puts.ensures.value c.as_slice.ensures c.in_ok-needs_commit_room.ensures.test in
     let judged = judge_at _ _ _ _ _ c.in_ok-given.given.ops c.in_ok-before.ensures c.in_ok-head.ensures c.as_slice-2.ensures in
     rw (p.1, p.2) (step_conflicts c.args.self.now.state c.args.request.now c.args.turn.draft c.args.turn.moment c.args.branch.now c.args.expected.now _ _ c.in_err-map.field-0.0
-    (record { ops_are = c.in_ok-given.ensures.ops; contents_are = c.in_ok-given.ensures.contents }) c.requires.opened room (subst (Fails c.in_err-map.field-0.0) judged c.in_err-map.ensures))
+    (record { ops_are = c.in_ok-given.ensures.ops; contents_are = c.in_ok-given.ensures.contents }) c.requires.opened room (subst (Fails c.in_err-map.field-0.0) judged c.in_err-map.ensures.exact))
 
 pub prepare-requires-clause-distinct : goal.prepare-requires-clause-distinct
 prepare-requires-clause-distinct c = still_distinct c.args.turn.draft c.args.request.now c.in_ok-given.given.ops c.in_ok-given.ensures.ops c.requires.distinct
@@ -34,7 +36,11 @@ prepare-requires-clause-distinct c = still_distinct c.args.turn.draft c.args.req
 pub prepare-requires-clause-map : goal.prepare-requires-clause-map
 prepare-requires-clause-map c =
     let judged = judge_at _ _ _ _ _ c.in_ok-given.given.ops c.in_ok-before.ensures c.in_ok-head.ensures c.as_slice-2.ensures in
-    map_is_after _ _ _ c.in_ok-given.given.ops (sym judged ∙ c.in_ok-map.ensures)
+    map_is_after _ _ _ c.in_ok-given.given.ops (sym judged ∙ c.in_ok-map.ensures.exact)
+
+pub prepare-requires-clause-well_formed : goal.prepare-requires-clause-well_formed
+prepare-requires-clause-well_formed c =
+    c.in_ok-map.ensures.well_formed (subst (λ (m : Map). is_well_formed m ≡ true) (sym c.in_ok-head.ensures) c.map_is_well_formed.ensures)
 
 pub returns-clause-step : goal.returns-clause-step
 returns-clause-step c =
@@ -42,7 +48,7 @@ returns-clause-step c =
     let judged = judge_at _ _ _ _ _ c.in_ok-given.given.ops c.in_ok-before.ensures c.in_ok-head.ensures c.as_slice-2.ensures in
     subst (λ (o : Outcome). GivesAs (outcome_of c.args.self.now.state) c.add.result o)
     (sym (step_added c.args.self.now.state c.args.turn c.args.request.now c.args.branch.now c.args.expected.now c.in_ok-given.given c.in_ok-made.made c.in_ok-map.map
-    (record { ops_are = c.in_ok-given.ensures.ops; contents_are = c.in_ok-given.ensures.contents }) c.requires.opened room (sym judged ∙ c.in_ok-map.ensures) c.in_ok-made.ensures))
+    (record { ops_are = c.in_ok-given.ensures.ops; contents_are = c.in_ok-given.ensures.contents }) c.requires.opened room (sym judged ∙ c.in_ok-map.ensures.exact) c.in_ok-made.ensures))
     c.add.ensures.step
 
 pub returns-clause-logged : goal.returns-clause-logged
