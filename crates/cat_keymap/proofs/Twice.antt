@@ -31,6 +31,16 @@ by_test : {P : Type 0} (b : Bool) → (b ≡ true → P) → (b ≡ false → P)
 by_test true f g = f refl
 by_test false f g = g refl
 
+-- ---- lists that don't fall
+
+abbrev pub no_fall : {K : Type 0} → (K → K → Ordering) → Option K → K → Bool
+no_fall cmp None k = true
+no_fall cmp (Some last) k = not (is_lt (cmp k last))
+
+abbrev pub climbs : {K : Type 0} → (K → K → Ordering) → Option K → List K → Bool
+climbs cmp last [] = true
+climbs cmp last (x ∷ xs) = no_fall cmp last x && climbs cmp (Some x) xs
+
 -- ---- how many elements are like one
 
 module _ {K : Type 0} (cmp : K → K → Ordering) (total : IsTotalOrder cmp) where
@@ -142,22 +152,14 @@ module _ {K : Type 0} (cmp : K → K → Ordering) (total : IsTotalOrder cmp) wh
 
   -- ---- sorted lists
 
-  abbrev no_fall : Option K → K → Bool
-  no_fall None k = true
-  no_fall (Some last) k = not (is_lt (cmp k last))
-
-  abbrev climbs : Option K → List K → Bool
-  climbs last [] = true
-  climbs last (x ∷ xs) = no_fall last x && climbs (Some x) xs
-
   -- where at most one is like any, a list that doesn't fall ascends
-  strict_from : (x : K) (xs : List K) → climbs (Some x) xs ≡ true → ((k : K) → count k (x ∷ xs) ≤ 1) → keys_ascend cmp (Some x) xs ≡ true
+  strict_from : (x : K) (xs : List K) → climbs cmp (Some x) xs ≡ true → ((k : K) → count k (x ∷ xs) ≤ 1) → keys_ascend cmp (Some x) xs ≡ true
   strict_from x [] up one = refl
   strict_from x (y ∷ ys) up one =
-      let parts = and_true (no_fall (Some x) y) (climbs (Some y) ys) up in
+      let parts = and_true (no_fall cmp (Some x) y) (climbs cmp (Some y) ys) up in
       both_true _ _ (above parts.0) (strict_from y ys parts.1 (λ k. (let all = count_more k x (y ∷ ys) in let most = one k in omega (arith, all, most))))
     where
-      above : no_fall (Some x) y ≡ true → is_lt (cmp x y) ≡ true
+      above : no_fall cmp (Some x) y ≡ true → is_lt (cmp x y) ≡ true
       above n = split3 (cmp x y)
           (λ o. ap is_lt o)
           (λ o. let all = count_more y x (y ∷ ys) in
@@ -168,12 +170,12 @@ module _ {K : Type 0} (cmp : K → K → Ordering) (total : IsTotalOrder cmp) wh
           (λ o. let back : is_lt (cmp y x) ≡ true = ap is_lt (total.antisymm y x ∙ ap ordering_reverse o) in
           let no : not (is_lt (cmp y x)) ≡ false = ap not back in absurd cc)
 
-  strict : (xs : List K) → climbs None xs ≡ true → ((k : K) → count k xs ≤ 1) → keys_ascend cmp None xs ≡ true
+  strict : (xs : List K) → climbs cmp None xs ≡ true → ((k : K) → count k xs ≤ 1) → keys_ascend cmp None xs ≡ true
   strict [] up one = refl
   strict (x ∷ xs) up one = strict_from x xs up one
 
   module _ {A : Type 0} (f : A → K) where
-    sorted_from : (x : A) (xs : List A) → IsSortedByKey f cmp (x ∷ xs) → climbs (Some (f x)) (map f xs) ≡ true
+    sorted_from : (x : A) (xs : List A) → IsSortedByKey f cmp (x ∷ xs) → climbs cmp (Some (f x)) (map f xs) ≡ true
     sorted_from x [] up = refl
     sorted_from x (y ∷ ys) up =
         let first : is_lt (cmp (f y) (f x)) ≡ false = up 0 x (omega arith) (omega arith) in
@@ -183,7 +185,7 @@ module _ {K : Type 0} (cmp : K → K → Ordering) (total : IsTotalOrder cmp) wh
             → is_lt (cmp (f (get_or (y ∷ ys) (k + 1) d)) (f (get_or (y ∷ ys) k d))) ≡ false
         later k d e = let n : suc k + 1 ≡ suc (k + 1) = omega arith in subst (λ (n : ℕ). is_lt (cmp (f (get_or (x ∷ y ∷ ys) n d)) (f (get_or (y ∷ ys) k d))) ≡ false) n e
 
-    sorted_climbs : (xs : List A) → IsSortedByKey f cmp xs → climbs None (map f xs) ≡ true
+    sorted_climbs : (xs : List A) → IsSortedByKey f cmp xs → climbs cmp None (map f xs) ≡ true
     sorted_climbs [] up = refl
     sorted_climbs (x ∷ xs) up = sorted_from x xs up
 
@@ -192,16 +194,21 @@ module _ {K : Type 0} (cmp : K → K → Ordering) (total : IsTotalOrder cmp) wh
 unlike_by : {K : Type 0} (s t : K → K → Bool) → ((x y : K) → s x y ≡ t x y) → (xs : List K) → unlike s xs ≡ unlike t xs
 unlike_by s t e xs = λ i. unlike (λ x y. e x y i) xs
 
--- a sorted list ascends exactly where no element of the first one comes twice
+-- a list that doesn't fall ascends exactly where no element comes twice
+pub climbing : {K : Type 0} (cmp : K → K → Ordering) → IsTotalOrder cmp → (same : K → K → Bool) → ((x y : K) → same x y ≡ is_eq (cmp x y))
+    → (xs ys : List K) → IsPermutation xs ys → climbs cmp None ys ≡ true → keys_ascend cmp None ys ≡ unlike same xs
+climbing {K} cmp total same ties xs ys p up =
+    let tie : K → K → Bool = λ a b. is_eq (cmp a b) in
+    let moved = λ (k : K). count_permuted cmp total k xs ys p in
+    both_ways (keys_ascend cmp None ys) (unlike tie xs)
+    (λ e. from_few cmp total xs (λ k. (let few = ascending_few cmp total None ys e k in let same = moved k in omega (arith, few, same))))
+    (λ e. strict cmp total ys up (λ k. (let few = few cmp total xs e k in let same = moved k in omega (arith, few, same))))
+    ∙ sym (unlike_by same tie ties xs)
+
+-- and so does a sorted list
 pub neighbours : {K : Type 0} (cmp : K → K → Ordering) → IsTotalOrder cmp → (same : K → K → Bool) → ((x y : K) → same x y ≡ is_eq (cmp x y))
     → {A : Type 0} (f : A → K) (xs ys : List A) → IsPermutation xs ys → IsSortedByKey f cmp ys → keys_ascend cmp None (map f ys) ≡ unlike same (map f xs)
-neighbours {K} cmp total same ties {A} f xs ys p up =
-    let tie : K → K → Bool = λ a b. is_eq (cmp a b) in
-    let moved = λ (k : K). count_permuted cmp total k (map f xs) (map f ys) (IsPermutation-map f xs ys p) in
-    both_ways (keys_ascend cmp None (map f ys)) (unlike tie (map f xs))
-    (λ e. from_few cmp total (map f xs) (λ k. (let few = ascending_few cmp total None (map f ys) e k in let same = moved k in omega (arith, few, same))))
-    (λ e. strict cmp total (map f ys) (sorted_climbs cmp total f ys up) (λ k. (let few = few cmp total (map f xs) e k in let same = moved k in omega (arith, few, same))))
-    ∙ sym (unlike_by same tie ties (map f xs))
+neighbours cmp total same ties f xs ys p up = climbing cmp total same ties (map f xs) (map f ys) (IsPermutation-map f xs ys p) (sorted_climbs cmp total f ys up)
 
 -- ---- keys of operations, and ids
 
