@@ -1,12 +1,11 @@
 -- The text of a moment names that moment.
-use Rattle.std.proofs.Common.{◌≡◌, ℕ, zero, suc, ◌+◌, ◌-◌, ◌*◌, ◌/◌, ◌%◌, ◌<◌, ◌≤◌, true, false, cond, nat_le, Some, Ok, refl, ap, subst, sym, ◌∙◌, arith, ℤ, pos, ◌+ℤ◌, ◌-ℤ◌, ◌*ℤ◌}
+use Rattle.std.proofs.Common.{◌≡◌, ℕ, zero, suc, ◌+◌, ◌-◌, ◌*◌, ◌/◌, ◌%◌, ◌<◌, ◌≤◌, true, false, cond, nat_le, Some, refl, ap, subst, ◌∙◌, arith, ℤ, pos, ◌+ℤ◌, ◌-ℤ◌, ◌*ℤ◌}
 use Rattle.std.proofs.lemmas.Bool.{leb-false, leb-true}
 use Rattle.jiff_core.proofs.SignedLemmas.{signed_arith}
 use Rattle.jiff_core.proofs.CalendarLemmas.{day_count-day_of_year, day_count-end, day_count-epoch, day_count-next_year, days_from_civil-day_count, days_of_months-zero, days_of_months_all}
 use Rattle.jiff_core.specs.Calendar.{IsCivilDate, day_count, days_from_civil, days_in_month, days_in_year, days_of_months}
 use Rattle.jiff_core.specs.Timestamp.{IsTimestampNanos, nanos_of_seconds}
-use Rattle.jiff_fmt.specs.Temporal.{DateParts, TimeParts, parse_timestamp, parts_nanos}
-use Rattle.cat_commit.specs.Instants.{after_epoch, day_in_month, day_of, instant_text, last_at, moment_of, months_of, rest_of, year_of, year_start, years_of}
+use Rattle.cat_commit.specs.Instants.{day_in_month, day_of, instant_text, last_at, moment_of, months_of, rest_of, year_of, year_start, years_of}
 use Rattle.cat_commit.proofs.Dates.{from_start}
 use Rattle.cat_commit.proofs.TextBack.{text_back}
 

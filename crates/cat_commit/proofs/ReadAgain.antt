@@ -2,8 +2,8 @@
 use Rattle.std.proofs.Common.{◌≡◌, ℕ, List, None, Some, Option, refl}
 use Rattle.serde_json.specs.Data.{string}
 use Rattle.serde_json.specs.Find.{as_str}
-use Rattle.cat_json.specs.Reading.{list_as, map_as, Ascends}
-use Rattle.cat_json.specs.Writing.{list_data, map_data}
+use Rattle.cat_json.specs.Reading.{list_as}
+use Rattle.cat_json.specs.Writing.{list_data}
 use Rattle.cat_json.proofs.RoundTrips.{list_back, map_back}
 use Rattle.cat_model.specs.declared.commit.Meta.{Meta}
 use Rattle.cat_commit.specs.Metas.{meta_as, meta_data, IsKept}

@@ -1,5 +1,5 @@
 -- The text of civil fields is read as those fields.
-use Rattle.std.proofs.Common.{◌≡◌, ℕ, ◌+◌, ◌-◌, ◌*◌, ◌/◌, ◌%◌, ◌^◌, ◌<◌, ◌≤◌, ◌==◌, ◌&&◌, ◌||◌, nat_lt, min, take_at, drop_at, true, false, List, [], ◌∷◌, ◌++◌, Option, Some, Ok, refl, sym, subst, arith, ℤ, pos, ◌-ℤ◌}
+use Rattle.std.proofs.Common.{◌≡◌, ℕ, ◌*◌, ◌/◌, ◌%◌, ◌<◌, ◌==◌, nat_lt, min, take_at, drop_at, true, false, List, [], ◌∷◌, ◌++◌, Some, Ok, refl, sym, subst, arith, ℤ, pos, ◌-ℤ◌}
 use Rattle.std.proofs.lemmas.Bool.Decides.{nat_tests}
 use Rattle.std.specs.Char.{is_ascii_digit}
 use Rattle.std.specs.List.{prefix_len}
@@ -12,7 +12,7 @@ use Rattle.jiff_fmt.proofs.RoundTrip.{annotations-empty, field-pad2, offset-zulu
 use Rattle.jiff_fmt.proofs.TemporalLemmas.{date_spec-ok, instant-ok}
 use Rattle.jiff_fmt.proofs.TextLemmas.{places-read}
 use Rattle.jiff_fmt.specs.Reader.{fraction_value, nanoseconds, temporal_fraction}
-use Rattle.jiff_fmt.specs.Temporal.{DateParts, TimeParts, date_spec, parse_timestamp, parts_nanos, temporal_datetime, time_spec}
+use Rattle.jiff_fmt.specs.Temporal.{date_spec, parse_timestamp, parts_nanos, temporal_datetime, time_spec}
 use Rattle.jiff_fmt.specs.Text.{pad2, pad4, places}
 use Rattle.cat_commit.specs.Instants.{digit, two, fields_text}
 
