@@ -1,6 +1,6 @@
 //! Reading values of JSON.
 
-ghost use Rattle.std.specs.Prelude.{◌≡◌, IfOk, Option, option_map};
+ghost use Rattle.std.specs.Prelude.{◌≡◌, IfErr, IfOk, Option, option_map};
 ghost use Rattle.serde_json.specs.Data.{Data};
 ghost use Rattle.serde_json.specs.Read.{read};
 ghost use Rattle.serde_json.specs.Find.{get};
@@ -65,9 +65,10 @@ pub fn required<F: ReadForm>(alloc: Global, value: &Value, name: &str) -> Result
     }
 }
 
-/// A member that must be there, as it stands.
+/// A member that must be there, as it stands. It wants no memory.
 pub fn member<'a>(value: &'a Value, name: &str) -> Result<&'a Value, JsonFault>
-    ensures { GivesView result (get name.now (view value.now)) }
+    ensures view { GivesView result (get name.now (view value.now)) }
+    ensures fault { IfErr result (λ e. e ≡ JsonFault.Bad) }
 {
     match value.get(name) {
         Some(found) => Ok(found),
@@ -86,9 +87,10 @@ pub fn present<'a>(value: &'a Value, name: &str) -> Option<&'a Value>
     }
 }
 
-/// A member that must be absent or null.
+/// A member that must be absent or null. It wants no memory.
 pub fn absent(value: &Value, name: &str) -> Result<(), JsonFault>
-    ensures { Gives result (absent name.now (view value.now)) }
+    ensures test { Gives result (absent name.now (view value.now)) }
+    ensures fault { IfErr result (λ e. e ≡ JsonFault.Bad) }
 {
     match present(value, name) {
         None => Ok(()),
