@@ -1,4 +1,5 @@
-ghost use Rattle.std.specs.Prelude.{◌≡◌};
+ghost use Rattle.std.specs.Prelude.{◌≡◌, IsErr};
+ghost use Rattle.cat_io.specs.Causes.{HasCause};
 ghost use Rattle.cat_io.specs.Absent.{faults_of_disks, faults_of_listener};
 
 use crate::disk::{Disk, Disks};
@@ -57,7 +58,10 @@ impl Disks for NoDisks {
 
     ghost faults = { faults_of_disks };
 
-    fn open(&mut self, _path: &str) -> Result<NoDisk, Failed> {
+    fn open(&mut self, _path: &str) -> Result<NoDisk, Failed>
+        ensures fails { IsErr result }
+        ensures cause { HasCause (faults_of_disks self.old) (faults_of_disks self.new) result }
+    {
         Err(count_fault(&mut self.faults))
     }
 
@@ -86,7 +90,10 @@ impl Listener for NoListener {
 
     ghost faults = { faults_of_listener };
 
-    fn listen(&mut self, _address: &str, _connections: u64) -> Result<(), Failed> {
+    fn listen(&mut self, _address: &str, _connections: u64) -> Result<(), Failed>
+        ensures fails { IsErr result }
+        ensures cause { HasCause (faults_of_listener self.old) (faults_of_listener self.new) result }
+    {
         Err(count_fault(&mut self.faults))
     }
 
@@ -94,7 +101,10 @@ impl Listener for NoListener {
         Ok(NoListener { faults: 0 })
     }
 
-    fn accept(&mut self) -> Result<Option<(MemorySource, MemorySink)>, Failed> {
+    fn accept(&mut self) -> Result<Option<(MemorySource, MemorySink)>, Failed>
+        ensures fails { IsErr result }
+        ensures cause { HasCause (faults_of_listener self.old) (faults_of_listener self.new) result }
+    {
         Err(count_fault(&mut self.faults))
     }
 
