@@ -5,3 +5,4 @@ pub mod Commands
 pub mod Reading
 pub mod Logs
 pub mod Limits
+pub mod Listings

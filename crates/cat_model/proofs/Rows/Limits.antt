@@ -3,6 +3,7 @@ use Rattle.std.specs.Prelude.{◌≡◌, refl, ℕ, List, [], ◌∷◌, Option,
 use Rattle.cat_codes.specs.Code.{u8_spelling, u16_spelling, u32_spelling, u64_spelling, i64_spelling, i32_spelling, list, ascending}
 use Rattle.cat_codes.specs.Texts.{text_code, short_text_code}
 use Rattle.cat_names.specs.Fields.{hash_code, id_code, element_code, key_code}
+use Rattle.cat_model.specs.declared.conflict.ConflictKind.TheVariants.{KeyExists}
 use Rattle.cat_model.specs.declared.limits.Quantity.TheVariants.{Log, Commits, Keys, Contents, Drafts}
 use Rattle.cat_model.specs.declared.op.Op.TheVariants.{Delete, Unchanged}
 use Rattle.cat_model.specs.declared.reference.Kind.TheVariants.{Branch}
@@ -21,7 +22,7 @@ use Rattle.cat_model.specs.Commits.{given_ops, given_request, request_commit, co
 use Rattle.cat_model.specs.Answer.{answer_reference, answer_content}
 use Rattle.cat_model.specs.Calls.{entry_made, call}
 use Rattle.cat_model.specs.Script.{Session, first_session, Outcomes, script}
-use Rattle.cat_model.proofs.Rows.Words.{quick, clock, Request, short, main, H0, table, no_id, new, again, commit, put_new, put, after, said, head, done, not, t1, t2, t9, m1, empty, limited, ample, one}
+use Rattle.cat_model.proofs.Rows.Words.{quick, clock, Request, short, main, H0, table, no_id, new, again, commit, put_new, put, after, said, head, done, not, refused_at, t1, t2, t9, m1, empty, limited, ample, one}
 
 limits_of_each_quantity : (said (limited (record ample { log = 1 })) (put_new None t1 m1 ∷ put_new None t1 m1 ∷ []) ≡ done 1 ∷ not (Some 1) (Limit Log 1) ∷ [])
     × (said (limited (record ample { commits = 1 })) (put_new None t1 m1 ∷ put_new None t1 m1 ∷ []) ≡ done 1 ∷ not (Some 1) (Limit Commits 1) ∷ [])
@@ -77,6 +78,10 @@ colliding_contents = refl
 contents_collide_before_the_commit : poorly poor (commit main None (Unchanged t1 ∷ []) [] ∷ tables (codes "x") (codes "yz") ∷ []) ≡ None ∷ Some (42, 43) ∷ []
 unfolding u8_spelling u16_spelling u32_spelling u64_spelling i64_spelling i32_spelling list ascending text_code short_text_code hash_code id_code element_code key_code moment_code kind_code entry_code meta_code commit_code table_code namespace_code of_table of_namespace content_code emptied_fault changes_of op_fault judge entries commit_bytes content_bytes with_commit with_content given_ops given_request request_commit commit_opening needs_commit_room step_commit answer_reference answer_content entry_made call script
 contents_collide_before_the_commit = refl
+
+conflicts_before_collisions : map short (script poor 1 clock (first_session poor ample) (put_new None t1 (codes "x") ∷ put_new None t1 (codes "yz") ∷ [])).said ≡ done 1 ∷ refused_at 1 t1 KeyExists ∷ []
+unfolding u8_spelling u16_spelling u32_spelling u64_spelling i64_spelling i32_spelling list ascending text_code short_text_code hash_code id_code element_code key_code moment_code kind_code entry_code meta_code commit_code table_code namespace_code of_table of_namespace content_code emptied_fault changes_of op_fault judge entries commit_bytes content_bytes with_commit with_content given_ops given_request request_commit commit_opening needs_commit_room step_commit answer_reference answer_content entry_made call script
+conflicts_before_collisions = refl
 
 a_commit_of_the_first_hash : poorly poorest (commit main None (Unchanged t1 ∷ []) [] ∷ []) ≡ Some (5, 45) ∷ []
 unfolding u8_spelling u16_spelling u32_spelling u64_spelling i64_spelling i32_spelling list ascending text_code short_text_code hash_code id_code element_code key_code moment_code kind_code entry_code meta_code commit_code table_code namespace_code of_table of_namespace content_code emptied_fault changes_of op_fault judge entries commit_bytes content_bytes with_commit with_content given_ops given_request request_commit commit_opening needs_commit_room step_commit answer_reference answer_content entry_made call script
