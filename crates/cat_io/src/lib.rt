@@ -1,6 +1,7 @@
 //! The outside as traits: bytes in, bytes out, the time, disks, and a listener. Each object counts
 //! its faults, and a call answers `Failed` only where that count rose. A memory form tells what it
-//! holds and what it will give; an adapter over the real thing tells nothing of content.
+//! holds and what it will give; an adapter over a stream of std's tells what that stream tells,
+//! which of the real ones is nothing.
 #![tactic(auto)]
 
 mod absent;
