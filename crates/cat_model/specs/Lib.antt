@@ -10,7 +10,6 @@ pub mod Maps
 pub mod Chain
 pub mod Namespaces
 pub mod Judge
-pub mod JudgeLaws
 pub mod State
 pub mod Refusing
 pub mod Records
@@ -20,7 +19,6 @@ pub mod Answer
 pub mod Calls
 pub mod Book
 pub mod Script
-pub mod SinglePut
 pub mod Distinct
 pub mod WellMade
 pub mod Listing

@@ -27,7 +27,6 @@ use Rattle.cat_model.specs.Answer.{answer_reference, answer_content}
 use Rattle.cat_model.specs.Calls.{entry_made, call}
 use Rattle.cat_model.specs.Script.{Session, script}
 use Rattle.cat_model.specs.declared.content.Content.{Content}
-use Rattle.cat_model.specs.SinglePut.{is_single_put}
 use Rattle.cat_model.proofs.Rows.Words.{main, H0, note, table, namespace, no_id, new, again, commit, put_new, put, both, read, after, said, head, done, gives, not, refused_at, t1, t2, t9, a, a-t, m1, empty, ids, head_commit, parent_of_head, one}
 
 the_first_commit : said empty (put_new (Some H0) t1 m1 ∷ read (Some main) None t1 ∷ read (Some main) None t2 ∷ [])
@@ -166,22 +165,3 @@ a_hash_off_the_chain = refl
 the_kind_is_looked_at_before_the_hash : said (record empty { state = record empty.state { references = record { name = main; kind = Tag; head = H0 } ∷ [] } }) (put_new (Some (record { bytes = 1 ∷ [] })) t1 m1 ∷ []) ≡ not (Some 0) (BadRequest NotABranch) ∷ []
 unfolding u8_spelling u16_spelling u32_spelling u64_spelling i64_spelling i32_spelling list ascending text_code short_text_code hash_code id_code element_code key_code moment_code kind_code entry_code meta_code commit_code table_code namespace_code of_table of_namespace content_code emptied_fault changes_of op_fault judge entries commit_bytes content_bytes with_commit with_content given_ops given_request request_commit commit_opening needs_commit_room step_commit answer_reference answer_content entry_made call script
 the_kind_is_looked_at_before_the_hash = refl
-
--- a request of operations, with tables of no id
-abbrev asks_for : List Op → List Content → Command
-asks_for ops contents = commands.Commit (record { branch = main; expected = None; meta = note; ops = ops; contents = contents })
-
-abbrev a_table : Content
-a_table = table no_id m1
-
-requests_of_one_new_content : map is_single_put (
-    asks_for (new t1 a_table ∷ []) (a_table ∷ [])
-    ∷ asks_for (new a (namespace a) ∷ []) (a_table ∷ [])
-    ∷ asks_for (new a-t a_table ∷ []) (a_table ∷ [])
-    ∷ asks_for (again t1 a_table ∷ []) (a_table ∷ [])
-    ∷ asks_for (new t1 a_table ∷ []) []
-    ∷ asks_for (new t1 a_table ∷ new t2 a_table ∷ []) (a_table ∷ a_table ∷ [])
-    ∷ asks_for (Delete t1 ∷ []) []
-    ∷ [])
-    ≡ true ∷ false ∷ false ∷ false ∷ false ∷ false ∷ false ∷ []
-requests_of_one_new_content = refl
