@@ -150,7 +150,12 @@ fn what_went_away_and_came_back_is_unchanged(rt: HostRuntime) -> Result<(), Fail
 #[test]
 fn each_difference_has_its_conflict(rt: HostRuntime) -> Result<(), Fail> {
     let alloc = rt.alloc();
-    let other_id = table(alloc, "\"t1\"", "00000000-0000-0009-0000-000000000009", "m1")?;
+    let other_id = table(
+        alloc,
+        "\"t1\"",
+        "00000000-0000-0009-0000-000000000009",
+        "m1",
+    )?;
     let moved = table(alloc, "\"t1\"", ID, "m2")?;
     let late = table(alloc, "\"t1\"", ID, "m3")?;
     let at = format!(in alloc; "main@{C1}")?;
@@ -219,7 +224,9 @@ fn many(alloc: Global, count: usize) -> Result<String, AllocError> {
         if n > 0 {
             operations.push_str(",")?;
         }
-        let one = format!(in alloc; "{{\"type\":\"UNCHANGED\",\"key\":{{\"elements\":[\"t{n}\"]}}}}")?;
+        let one = format!(in alloc;
+            "{{\"type\":\"UNCHANGED\",\"key\":{{\"elements\":[\"t{n}\"]}}}}"
+        )?;
         operations.push_str(one.as_str())?;
     }
     Ok(operations)
@@ -231,10 +238,7 @@ fn a_commit_has_at_most_ten_thousand_operations(rt: HostRuntime) -> Result<(), F
     let most = many(alloc, 10_000)?;
     let more = many(alloc, 10_001)?;
     let turns = [
-        (
-            commit(alloc, "main", more.as_str())?,
-            bad_body(alloc)?,
-        ),
+        (commit(alloc, "main", more.as_str())?, bad_body(alloc)?),
         (
             commit(alloc, "main", most.as_str())?,
             committed(

@@ -14,11 +14,7 @@ use std::alloc::Global;
 use std::test::Fail;
 
 /// What a store tells of a commit of these operations on `main`.
-fn tell(
-    alloc: Global,
-    store: &mut Store,
-    operations: &str,
-) -> Result<Result<Told, Refused>, Fail> {
+fn tell(alloc: Global, store: &mut Store, operations: &str) -> Result<Result<Told, Refused>, Fail> {
     let text = commit(alloc, "main", operations)?;
     let mut source = MemorySource::new(text.as_bytes().to_vec(alloc)?, 4096, Vec::new(alloc));
     let mut buffer = Buffer::new(alloc)?;
@@ -46,20 +42,22 @@ fn store(alloc: Global, limits: Limits) -> Result<Store, Fail> {
 
 /// Where a call was accepted, or the limit that refused it, and where.
 #[derive(Clone, Copy, Debug, PartialEq, Eq)]
-enum Met {
+enum Outcome {
     Accepted(u32),
     Full(Quantity, u64, Option<u32>),
     Other,
 }
 
-fn met(told: &Result<Told, Refused>) -> Met {
+fn met(told: &Result<Told, Refused>) -> Outcome {
     match told {
-        Ok(told) => Met::Accepted(told.place),
-        Err(Refused {
-            place,
-            why: Refusal::Limit { which, number },
-        }) => Met::Full(*which, *number, *place),
-        Err(_) => Met::Other,
+        Ok(told) => Outcome::Accepted(told.place),
+        Err(
+            Refused {
+                place,
+                why: Refusal::Limit { which, number },
+            },
+        ) => Outcome::Full(*which, *number, *place),
+        Err(_) => Outcome::Other,
     }
 }
 
@@ -79,9 +77,9 @@ fn a_limit_of_one_lets_one_pass(rt: HostRuntime) -> Result<(), Fail> {
     for (limits, which) in table {
         let mut store = store(alloc, limits)?;
         let first = tell(alloc, &mut store, t1.as_str())?;
-        assert_eq!(rt; met(&first), Met::Accepted(1), "{which:?}");
+        assert_eq!(rt; met(&first), Outcome::Accepted(1), "{which:?}");
         let second = tell(alloc, &mut store, t2.as_str())?;
-        assert_eq!(rt; met(&second), Met::Full(which, 1, Some(1)), "{which:?}");
+        assert_eq!(rt; met(&second), Outcome::Full(which, 1, Some(1)), "{which:?}");
     }
     Ok(())
 }
@@ -94,20 +92,23 @@ fn the_puts_of_a_commit_count_together(rt: HostRuntime) -> Result<(), Fail> {
     let t2 = new_table(alloc, "\"t2\"", "m2")?;
     let both = format!(in alloc; "{t1},{t2}")?;
     let table = [
-        (Limits { keys: 1, ..all }, Met::Full(Quantity::Keys, 1, Some(0))),
-        (Limits { keys: 2, ..all }, Met::Accepted(1)),
+        (
+            Limits { keys: 1, ..all },
+            Outcome::Full(Quantity::Keys, 1, Some(0)),
+        ),
+        (Limits { keys: 2, ..all }, Outcome::Accepted(1)),
         (
             Limits { contents: 1, ..all },
-            Met::Full(Quantity::Contents, 1, Some(0)),
+            Outcome::Full(Quantity::Contents, 1, Some(0)),
         ),
-        (Limits { contents: 2, ..all }, Met::Accepted(1)),
+        (Limits { contents: 2, ..all }, Outcome::Accepted(1)),
         (
             Limits {
                 keys: 1,
                 contents: 1,
                 ..all
             },
-            Met::Full(Quantity::Keys, 1, Some(0)),
+            Outcome::Full(Quantity::Keys, 1, Some(0)),
         ),
         (
             Limits {
@@ -115,7 +116,7 @@ fn the_puts_of_a_commit_count_together(rt: HostRuntime) -> Result<(), Fail> {
                 commits: 0,
                 ..all
             },
-            Met::Full(Quantity::Log, 0, Some(0)),
+            Outcome::Full(Quantity::Log, 0, Some(0)),
         ),
     ];
     for (limits, expected) in table {
