@@ -1,1 +1,3 @@
+mod Options
+mod Ready
 pub mod Served

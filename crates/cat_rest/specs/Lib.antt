@@ -1,5 +1,6 @@
 pub mod Bodies
 pub mod Faults
+pub mod Operations
 pub mod Paths
 pub mod Refusals
 pub mod Replies

@@ -5,6 +5,7 @@
 
 mod command;
 mod commit;
+mod operation;
 mod path;
 mod refusal;
 mod reply;
