@@ -7,14 +7,16 @@ use Rattle.cat_model.specs.declared.command.Command.TheVariants as commands
 use Rattle.cat_model.specs.declared.command.CommitRequest.{CommitRequest}
 use Rattle.cat_model.specs.declared.reference.Reference.{Reference}
 use Rattle.cat_model.specs.declared.refusal.Refusal.{Refusal}
+use Rattle.cat_model.specs.declared.reply.Told.{Told}
+use Rattle.cat_model.specs.State.{State}
 use Rattle.cat_model.specs.Book.{Book, IsCalled, CallRefuses, call_on}
 use Rattle.cat_model.specs.Calls.{call, needs_draft, entry_made}
 use Rattle.cat_model.specs.Commits.{commit_opening, step_commit, given_request}
-use Rattle.cat_core.specs.declared.committing.Accepted.{Accepted}
 use Rattle.cat_core.specs.declared.failure.Failure.{Failure}
 use Rattle.cat_core.specs.declared.failure.Failure.TheVariants as failures
+use Rattle.cat_core.specs.declared.preparing.Prepared.{Prepared}
 use Rattle.cat_core.specs.Giving.{Fails}
-use Rattle.cat_core.specs.Putting.{Commits, accepted_book, accepted_told, outcome_of, taking}
+use Rattle.cat_core.specs.Putting.{Commits, accepted_book, accepted_told, add_step, taking}
 use Rattle.cat_core.proofs.Plain.{IsOther, IsPlain}
 use Rattle.cat_core.proofs.PlainCalls.{call_refused, plain_opening, plain_limit, plain_step}
 
@@ -47,11 +49,21 @@ more_is : (n : ℕ) → nat_lt n (n + 1) ≡ true
 more_is n = grind (arith, nat_tests)
 
 -- the step is accepted
-pub step_accepted : (caller : ℕ) (book : Book) (c : CommitRequest) (moment : ℕ) (a : Accepted) (o : Reference × Hash) → commit_opening sha256 book.state c ≡ Ok o → needs_draft book.state book.draft true ≡ Ok tt
-    → step_commit sha256 book.state c (book.draft + 1) moment ≡ Ok (outcome_of book.state a) → a.request ≡ given_request sha256 (book.draft + 1) c
-    → IsCalled (call_on sha256 caller book (commands.Commit c) moment) book (accepted_book book caller (book.draft + 1) moment a) (Ok (accepted_told book a))
+step_accepted : (caller : ℕ) (book : Book) (c : CommitRequest) (moment : ℕ) (made : Prepared) (after : State) (o : Reference × Hash) → commit_opening sha256 book.state c ≡ Ok o → needs_draft book.state book.draft true ≡ Ok tt
+    → step_commit sha256 book.state c (book.draft + 1) moment ≡ Ok (after, (accepted_told book made).reply) → after.place ≡ book.state.place + 1 → made.request ≡ given_request sha256 (book.draft + 1) c
+    → IsCalled (call_on sha256 caller book (commands.Commit c) moment) book (accepted_book book after caller (book.draft + 1) moment made) (Ok (accepted_told book made))
 unfolding call entry_made
-step_accepted caller book c moment a o e d s r = record { said = rw (e, d, s, more_is book.state.place) refl; book = rw (e, d, s, more_is book.state.place, r) refl }
+step_accepted caller book c moment made after o e d s p r = record { said = rw (e, d, s, p, more_is book.state.place) refl; book = rw (e, d, s, p, more_is book.state.place, r) refl }
+
+-- the step adds what was made
+pub step_done : (caller : ℕ) (book after : Book) (c : CommitRequest) (moment : ℕ) (made : Prepared) (told : Told) (o : Reference × Hash) → commit_opening sha256 book.state c ≡ Ok o → needs_draft book.state book.draft true ≡ Ok tt
+    → step_commit sha256 book.state c (book.draft + 1) moment ≡ add_step book.state made → add_step book.state made ≡ Ok (after.state, told.reply)
+    → after ≡ accepted_book book after.state caller (book.draft + 1) moment made → after.state.place ≡ book.state.place + 1 → told ≡ accepted_told book made → made.request ≡ given_request sha256 (book.draft + 1) c
+    → Commits (call_on sha256 caller book (commands.Commit c) moment) book after (Ok told)
+step_done caller book after c moment made told o e d s a b p t r =
+    let called = step_accepted caller book c moment made after.state o e d (s ∙ a ∙ ap (λ (x : Told). Ok (after.state, x.reply)) t) p r in
+    subst (λ (x : Told). IsCalled (call_on sha256 caller book (commands.Commit c) moment) book after (Ok x)) (sym t)
+    (subst (λ (x : Book). IsCalled (call_on sha256 caller book (commands.Commit c) moment) book x (Ok (accepted_told book made))) (sym b) called)
 
 failed : (caller : ℕ) (book : Book) (c : CommitRequest) (moment : ℕ) (failure : Failure) (o : Reference × Hash) → commit_opening sha256 book.state c ≡ Ok o → needs_draft book.state book.draft true ≡ Ok tt
     → Fails failure (step_commit sha256 book.state c (book.draft + 1) moment)

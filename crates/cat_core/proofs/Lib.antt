@@ -3,7 +3,7 @@ pub mod Plain
 pub mod Called
 pub mod Counts
 pub mod Held
-pub mod Adding
+pub mod Added
 pub mod Asked
 pub mod Ids
 pub mod PlainCalls

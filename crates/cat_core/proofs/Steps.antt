@@ -16,7 +16,7 @@ use Rattle.cat_model.specs.Maps.{Map, after_changes}
 use Rattle.cat_model.specs.Namespaces.{is_well_formed}
 use Rattle.cat_model.specs.Records.{with_commit, with_contents}
 use Rattle.cat_model.specs.Refusing.{◌>>=◌, Outcome, Tested}
-use Rattle.cat_model.specs.State.{State, commit_hash}
+use Rattle.cat_model.specs.State.{State, commit_hash, content_hash}
 use Rattle.cat_core.specs.declared.commits.Kept.{Kept}
 use Rattle.cat_core.specs.declared.committing.Turn.{Turn}
 use Rattle.cat_core.specs.declared.failure.Failure.{Failure}
@@ -24,7 +24,7 @@ use Rattle.cat_core.specs.declared.given.Given.{Given}
 use Rattle.cat_core.specs.declared.preparing.Prepared.{Prepared}
 use Rattle.cat_core.specs.Giving.{Fails}
 use Rattle.cat_core.specs.Keeping.{IsNext}
-use Rattle.cat_core.specs.Putting.{IsPrepared, add_step}
+use Rattle.cat_core.specs.Putting.{IsMade, IsPrepared, add_step}
 use Rattle.cat_core.proofs.Held.{fails_on}
 use Rattle.cat_core.proofs.Ids.{Both}
 
@@ -124,8 +124,7 @@ made_is : (state : State) (turn : Turn) (c : CommitRequest) (branch : Reference)
     → IsPrepared state turn c branch given made → rest state turn.moment c branch given.ops given.contents ≡ add_step state made
 unfolding rest
 made_is state turn c branch given made p =
-    let head : made.kept.hash ≡ commit_hash sha256 made.kept.commit = p.kept_hash ∙ p.hash in
-    rw (p.moved, p.added, p.request, head, p.commit) refl
+    rw (p.moved, p.added, p.request, p.hash, p.commit) refl
 
 -- there is room and nothing conflicts: the step is what is added
 pub step_added : (state : State) (turn : Turn) (c : CommitRequest) (branch : Reference) (expected : Hash) (given : Given) (made : Prepared) (map : Map)
@@ -136,3 +135,8 @@ pub step_added : (state : State) (turn : Turn) (c : CommitRequest) (branch : Ref
 step_added state turn c branch expected given made map g opened r j p =
     step_is state c turn.draft turn.moment branch expected given.ops given.contents g opened
     ∙ passed state c turn.moment branch expected given.ops given.contents map r j ∙ made_is state turn c branch given made p
+
+-- what was prepared is what its hashes say
+pub made_of : (state : State) (turn : Turn) (c : CommitRequest) (branch : Reference) (given : Given) (made : Prepared)
+    → IsPrepared state turn c branch given made → (given.hashes).items ≡ map (content_hash sha256) given.contents → IsMade state made
+made_of state turn c branch given made p h = record { hashes = rw (p.hashes, p.request) h; hash = p.hash; bytes = p.bytes; next = p.next }

@@ -109,7 +109,7 @@ impl Store {
             moment,
         };
         match self.put(alloc, turn, request, branch, &expected) {
-            Ok(accepted) => Ok(self.accept(turn, accepted)?),
+            Ok(made) => Ok(self.accept(alloc, turn, made)?),
             Err(failure) => {
                 self.take(turn.draft);
                 Err(failure)

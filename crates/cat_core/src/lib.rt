@@ -5,6 +5,7 @@
 #![tactic(auto)]
 
 mod accepting;
+mod adding;
 mod calls;
 mod commits;
 mod committing;

@@ -13,7 +13,7 @@ ghost use Rattle.cat_model.specs.State.{commit_hash};
 ghost use Rattle.cat_core.specs.Keeping.{IsNext};
 ghost use Rattle.cat_core.specs.Putting.{IsPrepared};
 
-use crate::commits::{Kept, find_kept};
+use crate::commits::Kept;
 use crate::committing::Turn;
 use crate::copies::copy_meta;
 use crate::given::Given;
@@ -45,17 +45,15 @@ pub(crate) struct Prepared {
     pub(crate) request: CommitRequest,
 }
 
-/// The commit under its hash with the map at it, and its record.
+/// The commit with the map at it, and its record.
 fn keep(alloc: Global, commit: Commit, map: KeyMap) -> Result<(Kept, Record), NoMemory>
     ensures commit { IfOk result (λ x. x.0.commit ≡ commit) }
     ensures map { IfOk result (λ x. x.0.map ≡ map) }
-    ensures kept_hash { IfOk result (λ x. x.0.hash ≡ x.1.hash) }
     ensures hash { IfOk result (λ x. x.1.hash ≡ commit_hash sha256 commit) }
     ensures bytes { IfOk result (λ x. x.1.bytes.items ≡ (commit_code).spell commit) }
 {
     let record = commit_record(alloc, &commit)?;
-    let hash = record.hash;
-    Ok((Kept { hash, commit, map }, record))
+    Ok((Kept { commit, map }, record))
 }
 
 /// The branch at its new head.
@@ -98,7 +96,7 @@ impl Store {
         ensures value { result ≡ generation self.now.state.commits hash.now }
         ensures bound { result ≤ length self.now.state.commits }
     {
-        match find_kept(self.commits(), hash) {
+        match self.commits().get(hash) {
             None => 0,
             Some(kept) => kept.commit.generation,
         }
@@ -129,7 +127,7 @@ impl Store {
         })
     }
 
-    /// The same, kept under its hash with the map after the operations, and its record.
+    /// The same, with the map after the operations, and its record.
     fn kept_commit(
         &self,
         alloc: Global,
@@ -145,7 +143,6 @@ impl Store {
         requires well_formed { IsTrue (is_well_formed map) }
         ensures commit { IfOk result (λ x. x.0.commit ≡ request_commit self.now.state head.now moment request.now ops.now) }
         ensures next { IfOk result (λ x. IsNext self.now.state.commits x.0) }
-        ensures kept_hash { IfOk result (λ x. x.0.hash ≡ x.1.hash) }
         ensures hash { IfOk result (λ x. x.1.hash ≡ commit_hash sha256 x.0.commit) }
         ensures bytes { IfOk result (λ x. x.1.bytes.items ≡ (commit_code).spell x.0.commit) }
     {
@@ -179,7 +176,7 @@ impl Store {
             ops,
             map,
         )?;
-        let moved = moved_to(branch, kept.hash)?;
+        let moved = moved_to(branch, commit_record.hash)?;
         let added = added_ids(alloc, ops)?;
         let (request, hashes) = logged_request(request, given)?;
         Ok(Prepared {

@@ -3,13 +3,13 @@
 ghost use Rattle.std.specs.Prelude.{◌≡◌, reverse, IfOk};
 ghost use Rattle.std.specs.Option.{option_copied, is_some};
 ghost use Rattle.sha2.specs.Sha256.{sha256};
-ghost use Rattle.cat_model.specs.Chain.{commit_of, entries};
+ghost use Rattle.cat_model.specs.Chain.{commit_of, entries, on_chain};
 ghost use Rattle.cat_model.specs.State.{is_known};
 ghost use Rattle.cat_model.specs.Refusing as refusing;
 ghost use Rattle.cat_model.specs.Answer.{effective_at, answer_reference, answer_content, answer};
 ghost use Rattle.cat_core.specs.Giving.{Gives, GivesAs, SaysAs};
 
-use crate::commits::{find_kept, is_on_chain};
+use crate::commits::is_on_chain;
 use crate::contents::find_content;
 use crate::copies::copy_content;
 use crate::failure::Failure;
@@ -30,7 +30,7 @@ impl Store {
     pub(crate) fn map_at(&self, hash: &Hash) -> Result<KeyMap, AllocError>
         ensures { IfOk result (λ map. map ≡ entries self.now.state.commits hash.now) }
     {
-        match find_kept(self.commits(), hash) {
+        match self.commits().get(hash) {
             None => Ok(KeyMap::empty()),
             Some(kept) => kept.map.clone(),
         }
@@ -40,13 +40,20 @@ impl Store {
     fn has_commit(&self, hash: &Hash) -> bool
         ensures { result ≡ is_some (commit_of self.now.state.commits hash.now) }
     {
-        find_kept(self.commits(), hash).is_some()
+        self.commits().get(hash).is_some()
     }
 
     fn is_known(&self, hash: &Hash) -> bool
         ensures { result ≡ is_known sha256 self.now.state hash.now }
     {
         self.has_commit(hash) || Hash::none() == *hash
+    }
+
+    /// Whether the hash is on the chain of the head.
+    fn is_on_chain(&self, head: &Hash, hash: &Hash) -> bool
+        ensures { result ≡ on_chain self.now.state.commits head.now hash.now }
+    {
+        is_on_chain(self.commits().as_slice(), head, hash)
     }
 
     pub(crate) fn named(&self, name: &RefName) -> Result<&Reference, Refusal>
@@ -79,7 +86,7 @@ impl Store {
             (None, None) => None,
             (Some(reference), None) => Some(reference.head),
             (Some(reference), Some(hash)) => {
-                is_on_chain(self.commits(), &reference.head, hash).then_some(*hash)
+                self.is_on_chain(&reference.head, hash).then_some(*hash)
             }
             (None, Some(hash)) => self.is_known(hash).then_some(*hash),
         };

@@ -47,7 +47,6 @@ impl Store {
         self.commits().len() as u64
     }
 
-    #[tactic(auto, using(crate::proofs::Counts::reversed_count))]
     fn content_count(&self) -> u64
         ensures { result ≡ length self.now.state.present }
     {

@@ -1,6 +1,6 @@
 //! The store.
 
-ghost use Rattle.std.specs.Prelude.{◌≡◌, ◌≤◌, reverse, IfOk, IsTrue, length};
+ghost use Rattle.std.specs.Prelude.{◌≡◌, ◌≤◌, IfOk, IsTrue, length};
 ghost use Rattle.sha2.specs.Sha256.{sha256};
 ghost use Rattle.cat_model.specs.Book.{first_book, Reads};
 ghost use Rattle.cat_model.specs.Chain.{entries};
@@ -15,16 +15,17 @@ use cat_model::log_entry::LogEntry;
 use cat_model::reference::{Kind, Reference};
 use cat_names::hash::Hash;
 use cat_names::ref_name::RefName;
+use cat_tables::table::Table;
 use std::alloc::Global;
 use std::marker::Model;
 
 /// A catalogue in memory, with the entries that led to it.
-#[derive(Debug, Drop)]
+#[derive(Drop)]
 pub struct Store {
     pub(crate) place: u32,
     pub(crate) references: Vec<Reference>,
-    pub(crate) commits: Vec<Kept>,
-    pub(crate) contents: Vec<(Hash, Content)>,
+    pub(crate) commits: Table<Kept>,
+    pub(crate) contents: Table<Content>,
     pub(crate) limits: Limits,
     pub(crate) draft: u64,
     pub(crate) log: Vec<LogEntry>,
@@ -38,9 +39,9 @@ impl Model for Store {
     ghost use Rattle.std.specs.Prelude.{reverse};
     ghost use Rattle.cat_core.specs.Keeping.{recorded, IsStored};
 
-    ghost view = { λ s. record { state = record { place = s.place; references = s.references.items; commits = recorded (reverse s.commits.items); present = reverse s.contents.items; limits = s.limits }; draft = s.draft; log = reverse s.log.items } };
+    ghost view = { λ s. record { state = record { place = s.place; references = s.references.items; commits = recorded s.commits.list; present = s.contents.list; limits = s.limits }; draft = s.draft; log = reverse s.log.items } };
 
-    ghost invariant = { λ s. IsStored s.limits (reverse s.commits.items) };
+    ghost invariant = { λ s. IsStored s.limits s.commits.list };
 }
 
 impl Store {
@@ -59,8 +60,8 @@ impl Store {
         Ok(Store {
             place: 0,
             references,
-            commits: Vec::new(alloc),
-            contents: Vec::new(alloc),
+            commits: Table::new(alloc),
+            contents: Table::new(alloc),
             limits,
             draft: 0,
             log: Vec::new(alloc),
@@ -102,18 +103,16 @@ impl Store {
         self.references.as_slice()
     }
 
-    /// The commits, the oldest first.
-    pub(crate) fn commits(&self) -> &[Kept]
-        ensures all { recorded (reverse result.now) ≡ self.now.state.commits }
-        ensures kept { AreKept (reverse result.now) }
+    pub(crate) fn commits(&self) -> &Table<Kept>
+        ensures all { recorded result.now.list ≡ self.now.state.commits }
+        ensures kept { AreKept result.now.list }
     {
-        self.commits.as_slice()
+        &self.commits
     }
 
-    /// The contents, the oldest first.
-    pub(crate) fn contents(&self) -> &[(Hash, Content)]
-        ensures { reverse result.now ≡ self.now.state.present }
+    pub(crate) fn contents(&self) -> &Table<Content>
+        ensures { result.now.list ≡ self.now.state.present }
     {
-        self.contents.as_slice()
+        &self.contents
     }
 }

@@ -1,14 +1,12 @@
 use Rattle.std.proofs.Common.{◌≡◌, true, sym, ap, subst, ◌∙◌}
-use Rattle.std.proofs.lemmas.Result.{err_from_is_err_and, IfOk-weaker}
+use Rattle.std.proofs.lemmas.Result.{err_from_is_err_and}
 use Rattle.cat_model.specs.Distinct.{are_distinct}
 use Rattle.cat_model.specs.Maps.{Map}
 use Rattle.cat_model.specs.Namespaces.{is_well_formed}
-use Rattle.cat_model.specs.Refusing.{Outcome}
 use Rattle.cat_core.specs.declared.failure.Failure.TheVariants.{Refused}
-use Rattle.cat_core.specs.Giving.{Fails, GivesAs}
-use Rattle.cat_core.specs.Putting.{outcome_of}
+use Rattle.cat_core.specs.Giving.{Fails}
 use Rattle.cat_core.proofs.Ids.{still_distinct}
-use Rattle.cat_core.proofs.Steps.{judge_at, logged_is, map_is_after, room_is, step_added, step_conflicts, step_no_room}
+use Rattle.cat_core.proofs.Steps.{judge_at, logged_is, made_of, map_is_after, room_is, step_added, step_conflicts, step_no_room}
 use Rattle.cat_core.proofs.store.Store.put.Goals as goal
 
 pub returns-in_err-needs_commit_room-clause-step : goal.returns-in_err-needs_commit_room-clause-step
@@ -46,12 +44,13 @@ pub returns-clause-step : goal.returns-clause-step
 returns-clause-step c =
     let room = room_is c.args.self.now.state _ _ _ _ c.in_ok-given.given.ops _ c.in_ok-head.ensures c.puts.ensures.value c.as_slice.ensures c.in_ok-needs_commit_room.ensures.test in
     let judged = judge_at _ _ _ _ _ c.in_ok-given.given.ops c.in_ok-before.ensures c.in_ok-head.ensures c.as_slice-2.ensures in
-    subst (λ (o : Outcome). GivesAs (outcome_of c.args.self.now.state) c.add.result o)
-    (sym (step_added c.args.self.now.state c.args.turn c.args.request.now c.args.branch.now c.args.expected.now c.in_ok-given.given c.in_ok-made.made c.in_ok-map.map
-    (record { ops_are = c.in_ok-given.ensures.ops; contents_are = c.in_ok-given.ensures.contents }) c.requires.opened room (sym judged ∙ c.in_ok-map.ensures.exact) c.in_ok-made.ensures))
-    c.add.ensures.step
+    step_added c.args.self.now.state c.args.turn c.args.request.now c.args.branch.now c.args.expected.now c.in_ok-given.given c.in_ok-made.made c.in_ok-map.map
+    (record { ops_are = c.in_ok-given.ensures.ops; contents_are = c.in_ok-given.ensures.contents }) c.requires.opened room (sym judged ∙ c.in_ok-map.ensures.exact) c.in_ok-made.ensures
 
 pub returns-clause-logged : goal.returns-clause-logged
 returns-clause-logged c =
     let given = logged_is c.args.request.now c.args.turn.draft c.in_ok-given.given.ops c.in_ok-given.given.contents (record { ops_are = c.in_ok-given.ensures.ops; contents_are = c.in_ok-given.ensures.contents }) in
-    IfOk-weaker c.add.result _ _ (λ a e. e ∙ c.in_ok-made.ensures.request ∙ given) c.add.ensures.request
+    c.in_ok-made.ensures.request ∙ given
+
+pub returns-clause-made : goal.returns-clause-made
+returns-clause-made c = made_of c.args.self.now.state c.args.turn c.args.request.now c.args.branch.now c.in_ok-given.given c.in_ok-made.made c.in_ok-made.ensures c.in_ok-given.ensures.hashes
