@@ -14,6 +14,8 @@ pub mod State
 pub mod Refusing
 pub mod Records
 pub mod Commits
+pub mod Pages
+pub mod Moves
 pub mod Step
 pub mod Answer
 pub mod Calls

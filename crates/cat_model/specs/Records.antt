@@ -1,18 +1,20 @@
 -- Adding commits and contents, each under the hash of its bytes.
-use Rattle.std.specs.Prelude.{ℕ, List, [], ◌∷◌, Option, Some, None, Result, Ok, Err, if◌then◌else◌, codes}
+use Rattle.std.specs.Prelude.{ℕ, List, [], ◌∷◌, Option, Some, None, is_none, Result, Ok, Err, if◌then◌else◌, codes, filter, map}
 use Rattle.std.specs.Str.{bytes_eq}
 use Rattle.std.specs.Option.{option_or, option_map}
+use Rattle.cat_names.specs.Fields.{Key}
 use Rattle.cat_names.specs.declared.hash.Hash.{Hash}
 use Rattle.cat_model.specs.declared.commit.Commit.{Commit}
 use Rattle.cat_model.specs.declared.content.Content.{Content}
 use Rattle.cat_model.specs.declared.refusal.Refusal.{Refusal}
-use Rattle.cat_model.specs.declared.refusal.Refusal.TheVariants.{Collision}
+use Rattle.cat_model.specs.declared.refusal.Refusal.TheVariants.{Collision, Expired}
 use Rattle.cat_model.specs.Formats.{commit_code}
 use Rattle.cat_model.specs.Contents.{content_code}
 use Rattle.cat_model.specs.Same.{same_hash}
 use Rattle.cat_model.specs.Chain.{commit_of}
+use Rattle.cat_model.specs.Maps.{Map}
 use Rattle.cat_model.specs.State.{Digest, State, no_ancestor, commit_hash, content_hash, content_at}
-use Rattle.cat_model.specs.Refusing.{◌>>=◌}
+use Rattle.cat_model.specs.Refusing.{◌>>=◌, Tested}
 
 -- the bytes that the catalogue has under a hash as a commit's
 unfoldable pub commit_bytes : Digest → State → Hash → Option (List ℕ)
@@ -45,3 +47,12 @@ with_content digest state c =
 abbrev pub with_contents : Digest → State → List Content → Result State Refusal
 with_contents digest state [] = Ok state
 with_contents digest state (c ∷ contents) = with_content digest state c >>= λ more. with_contents digest more contents
+
+-- the keys of a map whose contents the catalogue doesn't hold
+unfoldable pub expired_keys : State → Map → List Key
+expired_keys state entries = map (λ x. x.0) (filter (λ x. is_none (content_at state.present x.1.hash)) entries)
+
+-- refused with the keys whose contents are missing, and the place where the call began
+abbrev pub needs_no_expired : List Key → ℕ → Tested
+needs_no_expired [] place = Ok tt
+needs_no_expired (key ∷ keys) place = Err (Expired (key ∷ keys) place)

@@ -1,12 +1,13 @@
 -- Tests in turn: the first that fails refuses.
-use Rattle.std.specs.Prelude.{ℕ, List, Option, Some, None, Result, Ok, Err, Bool, nat_lt, nat_le, if◌then◌else◌}
+use Rattle.std.specs.Prelude.{ℕ, List, Option, Some, None, Result, Ok, Err, Bool, true, nat_lt, nat_le, if◌then◌else◌}
 use Rattle.cat_names.specs.declared.hash.Hash.{Hash}
 use Rattle.cat_model.specs.declared.refusal.Refusal.{Refusal}
 use Rattle.cat_model.specs.declared.refusal.Refusal.TheVariants.{BadRequest, RefNotFound, Limit}
 use Rattle.cat_model.specs.declared.reply.Reply.{Reply}
-use Rattle.cat_model.specs.declared.refusal.Reason.TheVariants.{NotABranch}
+use Rattle.cat_model.specs.declared.refusal.Reason.TheVariants.{NotABranch, OtherType}
 use Rattle.cat_model.specs.declared.limits.Quantity.{Quantity}
 use Rattle.cat_model.specs.declared.reference.Reference.{Reference}
+use Rattle.cat_model.specs.declared.reference.Kind.{Kind}
 use Rattle.cat_model.specs.declared.reference.Kind.TheVariants.{Branch}
 use Rattle.cat_model.specs.Same.{same_kind}
 use Rattle.cat_model.specs.Chain.{on_chain}
@@ -51,6 +52,20 @@ named state name = found (reference_of state.references name) RefNotFound
 abbrev pub perhaps_named : State → Option (List ℕ) → Result (Option Reference) Refusal
 perhaps_named state None = Ok None
 perhaps_named state (Some name) = named state name >>= λ reference. Ok (Some reference)
+
+-- the kind that is stated is the reference's, if one is
+abbrev pub is_of_kind : Option Kind → Reference → Bool
+is_of_kind None reference = true
+is_of_kind (Some kind) reference = same_kind kind reference.kind
+
+-- refused where another kind is stated
+abbrev pub needs_kind : Option Kind → Reference → Tested
+needs_kind kind reference = needs (is_of_kind kind reference) (BadRequest OtherType)
+
+-- the same of a source, which may be no reference
+abbrev pub needs_source_kind : Option Kind → Option Reference → Tested
+needs_source_kind kind None = Ok tt
+needs_source_kind kind (Some reference) = needs_kind kind reference
 
 -- refused where it is a tag
 abbrev pub needs_branch : Reference → Tested

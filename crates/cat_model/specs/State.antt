@@ -1,5 +1,7 @@
 -- The catalogue.
-use Rattle.std.specs.Prelude.{ℕ, List, [], ◌∷◌, Option, is_some, Bool, ◌||◌, if◌then◌else◌, find, map, codes}
+use Rattle.std.specs.Prelude.{ℕ, List, [], ◌∷◌, Option, is_some, Bool, ◌||◌, not, if◌then◌else◌, filter, find, map, codes}
+use Rattle.std.specs.Cmp.Lexicographic.{slice_cmp}
+use Rattle.std.specs.Ordering.{nat_cmp, is_lt}
 use Rattle.std.specs.Str.{bytes_eq}
 use Rattle.std.specs.Option.{option_map}
 use Rattle.cat_names.specs.Hashes.{id_of_pair}
@@ -73,6 +75,17 @@ abbrev pub is_known : Digest → State → Hash → Bool
 is_known digest state hash = is_some (commit_of state.commits hash) || same_hash (no_ancestor digest) hash
 
 -- ---- changes
+
+-- references with one more, names ascending
+abbrev pub with_reference : List Reference → Reference → List Reference
+with_reference [] reference = reference ∷ []
+with_reference (first ∷ references) reference =
+    if is_lt (slice_cmp nat_cmp reference.name first.name) then reference ∷ first ∷ references
+    else first ∷ with_reference references reference
+
+-- references without the one of a name
+abbrev pub without_reference : List Reference → List ℕ → List Reference
+without_reference references name = filter (λ r. not (bytes_eq r.name name)) references
 
 -- references with this one in place of its namesake
 abbrev pub moved_reference : List Reference → Reference → List Reference

@@ -1,5 +1,5 @@
 -- Commands that are well made: what a request has to keep before it reaches the catalogue.
-use Rattle.std.specs.Prelude.{ℕ, List, [], ◌∷◌, length, Option, Some, None, Bool, true, false, ◌&&◌, ◌||◌, not, nat_eq, nat_lt, nat_le}
+use Rattle.std.specs.Prelude.{ℕ, List, [], ◌∷◌, length, Option, Some, None, is_some, Bool, true, false, ◌&&◌, ◌||◌, not, nat_eq, nat_lt, nat_le}
 use Rattle.std.specs.List.{list_any, list_all}
 use Rattle.std.specs.Str.{bytes_eq}
 use Rattle.std.specs.Cmp.Lexicographic.{pointwise}
@@ -12,6 +12,7 @@ use Rattle.cat_model.specs.declared.content.Body.TheVariants as bodies
 use Rattle.cat_model.specs.declared.content.Content.{Content}
 use Rattle.cat_model.specs.declared.entry.Entry.{Entry}
 use Rattle.cat_model.specs.declared.op.Op.{Op}
+use Rattle.cat_model.specs.declared.reference.Pointer.{Pointer}
 use Rattle.cat_model.specs.declared.op.Op.TheVariants.{Put, Delete, Unchanged}
 use Rattle.cat_model.specs.Commits.{with_their_contents, puts}
 use Rattle.cat_model.specs.Contents.{body_kind}
@@ -63,6 +64,13 @@ may_be_asked ops = nat_lt 0 (length ops) && nat_le (length ops) most_ops && are_
 unfoldable pub have_contents : Digest → List Op → List Content → Bool
 have_contents digest ops contents = nat_eq (length contents) (puts ops) && list_all (is_made digest) (with_their_contents ops contents)
 
+-- a source has a name or a hash
+abbrev pub points : Pointer → Bool
+points p = is_some p.name || is_some p.hash
+
 -- a command that the catalogue may be asked for
 unfoldable pub is_well_made : Digest → Command → Bool
+is_well_made digest (commands.Create c) = points c.source
+is_well_made digest (commands.Assign c) = points c.source
+is_well_made digest (commands.Delete c) = true
 is_well_made digest (commands.Commit c) = may_be_asked c.ops && have_contents digest c.ops c.contents

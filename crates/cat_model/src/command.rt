@@ -3,9 +3,45 @@
 use crate::commit::Meta;
 use crate::content::Content;
 use crate::op::Op;
+use crate::reference::{Kind, Pointer};
 use cat_codes::seq::Seq;
 use cat_names::hash::Hash;
 use cat_names::ref_name::RefName;
+
+/// Makes a reference at a source.
+#[derive(Clone, Debug, PartialEq, Eq, Drop)]
+pub struct Create {
+    pub name: RefName,
+    pub kind: Kind,
+    pub source: Pointer,
+    /// What the request says of the source's kind; none for a source without a name. It isn't
+    /// logged.
+    pub source_kind: Option<Kind>,
+}
+
+/// Moves a reference to a source.
+#[derive(Clone, Debug, PartialEq, Eq, Drop)]
+pub struct Assign {
+    pub name: RefName,
+    /// What the request says of the reference's kind.
+    pub kind: Option<Kind>,
+    /// The head that the request was made against; none for any.
+    pub expected: Option<Hash>,
+    pub source: Pointer,
+    /// What the request says of the source's kind; none for a source without a name. It isn't
+    /// logged.
+    pub source_kind: Option<Kind>,
+}
+
+/// Removes a reference.
+#[derive(Clone, Debug, PartialEq, Eq, Drop)]
+pub struct Delete {
+    pub name: RefName,
+    /// What the request says of the reference's kind.
+    pub kind: Option<Kind>,
+    /// The head that the request was made against; none for any.
+    pub expected: Option<Hash>,
+}
 
 /// Commits operations on a branch.
 #[derive(Clone, Debug, PartialEq, Eq, Drop)]
@@ -23,5 +59,8 @@ pub struct CommitRequest {
 /// A call that may add an entry to the log.
 #[derive(Clone, Debug, PartialEq, Eq, Drop)]
 pub enum Command {
+    Create(Create),
+    Assign(Assign),
+    Delete(Delete),
     Commit(CommitRequest),
 }

@@ -1,10 +1,71 @@
 //! Replies.
 
+use crate::commit::Meta;
 use crate::content::Content;
+use crate::entry::Entry;
+use crate::moment::Moment;
 use crate::reference::{Effective, Reference};
 use cat_codes::seq::Seq;
-use cat_names::hash::ContentId;
+use cat_names::hash::{ContentId, Hash};
 use cat_names::key::ContentKey;
+use cat_names::ref_name::RefName;
+
+/// A page of references.
+#[derive(Clone, Debug, PartialEq, Eq, Drop)]
+pub struct ReferencesPage {
+    /// By ascending names.
+    pub items: Seq<Reference>,
+    /// The last name of the page; none where no reference follows.
+    pub next: Option<RefName>,
+}
+
+/// A page of the entries at a commit.
+#[derive(Clone, Debug, PartialEq, Eq, Drop)]
+pub struct EntriesPage {
+    pub effective: Effective,
+    /// Keys ascending.
+    pub items: Seq<(ContentKey, Entry)>,
+    /// The commit and the last key of the page; none where no entry follows.
+    pub next: Option<(Hash, ContentKey)>,
+}
+
+/// A change that a commit made.
+#[derive(Clone, Debug, PartialEq, Eq, Drop)]
+pub enum Change {
+    /// A key was set, to a content that the catalogue may hold no longer.
+    Put(ContentKey, Option<Content>),
+    /// A key was deleted.
+    Delete(ContentKey),
+}
+
+/// A commit of a history.
+#[derive(Clone, Debug, PartialEq, Eq, Drop)]
+pub struct HistoryItem {
+    pub hash: Hash,
+    pub parent: Hash,
+    pub merge_parent: Option<Hash>,
+    pub time: Moment,
+    pub meta: Meta,
+    /// What it changed, keys ascending, where that was asked for.
+    pub operations: Option<Seq<Change>>,
+}
+
+/// A page of a chain.
+#[derive(Clone, Debug, PartialEq, Eq, Drop)]
+pub struct HistoryPage {
+    /// The newest commit first.
+    pub items: Seq<HistoryItem>,
+    /// The commit after the page; none where none follows.
+    pub next: Option<Hash>,
+}
+
+/// The contents of keys, and the commit that they were read at.
+#[derive(Clone, Debug, PartialEq, Eq, Drop)]
+pub struct ContentsReply {
+    pub effective: Effective,
+    /// In the order in which they were asked for, without keys that have none.
+    pub contents: Seq<(ContentKey, Content)>,
+}
 
 /// A content, and the commit that it was read at.
 #[derive(Clone, Debug, PartialEq, Eq, Drop)]
@@ -24,8 +85,14 @@ pub struct Committed {
 #[derive(Clone, Debug, PartialEq, Eq, Drop)]
 pub enum Reply {
     Config,
+    References(ReferencesPage),
     Effective(Effective),
+    Entries(EntriesPage),
+    History(HistoryPage),
+    Contents(ContentsReply),
     Content(ContentReply),
+    /// A reference that was made, moved, or removed: as it is, or as it was.
+    Reference(Reference),
     Committed(Committed),
 }
 

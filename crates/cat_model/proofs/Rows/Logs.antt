@@ -37,6 +37,9 @@ logged_op (Delete key) = (key, (None, None))
 logged_op (Unchanged key) = (key, (None, None))
 
 abbrev logged_by : Command → List (Key × (Option ContentId × Option Bool)) × List ContentId
+logged_by (commands.Create c) = ([], [])
+logged_by (commands.Assign c) = ([], [])
+logged_by (commands.Delete c) = ([], [])
 logged_by (commands.Commit c) = (map logged_op c.ops, map (λ x. x.id) c.contents)
 
 abbrev entry_shape : LogEntry → ℕ × (ℕ × (ℕ × (ℕ × Option Hash)))
