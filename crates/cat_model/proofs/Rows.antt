@@ -6,3 +6,5 @@ pub mod Reading
 pub mod Logs
 pub mod Limits
 pub mod Listings
+pub mod Moves
+pub mod Pages

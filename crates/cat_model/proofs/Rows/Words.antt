@@ -14,6 +14,8 @@ use Rattle.cat_model.specs.declared.content.Content.{Content}
 use Rattle.cat_model.specs.declared.limits.Limits.{Limits}
 use Rattle.cat_model.specs.declared.op.Op.{Op}
 use Rattle.cat_model.specs.declared.op.Op.TheVariants.{Put}
+use Rattle.cat_model.specs.declared.reference.Kind.{Kind}
+use Rattle.cat_model.specs.declared.reference.Kind.TheVariants.{Branch}
 use Rattle.cat_model.specs.declared.reference.Effective.{Effective}
 use Rattle.cat_model.specs.declared.reference.Effective.TheVariants.{Named, Detached}
 use Rattle.cat_model.specs.declared.refusal.Refusal.{Refusal}
@@ -40,6 +42,9 @@ clock n = (n + 1) * 1000000
 
 abbrev pub main : List ℕ
 main = codes "main"
+
+abbrev pub dev : List ℕ
+dev = codes "dev"
 
 abbrev pub H0 : Hash
 H0 = no_ancestor quick
@@ -85,6 +90,25 @@ put key id location = commit main None (again key (table id location) ∷ []) (t
 abbrev pub read : Option (List ℕ) → Option Hash → Key → Request
 read name hash key = Ok (Read (asks.Content (record { at = record { name = name; hash = hash }; key = key })))
 
+-- a source: a name, a hash, and the kind that is stated of it
+abbrev pub Source : Type 0
+Source = Option (List ℕ) × (Option Hash × Option Kind)
+
+abbrev pub from_branch : List ℕ → Source
+from_branch name = (Some name, (None, Some Branch))
+
+abbrev pub from_hash : Hash → Source
+from_hash hash = (None, (Some hash, None))
+
+abbrev pub create : List ℕ → Kind → Source → Request
+create name kind source = Ok (Change (commands.Create (record { name = name; kind = kind; source = record { name = source.0; hash = source.1.0 }; source_kind = source.1.1 })))
+
+abbrev pub assign : List ℕ → Option Kind → Option Hash → Source → Request
+assign name kind expected source = Ok (Change (commands.Assign (record { name = name; kind = kind; expected = expected; source = record { name = source.0; hash = source.1.0 }; source_kind = source.1.1 })))
+
+abbrev pub delete : List ℕ → Option Kind → Option Hash → Request
+delete name kind expected = Ok (Change (commands.Delete (record { name = name; kind = kind; expected = expected })))
+
 abbrev pub look : Option (List ℕ) → Option Hash → Request
 look name hash = Ok (Read (asks.Reference (record { name = name; hash = hash })))
 
@@ -94,6 +118,7 @@ pub data Short : Type 0 where
   done : ℕ → Short
   gives : ℕ → List ℕ → Short
   points : ℕ → Option (List ℕ) → Hash → Short
+  stands : ℕ → List ℕ → Kind → Hash → Short
   told : ℕ → Reply → Short
   not : Option ℕ → Refusal → Short
 
@@ -108,6 +133,7 @@ point_of place (Detached hash) = points place None hash
 abbrev pub short_reply : ℕ → Reply → Short
 short_reply place (replies.Committed c) = done place
 short_reply place (replies.Effective e) = point_of place e
+short_reply place (replies.Reference r) = stands place r.name r.kind r.head
 short_reply place (replies.Content c) = location_of place (replies.Content c) c.content.body
 short_reply place reply = told place reply
 
