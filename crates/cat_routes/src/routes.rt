@@ -14,8 +14,16 @@ use std::alloc::Global;
 pub enum Route {
     /// `/api/v2/config`
     Config,
+    /// `/api/v2/trees`
+    Trees,
     /// `/api/v2/trees/{reference}`
     Tree,
+    /// `/api/v2/trees/{reference}/entries`
+    Entries,
+    /// `/api/v2/trees/{reference}/history`
+    History,
+    /// `/api/v2/trees/{reference}/contents`
+    Contents,
     /// `/api/v2/trees/{reference}/contents/{key}`
     Content,
     /// `/api/v2/trees/{reference}/history/commit`
@@ -77,7 +85,23 @@ impl Routes {
     pub fn new(alloc: Global) -> Result<Routes, NoMemory> {
         let mut router = Router::new(alloc);
         add(&mut router, "/api/v2/config", Route::Config)?;
+        add(&mut router, "/api/v2/trees", Route::Trees)?;
         add(&mut router, "/api/v2/trees/{reference}", Route::Tree)?;
+        add(
+            &mut router,
+            "/api/v2/trees/{reference}/entries",
+            Route::Entries,
+        )?;
+        add(
+            &mut router,
+            "/api/v2/trees/{reference}/history",
+            Route::History,
+        )?;
+        add(
+            &mut router,
+            "/api/v2/trees/{reference}/contents",
+            Route::Contents,
+        )?;
         add(
             &mut router,
             "/api/v2/trees/{reference}/contents/{key}",
