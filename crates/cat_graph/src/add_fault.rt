@@ -1,0 +1,23 @@
+//! Why a commit was not added.
+
+use cat_codes::fault::NoMemory;
+
+/// Why a commit was not added.
+#[derive(Clone, Copy, Debug, PartialEq, Eq)]
+pub enum AddFault {
+    /// Another commit has the hash.
+    Collision,
+    /// Memory ran out.
+    NoMemory,
+}
+
+impl From<NoMemory> for AddFault {
+    ghost use Rattle.std.specs.Prelude.{◌≡◌};
+    ghost use Rattle.cat_graph.specs.declared.add_fault.AddFault.TheVariants as faults;
+
+    ghost from_gives = { λ _ fault. fault ≡ faults.NoMemory };
+
+    fn from(_: NoMemory) -> AddFault {
+        AddFault::NoMemory
+    }
+}

@@ -1,0 +1,266 @@
+//! Commits and their chains.
+
+ghost use Rattle.std.specs.Prelude.{◌≡◌, ◌≢◌, ◌≤◌, ◌<◌, ◌+◌, ◌-◌, ◌↔◌, [], ◌∷◌, None, Err, IfOk, IsOk, IsTrue, OnOk, OnErr, length, nat_eq, take, drop};
+ghost use Rattle.std.specs.Option.{is_some, option_map};
+ghost use Rattle.cat_model.specs.Chain.{commit_of, generation, on_chain};
+ghost use Rattle.cat_model.specs.Chain;
+ghost use Rattle.cat_graph.specs.Linked.{AreLinked, IsNext, IsOther, are_children, are_consecutive, has_parent, is_known, is_merge_known, is_next, merge_generation, next_generation, values, with_commit};
+
+use crate::add_fault::AddFault;
+use cat_codes::fault::NoMemory;
+use cat_model::commit::Commit;
+use cat_names::hash::Hash;
+use cat_tables::table::Table;
+use std::alloc::Global;
+use std::marker::Model;
+
+/// Commits under their hashes. Contracts see the list, the newest first, and how many more can be
+/// pushed without memory.
+#[derive(Drop)]
+pub struct Graph {
+    table: Table<Commit>,
+}
+
+impl Model for Graph {
+    ghost use Rattle.cat_model.specs.declared.commit.Commit.{Commit};
+    ghost use Rattle.cat_tables.specs.Tables.{Recorded};
+    ghost use Rattle.cat_graph.specs.Linked.{AreLinked};
+
+    ghost Value = { Recorded Commit };
+
+    ghost view = { λ g. g.table };
+
+    ghost invariant = { λ g. AreLinked g.table.list };
+}
+
+/// Whether the commits are the same.
+fn is_same(kept: &Commit, commit: &Commit) -> bool
+    ensures { IsTrue result ↔ kept.now ≡ commit.now }
+{
+    *kept == *commit
+}
+
+impl Graph {
+    /// No commits.
+    pub fn new(alloc: Global) -> Graph
+        ensures { result.list ≡ [] }
+    {
+        Graph {
+            table: Table::new(alloc),
+        }
+    }
+
+    /// What holds of each graph: no hash comes twice, each commit stands above its parents, and its
+    /// generation is one more than the greatest of theirs.
+    pub fn known(&self)
+        ensures { AreLinked self.now.list }
+    {
+        let _ = &self.table;
+    }
+
+    /// How many commits there are.
+    pub fn len(&self) -> usize
+        ensures { result ≡ length self.now.list }
+    {
+        self.table.len()
+    }
+
+    /// The commit of a hash.
+    #[tactic(auto, using(crate::proofs::Walks::commit_is))]
+    pub fn get(&self, hash: &Hash) -> Option<&Commit>
+        ensures { option_map (λ c. c.now) result ≡ commit_of self.now.list hash.now }
+    {
+        self.table.get(hash)
+    }
+
+    /// Whether a commit has the hash, or it is the one that has no ancestor.
+    pub fn is_known(&self, hash: &Hash) -> bool
+        ensures { result ≡ is_known self.now.list hash.now }
+    {
+        self.get(hash).is_some() || Hash::none() == *hash
+    }
+
+    /// The generation of a hash; 0 for the one that has no ancestor, and for one that isn't known.
+    #[tactic(auto, using(crate::proofs::Walks::generation_none, crate::proofs::Walks::generation_some))]
+    pub fn generation(&self, hash: &Hash) -> u64
+        ensures { result ≡ generation self.now.list hash.now }
+    {
+        match self.get(hash) {
+            None => 0,
+            Some(commit) => commit.generation,
+        }
+    }
+
+    /// Whether a merge's other parent is known, where there is one.
+    fn is_merge_known(&self, merge_parent: &Option<Hash>) -> bool
+        ensures { result ≡ is_merge_known self.now.list merge_parent.now }
+    {
+        match merge_parent {
+            None => true,
+            Some(hash) => self.is_known(hash),
+        }
+    }
+
+    /// The generation of a merge's other parent; 0 where there is none.
+    fn merge_generation(&self, merge_parent: &Option<Hash>) -> u64
+        ensures { result ≡ merge_generation self.now.list merge_parent.now }
+    {
+        match merge_parent {
+            None => 0,
+            Some(hash) => self.generation(hash),
+        }
+    }
+
+    /// Whether the commit's generation is one more than the greatest of its parents'.
+    fn has_next_generation(&self, commit: &Commit) -> bool
+        ensures { result ≡ nat_eq commit.now.generation (next_generation self.now.list commit.now) }
+    {
+        let parent = self.generation(&commit.parent);
+        let merge_parent = self.merge_generation(&commit.merge_parent);
+        match commit.generation.checked_sub(1) {
+            None => false,
+            Some(before) => before == parent.max(merge_parent),
+        }
+    }
+
+    fn passes(&self, hash: &Hash, commit: &Commit) -> bool
+        ensures { result ≡ is_next self.now.list hash.now commit.now }
+    {
+        Hash::none() != *hash
+            && self.is_known(&commit.parent)
+            && self.is_merge_known(&commit.merge_parent)
+            && self.has_next_generation(commit)
+    }
+
+    /// Whether the commit can be added under the hash, which isn't the one that has no ancestor:
+    /// its parents are known, and its generation is one more than the greatest of theirs.
+    #[tactic(auto, using(crate::proofs::Walks::next_decides))]
+    pub fn is_next(&self, hash: &Hash, commit: &Commit) -> bool
+        ensures { IsTrue result ↔ IsNext self.now.list hash.now commit.now }
+    {
+        self.passes(hash, commit)
+    }
+
+    /// Makes room, so that this many more can be pushed.
+    pub fn reserve(&mut self, more: usize) -> Result<(), NoMemory>
+        ensures list { self.new.list ≡ self.old.list }
+        ensures ok { OnOk result (more ≤ self.new.spare) }
+        ensures succeeds { more ≤ self.old.spare → IsOk result }
+        ensures spare { self.old.spare ≤ self.new.spare }
+    {
+        self.table.reserve(more)
+    }
+
+    /// Adds a commit under a hash that is not there, into room that was made before.
+    pub fn push(&mut self, hash: Hash, commit: Commit)
+        requires room { 0 < self.old.spare }
+        requires absent { commit_of self.old.list hash ≡ None }
+        requires next { IsNext self.old.list hash commit }
+        ensures list { self.new.list ≡ (hash, commit) ∷ self.old.list }
+        ensures spare { self.old.spare ≤ self.new.spare + 1 }
+    {
+        self.table.push(hash, commit);
+    }
+
+    /// Adds a commit. One that is there is left alone, and another commit under the hash is a
+    /// collision. A fault leaves the commits as they were.
+    pub fn add(&mut self, hash: Hash, commit: Commit) -> Result<(), AddFault>
+        requires next { IsNext self.old.list hash commit }
+        ensures ok { OnOk result (self.new.list ≡ with_commit hash commit self.old.list) }
+        ensures err { OnErr result (self.new.list ≡ self.old.list) }
+        ensures collision { (result ≡ Err AddFault.Collision) ↔ IsOther (commit_of self.old.list hash) commit }
+        ensures there { IsTrue (is_some (commit_of self.old.list hash)) → result ≢ Err AddFault.NoMemory }
+        ensures succeeds { 0 < self.old.spare → result ≢ Err AddFault.NoMemory }
+        ensures spare { self.old.spare ≤ self.new.spare + 1 }
+    {
+        if let Some(kept) = self.get(&hash) {
+            if is_same(kept, &commit) {
+                return Ok(());
+            }
+            return Err(AddFault::Collision);
+        }
+        self.reserve(1)?;
+        self.push(hash, commit);
+        Ok(())
+    }
+
+    /// Keeps the commits that were added first, so many.
+    pub fn cut(&mut self, len: usize)
+        ensures list { self.new.list ≡ drop (length self.old.list - len) self.old.list }
+        ensures spare { self.old.spare ≤ self.new.spare }
+    {
+        self.table.cut(len);
+    }
+
+    /// Whether the hash is on the chain of the head, which ends in the hash that has no ancestor.
+    pub fn on_chain(&self, head: &Hash, hash: &Hash) -> bool
+        ensures { result ≡ on_chain self.now.list head.now hash.now }
+    {
+        self.known();
+        let mut at = *head;
+        while at != *hash {
+            let Some(commit) = self.get(&at) else {
+                return false;
+            };
+            at = commit.parent;
+        }
+        true
+    }
+
+    /// The first commits of the chain of a hash, under their hashes, at most so many.
+    pub fn chain<'a>(
+        &'a self,
+        alloc: Global,
+        from: &'a Hash,
+        limit: usize,
+    ) -> Result<Vec<(&'a Hash, &'a Commit)>, NoMemory>
+        ensures { IfOk result (λ v. values v.items ≡ take limit (Chain.chain self.now.list from.now)) }
+    {
+        self.known();
+        let mut found = Vec::new(alloc);
+        let mut at = from;
+        while found.len() < limit {
+            let Some(commit) = self.get(at) else {
+                return Ok(found);
+            };
+            found.push((at, commit))?;
+            at = &commit.parent;
+        }
+        Ok(found)
+    }
+
+    /// Whether there is a commit of the hash, and its parent is this one.
+    fn is_child(&self, parent: &Hash, hash: &Hash) -> bool
+        ensures { result ≡ has_parent parent.now (commit_of self.now.list hash.now) }
+    {
+        match self.get(hash) {
+            None => false,
+            Some(commit) => commit.parent == *parent,
+        }
+    }
+
+    /// Whether each is the hash of a commit whose parent is the one before, the first one's this.
+    fn are_children(&self, first: &Hash, hashes: &[Hash]) -> bool
+        ensures { result ≡ are_children self.now.list first.now hashes.now }
+    {
+        let mut parent = first;
+        for hash in hashes {
+            if !self.is_child(parent, hash) {
+                return false;
+            }
+            parent = hash;
+        }
+        true
+    }
+
+    /// Whether each is the hash of a commit, and each but the first has the one before for its
+    /// parent.
+    pub fn consecutive(&self, hashes: &[Hash]) -> bool
+        ensures { result ≡ are_consecutive self.now.list hashes.now }
+    {
+        match hashes {
+            [] => true,
+            [first, others @ ..] => self.get(first).is_some() && self.are_children(first, others),
+        }
+    }
+}

@@ -1,0 +1,11 @@
+//! The commits of a catalogue, found by their hashes. A graph is seen as the definitions' list of
+//! commits, the newest first, beside how many more can be pushed without memory. Each call answers
+//! what its definition says of that list. No hash comes twice, each commit stands above its parents,
+//! and its generation is one more than the greatest of theirs, so a chain is walked by one look-up
+//! a commit.
+#![tactic(auto)]
+
+pub mod add_fault;
+pub mod graph;
+#[cfg(test)]
+mod tests;
