@@ -1,76 +1,107 @@
 //! The maps at commits.
 
-ghost use Rattle.std.specs.Prelude.{◌≡◌, [], OnOk, OnErr, length, take};
+ghost use Rattle.std.specs.Prelude.{◌≡◌, ◌≤◌, ◌<◌, ◌+◌, ◌-◌, [], ◌∷◌, None, IsTrue, IsOk, is_some, OnOk, OnErr, length, drop};
 ghost use Rattle.std.specs.Option.{option_map};
+ghost use Rattle.cat_tables.specs.Tables.{are_distinct};
 ghost use Rattle.cat_keymap.specs.MapsAt.{map_at, with_map};
 
 use crate::key_map::KeyMap;
 use cat_codes::fault::NoMemory;
 use cat_names::hash::Hash;
+use cat_tables::table::Table;
 use std::alloc::Global;
 use std::marker::Model;
 
-/// Maps under the hashes of their commits, in the order in which they were added.
-#[derive(Debug, Drop)]
+/// Maps under the hashes of their commits, found by one look-up. Contracts see the list, the newest
+/// first, and how many more can be pushed without memory.
+#[derive(Drop)]
 pub struct Maps {
-    pairs: Vec<(Hash, KeyMap)>,
+    table: Table<KeyMap>,
 }
 
 impl Model for Maps {
-    ghost use Rattle.std.specs.Prelude.{List};
-    ghost use Rattle.cat_names.specs.declared.hash.Hash.{Hash};
     ghost use Rattle.cat_model.specs.Maps.{Map};
+    ghost use Rattle.cat_tables.specs.Tables.{Recorded};
 
-    ghost Value = { List (Hash × Map) };
+    ghost Value = { Recorded Map };
 
-    ghost view = { λ m. m.pairs.items };
+    ghost view = { λ m. m.table };
 }
 
 impl Maps {
     /// No maps.
     pub fn new(alloc: Global) -> Maps
-        ensures { result ≡ [] }
+        ensures { result.list ≡ [] }
     {
         Maps {
-            pairs: Vec::new(alloc),
+            table: Table::new(alloc),
         }
+    }
+
+    /// What holds of all maps: no hash comes twice.
+    pub fn known(&self)
+        ensures { IsTrue (are_distinct self.now.list) }
+    {
+        self.table.known();
     }
 
     /// How many maps there are.
     pub fn len(&self) -> usize
-        ensures { result ≡ length self.now }
+        ensures { result ≡ length self.now.list }
     {
-        self.pairs.len()
+        self.table.len()
     }
 
     /// The map of a hash.
+    #[tactic(auto, using(crate::specs::MapsAt::map_is))]
     pub fn get(&self, hash: &Hash) -> Option<&KeyMap>
-        ensures { option_map (λ map. map.now) result ≡ map_at self.now hash.now }
+        ensures { option_map (λ m. m.now) result ≡ map_at self.now.list hash.now }
     {
-        for (at, map) in &self.pairs {
-            if at == hash {
-                return Some(map);
-            }
-        }
-        None
+        self.table.get(hash)
     }
 
-    /// Adds a map at the end; a hash that is there changes nothing.
+    /// Makes room, so that this many more can be pushed.
+    pub fn reserve(&mut self, more: usize) -> Result<(), NoMemory>
+        ensures list { self.new.list ≡ self.old.list }
+        ensures ok { OnOk result (more ≤ self.new.spare) }
+        ensures succeeds { more ≤ self.old.spare → IsOk result }
+        ensures spare { self.old.spare ≤ self.new.spare }
+    {
+        self.table.reserve(more)
+    }
+
+    /// Adds a map under a hash that is not there, into room that was made before.
+    #[tactic(auto, using(crate::specs::MapsAt::map_is))]
+    pub fn push(&mut self, hash: Hash, map: KeyMap)
+        requires room { 0 < self.old.spare }
+        requires absent { map_at self.old.list hash ≡ None }
+        ensures list { self.new.list ≡ (hash, map) ∷ self.old.list }
+        ensures spare { self.old.spare ≤ self.new.spare + 1 }
+    {
+        self.table.push(hash, map);
+    }
+
+    /// Adds a map; a hash that is there changes nothing.
     pub fn add(&mut self, hash: Hash, map: KeyMap) -> Result<(), NoMemory>
-        ensures ok { OnOk result (self.new ≡ with_map hash map self.old) }
-        ensures err { OnErr result (self.new ≡ self.old) }
+        ensures ok { OnOk result (self.new.list ≡ with_map hash map self.old.list) }
+        ensures err { OnErr result (self.new.list ≡ self.old.list) }
+        ensures there { IsTrue (is_some (map_at self.old.list hash)) → IsOk result }
+        ensures succeeds { 0 < self.old.spare → IsOk result }
+        ensures spare { self.old.spare ≤ self.new.spare + 1 }
     {
         if self.get(&hash).is_some() {
             return Ok(());
         }
-        self.pairs.push((hash, map))?;
+        self.reserve(1)?;
+        self.push(hash, map);
         Ok(())
     }
 
-    /// Keeps the first maps, so many.
+    /// Keeps the maps that were added first, so many.
     pub fn cut(&mut self, len: usize)
-        ensures { self.new ≡ take len self.old }
+        ensures list { self.new.list ≡ drop (length self.old.list - len) self.old.list }
+        ensures spare { self.old.spare ≤ self.new.spare }
     {
-        self.pairs.truncate(len);
+        self.table.cut(len);
     }
 }

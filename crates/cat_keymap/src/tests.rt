@@ -121,12 +121,22 @@ fn a_page_follows_a_key_under_a_filter(rt: HostRuntime) -> Result<(), Fail> {
 fn a_hash_keeps_its_first_map(rt: HostRuntime) -> Result<(), Fail> {
     let hash = Hash { bytes: [1; 32] };
     let mut maps = Maps::new(rt.alloc());
-    maps.add(hash, three(rt)?.clone()?)?;
+    maps.add(hash, three(rt)?)?;
     maps.add(hash, KeyMap::empty())?;
-    assert_eq!(rt; maps.len(), 1);
-    assert_eq!(rt; maps.get(&hash).map(|map| map.len()), Some(3));
+    assert!(rt; maps.len() == 1);
+    assert!(rt; maps.get(&hash).map(|map| map.len()) == Some(3));
     maps.cut(0);
     assert!(rt; maps.get(&hash).is_none());
+    Ok(())
+}
+
+#[test]
+fn a_map_is_pushed_into_room_made_before(rt: HostRuntime) -> Result<(), Fail> {
+    let hash = Hash { bytes: [2; 32] };
+    let mut maps = Maps::new(rt.alloc());
+    maps.reserve(1)?;
+    maps.push(hash, three(rt)?.clone()?);
+    assert!(rt; maps.get(&hash).map(|map| map.len()) == Some(3));
     Ok(())
 }
 
