@@ -1,2 +1,4 @@
 pub mod LookUps
+pub mod ReferenceLaws
+pub mod References
 pub mod Tables
