@@ -1,13 +1,12 @@
 -- What a changing call leaves of the last draft number and of the state.
 use Rattle.std.proofs.Common.{◌≡◌, ℕ, ◌+◌, ◌≤◌, [], ◌∷◌, Bool, true, false, nat_lt, if◌then◌else◌, Result, Ok, Err, refl, arith, sym, subst, ap, ◌∙◌}
 use Rattle.cat_model.specs.declared.command.Command.{Command}
-use Rattle.cat_model.specs.declared.command.Command.TheVariants as commands
 use Rattle.cat_model.specs.declared.refusal.Refused.{Refused}
 use Rattle.cat_model.specs.declared.reply.Reply.{Reply}
 use Rattle.cat_model.specs.declared.reply.Told.{Told}
 use Rattle.cat_model.specs.State.{Digest, State}
 use Rattle.cat_model.specs.Refusing.{Tested, Outcome}
-use Rattle.cat_model.specs.Step.{Turn, step}
+use Rattle.cat_model.specs.Step.{Turn, opens_draft, step}
 use Rattle.cat_model.specs.Calls.{Called, call, tested_call, opened_call, stepped, unchanged_by, told_at, entry_made}
 
 -- a number, or the next
@@ -31,12 +30,20 @@ stepped_draft digest caller state draft command turn (Ok (after, reply)) =
     })
     (unchanged_by state draft (Ok reply)) draft (nat_lt state.place after.place) refl refl
 
+-- by whether it opens a draft
+opened_draft : (digest : Digest) (caller : ℕ) (state : State) (last : ℕ) (command : Command) (moment : ℕ) (opens : Bool) → IsNextAtMost last (opened_call digest caller state last command moment opens).draft
+opened_draft digest caller state last command moment true =
+    let turn : Turn = record { draft = last + 1; opened = state.place; moment = moment } in
+    let e = stepped_draft digest caller state (last + 1) command turn (step digest state command turn) in
+    record { kept = omega (arith, e); taken = omega (arith, e) }
+opened_draft digest caller state last command moment false =
+    let turn : Turn = record { draft = 0; opened = state.place; moment = moment } in
+    let e = stepped_draft digest caller state last command turn (step digest state command turn) in
+    record { kept = omega (arith, e); taken = omega (arith, e) }
+
 tested_draft : (digest : Digest) (caller : ℕ) (state : State) (last : ℕ) (command : Command) (moment : ℕ) (t : Tested) → IsNextAtMost last (tested_call digest caller state last command moment t).draft
 tested_draft digest caller state last command moment (Err why) = record { kept = omega arith; taken = omega arith }
-tested_draft digest caller state last (commands.Commit c) moment (Ok x) =
-    let turn : Turn = record { draft = last + 1; opened = state.place; moment = moment } in
-    let e = stepped_draft digest caller state (last + 1) (commands.Commit c) turn (step digest state (commands.Commit c) turn) in
-    record { kept = omega (arith, e); taken = omega (arith, e) }
+tested_draft digest caller state last command moment (Ok x) = opened_draft digest caller state last command moment (opens_draft command)
 
 -- a call takes one draft number at most
 pub call_draft : (digest : Digest) (caller : ℕ) (state : State) (last : ℕ) (command : Command) (moment : ℕ) → IsNextAtMost last (call digest caller state last command moment).draft
@@ -63,12 +70,20 @@ stepped_state digest caller state draft command turn (Ok (after, reply)) e h =
     })
     (unchanged_by state draft (Ok reply)) state e (nat_lt state.place after.place) (not_refused _ e) refl h
 
+-- by whether it opens a draft
+opened_state : (digest : Digest) (caller : ℕ) (state : State) (last : ℕ) (command : Command) (moment : ℕ) (opens : Bool) (e : Refused)
+    → (opened_call digest caller state last command moment opens).said ≡ Err e → (opened_call digest caller state last command moment opens).state ≡ state
+opened_state digest caller state last command moment true e h =
+    let turn : Turn = record { draft = last + 1; opened = state.place; moment = moment } in
+    stepped_state digest caller state (last + 1) command turn (step digest state command turn) e h
+opened_state digest caller state last command moment false e h =
+    let turn : Turn = record { draft = 0; opened = state.place; moment = moment } in
+    stepped_state digest caller state last command turn (step digest state command turn) e h
+
 tested_state : (digest : Digest) (caller : ℕ) (state : State) (last : ℕ) (command : Command) (moment : ℕ) (t : Tested) (e : Refused)
     → (tested_call digest caller state last command moment t).said ≡ Err e → (tested_call digest caller state last command moment t).state ≡ state
 tested_state digest caller state last command moment (Err why) e h = refl
-tested_state digest caller state last (commands.Commit c) moment (Ok x) e h =
-    let turn : Turn = record { draft = last + 1; opened = state.place; moment = moment } in
-    stepped_state digest caller state (last + 1) (commands.Commit c) turn (step digest state (commands.Commit c) turn) e h
+tested_state digest caller state last command moment (Ok x) e h = opened_state digest caller state last command moment (opens_draft command) e h
 
 -- a refused call leaves the state as it was
 pub call_state : (digest : Digest) (caller : ℕ) (state : State) (last : ℕ) (command : Command) (moment : ℕ) (e : Refused)

@@ -1,6 +1,6 @@
 //! Replies to requests.
 
-ghost use Rattle.std.specs.Prelude.{◌≡◌, IfOk, Ok, Err, false, option_map};
+ghost use Rattle.std.specs.Prelude.{◌≡◌, IfOk, IsOk, Ok, Err, false, option_map};
 ghost use Rattle.cat_http.specs.Reply.{render, body_bytes};
 ghost use Rattle.cat_http.specs.Writing.{Wrote};
 ghost use Rattle.cat_cli.specs.Answers.{RepliesTo, given_up};
@@ -29,7 +29,8 @@ pub(crate) fn response(
     head_only: bool,
     said: Said,
 ) -> Result<Response, NoMemory>
-    ensures { IfOk result (λ r. RepliesTo close head_only said.told said.may_change (render r)) }
+    ensures reply { IfOk result (λ r. RepliesTo close head_only said.told said.may_change (render r)) }
+    ensures told { said.may_change ≡ false → IsOk result }
 {
     match told_response(alloc, close, head_only, &said.told) {
         Ok(response) => Ok(response),
@@ -39,7 +40,8 @@ pub(crate) fn response(
 
 #[tactic(auto, unfolding(crate::specs::Replies::said_bytes))]
 fn or_no_memory(close: bool, head_only: bool, may_change: bool) -> Result<Response, NoMemory>
-    ensures { IfOk result (λ r. (may_change ≡ false) × (render r ≡ said_bytes close head_only (Err given_up))) }
+    ensures reply { IfOk result (λ r. (may_change ≡ false) × (render r ≡ said_bytes close head_only (Err given_up))) }
+    ensures told { may_change ≡ false → IsOk result }
 {
     if may_change {
         return Err(NoMemory);
