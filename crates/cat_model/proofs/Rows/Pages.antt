@@ -37,7 +37,7 @@ use Rattle.cat_model.specs.declared.reply.Reply.{Reply}
 use Rattle.cat_model.specs.declared.reply.Reply.TheVariants as replies
 use Rattle.cat_model.specs.declared.reply.Told.{Told}
 use Rattle.cat_model.specs.declared.wanted.Wanted.TheVariants.{Read}
-use Rattle.cat_model.proofs.Rows.Words.{Request, quick, clock, main, dev, H0, table, no_id, new, commit, put, put_new, create, assign, delete, from_branch, from_hash, after, head, t1, t2, t9, a, a-t, m1, empty, one, both}
+use Rattle.cat_model.proofs.Rows.Words.{Request, quick, clock, main, dev, H0, note, table, no_id, new, commit, put, put_new, create, assign, delete, from_branch, from_hash, after, head, t1, t2, t9, a, a-t, m1, empty, one, both}
 
 abbrev t0 : Key
 t0 = codes "t0" ∷ []
@@ -94,8 +94,8 @@ two = after empty (commit main None (new t1 (table no_id m1) ∷ new t2 (table n
 abbrev later : Session
 later = after two (put_new None t0 m1 ∷ commit main None (Delete t2 ∷ []) [] ∷ [])
 
-a_page_is_of_the_first_pages_commit : pages later (listed (Some main) None all 200 None ∷ listed (Some main) (Some (head two)) all 1 None ∷ listed (Some main) None all 1 (Some (head two, t1)) ∷ listed (Some main) None all 1 (Some (head two, t2)) ∷ listed (Some main) None all 2 (Some (head two, t0)) ∷ [])
-    ≡ page 3 (head later) (t0 ∷ t1 ∷ []) None ∷ page 3 (head two) (t1 ∷ []) (Some (head two, t1)) ∷ page 3 (head two) (t2 ∷ []) None ∷ page 3 (head two) [] None ∷ page 3 (head two) (t1 ∷ t2 ∷ []) None ∷ []
+a_page_is_of_the_first_pages_commit : pages later (listed (Some main) None all 200 None ∷ listed (Some main) (Some (head two)) all 1 None ∷ listed (Some main) None all 1 (Some (head two, t1)) ∷ listed (Some main) None all 1 (Some (head two, t2)) ∷ listed (Some main) None all 2 (Some (head two, t0)) ∷ listed (Some main) None all 1 (Some (head two, t0)) ∷ [])
+    ≡ page 3 (head later) (t0 ∷ t1 ∷ []) None ∷ page 3 (head two) (t1 ∷ []) (Some (head two, t1)) ∷ page 3 (head two) (t2 ∷ []) None ∷ page 3 (head two) [] None ∷ page 3 (head two) (t1 ∷ t2 ∷ []) None ∷ page 3 (head two) (t1 ∷ []) (Some (head two, t1)) ∷ []
 unfolding u8_spelling u16_spelling u32_spelling u64_spelling i64_spelling i32_spelling list ascending text_code short_text_code hash_code id_code element_code key_code moment_code kind_code entry_code meta_code commit_code table_code namespace_code of_table of_namespace content_code emptied_fault changes_of op_fault judge entries commit_bytes content_bytes with_commit with_content expired_keys given_ops given_request request_commit commit_opening needs_commit_room step_commit needs_contents step_create step_assign step_delete history references_page answer_reference answer_entries history_item answer_history answer_contents answer_content entry_made call script
 a_page_is_of_the_first_pages_commit = refl
 
@@ -154,6 +154,11 @@ a_history_with_its_operations = refl
 a_history_with_its_contents : pages two (walked (Some main) None None true 9 None ∷ []) ≡ commits 1 ((head two, (H0, Some ((t1, Some true) ∷ (t2, Some true) ∷ []))) ∷ []) None ∷ []
 unfolding u8_spelling u16_spelling u32_spelling u64_spelling i64_spelling i32_spelling list ascending text_code short_text_code hash_code id_code element_code key_code moment_code kind_code entry_code meta_code commit_code table_code namespace_code of_table of_namespace content_code emptied_fault changes_of op_fault judge entries commit_bytes content_bytes with_commit with_content expired_keys given_ops given_request request_commit commit_opening needs_commit_room step_commit needs_contents step_create step_assign step_delete history references_page answer_reference answer_entries history_item answer_history answer_contents answer_content entry_made call script
 a_history_with_its_contents = refl
+
+a_commit_is_shown_whole : history_item [] false (unknown, record { parent = H0; merge_parent = Some unknown; generation = 9; time = 5; meta = record note { message = codes "two" }; ops = (t1, None) ∷ [] })
+    ≡ record { hash = unknown; parent = H0; merge_parent = Some unknown; time = 5; meta = record note { message = codes "two" }; operations = None }
+unfolding u8_spelling u16_spelling u32_spelling u64_spelling i64_spelling i32_spelling list ascending text_code short_text_code hash_code id_code element_code key_code moment_code kind_code entry_code meta_code commit_code table_code namespace_code of_table of_namespace content_code emptied_fault changes_of op_fault judge entries commit_bytes content_bytes with_commit with_content expired_keys given_ops given_request request_commit commit_opening needs_commit_room step_commit needs_contents step_create step_assign step_delete history references_page answer_reference answer_entries history_item answer_history answer_contents answer_content entry_made call script
+a_commit_is_shown_whole = refl
 
 -- ---- contents
 
