@@ -1,5 +1,5 @@
 -- Worked cases of commands that are well made, and others.
-use Rattle.std.specs.Prelude.{◌≡◌, refl, ℕ, List, [], ◌∷◌, None, Bool, true, false, codes, map, replicate, pos}
+use Rattle.std.specs.Prelude.{◌≡◌, refl, ℕ, List, [], ◌∷◌, Some, None, Bool, true, false, codes, map, replicate, pos}
 use Rattle.cat_codes.specs.Code.{u8_spelling, u16_spelling, u32_spelling, u64_spelling, i64_spelling, i32_spelling, list, ascending}
 use Rattle.cat_codes.specs.Texts.{text_code}
 use Rattle.cat_names.specs.Fields.{id_code}
@@ -7,11 +7,12 @@ use Rattle.cat_names.specs.declared.hash.ContentId.{ContentId}
 use Rattle.cat_model.specs.declared.command.Command.TheVariants as commands
 use Rattle.cat_model.specs.declared.content.Content.{Content}
 use Rattle.cat_model.specs.declared.op.Op.{Op}
+use Rattle.cat_model.specs.declared.reference.Kind.TheVariants.{Branch}
 use Rattle.cat_model.specs.declared.op.Op.TheVariants.{Put, Delete, Unchanged}
 use Rattle.cat_model.specs.Contents.{table_code, namespace_code, of_table, of_namespace, content_code}
 use Rattle.cat_model.specs.State.{entry_for}
 use Rattle.cat_model.specs.WellMade.{may_be_asked, have_contents, is_well_made, given_ids}
-use Rattle.cat_model.proofs.Rows.Words.{main, note, table, namespace, no_id, new, again, quick, t1, t2, t9, a, a-t, m1}
+use Rattle.cat_model.proofs.Rows.Words.{main, H0, note, table, namespace, no_id, new, again, quick, t1, t2, t9, a, a-t, m1}
 
 abbrev asked : List Op → List Content → Bool
 asked ops contents = is_well_made quick (commands.Commit (record { branch = main; expected = None; meta = note; ops = ops; contents = contents }))
@@ -69,3 +70,16 @@ contents_that_belong : map (λ (x : List Op × List Content). asked x.0 x.1) (
     ≡ true ∷ false ∷ true ∷ true ∷ false ∷ false ∷ false ∷ true ∷ false ∷ []
 unfolding u8_spelling u16_spelling u32_spelling u64_spelling i64_spelling i32_spelling list ascending text_code id_code table_code namespace_code of_table of_namespace content_code may_be_asked have_contents is_well_made
 contents_that_belong = refl
+
+-- a source has a name or a hash
+sources : map (is_well_made quick) (
+    commands.Create (record { name = main; kind = Branch; source = record { name = Some main; hash = None }; source_kind = None })
+    ∷ commands.Create (record { name = main; kind = Branch; source = record { name = None; hash = Some H0 }; source_kind = None })
+    ∷ commands.Create (record { name = main; kind = Branch; source = record { name = None; hash = None }; source_kind = None })
+    ∷ commands.Assign (record { name = main; kind = None; expected = None; source = record { name = None; hash = Some H0 }; source_kind = None })
+    ∷ commands.Assign (record { name = main; kind = None; expected = None; source = record { name = None; hash = None }; source_kind = None })
+    ∷ commands.Delete (record { name = main; kind = None; expected = None })
+    ∷ [])
+    ≡ true ∷ true ∷ false ∷ true ∷ false ∷ true ∷ []
+unfolding is_well_made
+sources = refl

@@ -116,10 +116,10 @@ source_kind (commands.Delete c) = None
 source_kind (commands.Commit c) = None
 
 abbrev logged : List LogEntry
-logged = (script quick 7 clock one (create dev Branch (from_branch main) ∷ create dev Branch (from_branch main) ∷ assign dev None None (from_hash H0) ∷ delete dev None None ∷ put_new None t2 m1 ∷ [])).logged
+logged = (script quick 7 clock one (create dev Branch (from_branch main) ∷ create dev Branch (from_branch main) ∷ assign dev None None (from_branch main) ∷ delete dev None None ∷ put_new None t2 m1 ∷ [])).logged
 
 moves_open_no_drafts : map shape logged
-    ≡ (2, (0, (2000000, Some (head one)))) ∷ (3, (0, (4000000, Some H0))) ∷ (4, (0, (5000000, None))) ∷ (5, (2, (6000000, Some (head (after one (create dev Branch (from_branch main) ∷ create dev Branch (from_branch main) ∷ assign dev None None (from_hash H0) ∷ delete dev None None ∷ put_new None t2 m1 ∷ [])))))) ∷ []
+    ≡ (2, (0, (2000000, Some (head one)))) ∷ (3, (0, (4000000, Some (head one)))) ∷ (4, (0, (5000000, None))) ∷ (5, (2, (6000000, Some (head (after one (create dev Branch (from_branch main) ∷ create dev Branch (from_branch main) ∷ assign dev None None (from_branch main) ∷ delete dev None None ∷ put_new None t2 m1 ∷ [])))))) ∷ []
 unfolding u8_spelling u16_spelling u32_spelling u64_spelling i64_spelling i32_spelling list ascending text_code short_text_code hash_code id_code element_code key_code moment_code kind_code entry_code meta_code commit_code table_code namespace_code of_table of_namespace content_code emptied_fault changes_of op_fault judge entries commit_bytes content_bytes with_commit with_content expired_keys given_ops given_request request_commit commit_opening needs_commit_room step_commit needs_contents step_create step_assign step_delete history references_page answer_reference answer_entries history_item answer_history answer_contents answer_content entry_made call script
 moves_open_no_drafts = refl
 
