@@ -1,6 +1,12 @@
+use crate::references::References;
 use crate::table::Table;
+use cat_codes::fault::NoMemory;
 use cat_codes::text::Text;
+use cat_model::reference::{Kind, Reference};
 use cat_names::hash::Hash;
+use cat_names::name_fault::NameFault;
+use cat_names::ref_name::RefName;
+use std::alloc::Global;
 use std::test::*;
 
 /// The hash of a number's bytes.
@@ -63,5 +69,59 @@ fn values_are_pushed_into_room_made_before(rt: HostRuntime) -> Result<(), Fail> 
         Some("first")
     );
     assert_eq!(rt; table.get(&other).map(|text| text.as_str()), Some("second"));
+    Ok(())
+}
+
+fn branch(alloc: Global, name: &str, n: u8) -> Result<Reference, NameFault> {
+    Ok(Reference {
+        name: RefName::parse(alloc, name)?,
+        kind: Kind::Branch,
+        head: Hash { bytes: [n; 32] },
+    })
+}
+
+fn add(references: &mut References, reference: Reference) -> Result<(), NoMemory> {
+    references.reserve(1)?;
+    if references.get(&reference.name).is_none() {
+        references.insert(reference);
+    }
+    Ok(())
+}
+
+/// The first bytes of the heads, each below ten, as digits.
+fn heads(references: &[Reference]) -> u64 {
+    let mut digits = 0u64;
+    for reference in references {
+        let [first, ..] = reference.head.bytes;
+        digits = digits.wrapping_mul(10).wrapping_add(first as u64);
+    }
+    digits
+}
+
+#[test]
+fn references_stand_by_their_names(rt: HostRuntime) -> Result<(), Fail> {
+    let alloc = rt.alloc();
+    let mut references = References::new(alloc);
+    for (name, n) in [("main", 2), ("dev", 1), ("main2", 3), ("main", 4)] {
+        add(&mut references, branch(alloc, name, n)?)?;
+    }
+    assert_eq!(rt; references.len(), 3);
+    assert_eq!(rt; heads(references.as_slice()), 123);
+    let main = RefName::parse(alloc, "main")?;
+    let absent = RefName::parse(alloc, "mai")?;
+    assert_eq!(rt;
+        references.get(&main).map(|found| found.head.bytes),
+        Some([2; 32])
+    );
+    assert!(rt; references.get(&absent).is_none());
+    assert_eq!(rt; heads(references.after(Some(&main))), 3);
+    assert_eq!(rt; heads(references.after(Some(&absent))), 23);
+    assert_eq!(rt; heads(references.after(None)), 123);
+    references.set(&branch(alloc, "main", 5)?);
+    references.set(&branch(alloc, "mai", 6)?);
+    assert_eq!(rt; heads(references.as_slice()), 153);
+    references.remove(&absent);
+    references.remove(&main);
+    assert_eq!(rt; heads(references.as_slice()), 13);
     Ok(())
 }
