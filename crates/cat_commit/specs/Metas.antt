@@ -41,12 +41,16 @@ abbrev pub parents_of : Hash → Option Hash → List Hash
 parents_of parent None = parent ∷ []
 parents_of parent (Some other) = parent ∷ other ∷ []
 
--- what replies say of a commit
-abbrev pub commit_meta_data : Hash → Commit → Data
-commit_meta_data hash c = object (meta_members c.meta
-    +> (codes "commitTime", moment_data c.time)
+-- what replies tell of a commit: its meta, its moment, its hash and its parents
+abbrev pub told_meta_data : Hash → Hash → Option Hash → ℕ → Meta → Data
+told_meta_data hash parent merge_parent time meta = object (meta_members meta
+    +> (codes "commitTime", moment_data time)
     +> (codes "hash", hash_data hash)
-    +> (codes "parentCommitHashes", list_data hash_data (parents_of c.parent c.merge_parent)))
+    +> (codes "parentCommitHashes", list_data hash_data (parents_of parent merge_parent)))
+
+-- the same of a commit in full
+abbrev pub commit_meta_data : Hash → Commit → Data
+commit_meta_data hash c = told_meta_data hash c.parent c.merge_parent c.time c.meta
 
 -- ---- without floats
 
@@ -59,5 +63,8 @@ no_float_members m = search (floatless, no_float_texts)
 pub no_float_meta : (m : Meta) → has_float (meta_data m) ≡ false
 no_float_meta m = no_float_members m
 
+pub no_float_told_meta : (hash parent : Hash) (merge_parent : Option Hash) (time : ℕ) (meta : Meta) → has_float (told_meta_data hash parent merge_parent time meta) ≡ false
+no_float_told_meta hash parent merge_parent time meta = search (floatless, no_float_members)
+
 pub no_float_commit_meta : (hash : Hash) (c : Commit) → has_float (commit_meta_data hash c) ≡ false
-no_float_commit_meta hash c = search (floatless, no_float_members)
+no_float_commit_meta hash c = no_float_told_meta hash c.parent c.merge_parent c.time c.meta

@@ -11,4 +11,6 @@ mod tests;
 
 pub use bytes::{from_bytes, id, to_bytes};
 pub use instant::{InstantForm, read_instant, write_instant};
-pub use meta::{CommitMetaForm, MetaForm, commit_meta_to_json, meta_from_json, meta_to_json};
+pub use meta::{
+    CommitMetaForm, MetaForm, commit_meta_to_json, meta_from_json, meta_to_json, told_meta_to_json,
+};

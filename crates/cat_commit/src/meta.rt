@@ -4,7 +4,7 @@ ghost use Rattle.std.specs.Prelude.{◌≡◌, IfOk, Some};
 ghost use Rattle.serde_json.specs.View.{view};
 ghost use Rattle.cat_json.specs.Reading.{Gives};
 ghost use Rattle.cat_json.specs.Writing.{held};
-ghost use Rattle.cat_commit.specs.Metas.{meta_as, IsKept, meta_members, meta_data, parents_of, commit_meta_data, no_float_meta, no_float_commit_meta};
+ghost use Rattle.cat_commit.specs.Metas.{meta_as, IsKept, meta_members, meta_data, parents_of, told_meta_data, commit_meta_data, no_float_meta, no_float_commit_meta};
 
 use crate::instant::InstantForm;
 use cat_codes::ascending::Ascending;
@@ -15,6 +15,7 @@ use cat_json::fault::JsonFault;
 use cat_json::read::{ReadForm, defaulted, optional, required};
 use cat_json::write::{Object, WriteForm};
 use cat_model::commit::{Commit, Meta};
+use cat_model::moment::Moment;
 use cat_names::hash::Hash;
 use serde_json::Value;
 use std::alloc::Global;
@@ -98,27 +99,48 @@ impl WriteForm for MetaForm {
 }
 
 /// The parent, and the merge parent where there is one.
-fn parents(alloc: Global, commit: &Commit) -> Result<Seq<Hash>, NoMemory>
-    ensures { IfOk result (λ hashes. hashes ≡ parents_of commit.now.parent commit.now.merge_parent) }
+fn parents(alloc: Global, parent: Hash, merge_parent: Option<Hash>) -> Result<Seq<Hash>, NoMemory>
+    ensures { IfOk result (λ hashes. hashes ≡ parents_of parent merge_parent) }
 {
     let mut hashes = Seq::new(alloc);
-    hashes.push(commit.parent)?;
-    if let Some(hash) = commit.merge_parent {
+    hashes.push(parent)?;
+    if let Some(hash) = merge_parent {
         hashes.push(hash)?;
     }
     Ok(hashes)
 }
 
-/// What replies say of a commit: its meta, `commitTime`, `hash` and `parentCommitHashes`.
+/// What replies tell of a commit: its meta, `commitTime`, `hash` and `parentCommitHashes`.
+pub fn told_meta_to_json(
+    alloc: Global,
+    hash: &Hash,
+    parent: Hash,
+    merge_parent: Option<Hash>,
+    time: &Moment,
+    meta: &Meta,
+) -> Result<Value, NoMemory>
+    ensures { IfOk result (λ v. view v ≡ told_meta_data hash.now parent merge_parent time.now meta.now) }
+{
+    Ok(
+        meta_object(alloc, meta)?
+            .with::<InstantForm>("commitTime", time)?
+            .with::<Hash>("hash", hash)?
+            .with::<Seq<Hash>>("parentCommitHashes", &parents(alloc, parent, merge_parent)?)?
+            .into_value(),
+    )
+}
+
+/// The same of a commit in full.
 pub fn commit_meta_to_json(alloc: Global, hash: &Hash, commit: &Commit) -> Result<Value, NoMemory>
     ensures { IfOk result (λ v. view v ≡ commit_meta_data hash.now commit.now) }
 {
-    Ok(
-        meta_object(alloc, &commit.meta)?
-            .with::<InstantForm>("commitTime", &commit.time)?
-            .with::<Hash>("hash", hash)?
-            .with::<Seq<Hash>>("parentCommitHashes", &parents(alloc, commit)?)?
-            .into_value(),
+    told_meta_to_json(
+        alloc,
+        hash,
+        commit.parent,
+        commit.merge_parent,
+        &commit.time,
+        &commit.meta,
     )
 }
 
