@@ -1,1 +1,3 @@
+pub mod Lists
 pub mod Texts
+pub mod Walks

@@ -1,6 +1,17 @@
-//! Tokens and pages of listings.
+//! Tokens and pages of listings. A page has the first so many of what is left of a listing, and a
+//! token exactly where more follow. A token is a text, and the text of each token is read as that
+//! token. Pages that follow one another by their tokens make the listing, each item once, and a
+//! listing at a commit stays whatever commits are added meanwhile.
 #![tactic(auto)]
 
+mod entries;
+mod history;
+pub mod page;
+mod references;
 #[cfg(test)]
 mod tests;
 pub mod token;
+
+pub use entries::entries_page;
+pub use history::history_page;
+pub use references::references_page;
