@@ -7,9 +7,9 @@ use Rattle.cat_model.specs.declared.refusal.Refusal.{Refusal}
 use Rattle.cat_model.specs.declared.refusal.Refusal.TheVariants as refusals
 use Rattle.cat_http.specs.Message.{Message}
 use Rattle.cat_http.specs.Reply.{rendered, no_memory_text}
-use Rattle.cat_rest.specs.Replies.{reply_data}
-use Rattle.cat_rest.specs.Refusals.{refusal_data}
-use Rattle.cat_rest.specs.Wording.{status_of}
+use Rattle.cat_replies.specs.Replies.{reply_data}
+use Rattle.cat_replies.specs.Refusals.{refusal_data}
+use Rattle.cat_replies.specs.Wording.{status_of}
 use Rattle.cat_model.specs.declared.refusal.Allowed.{Allowed}
 use Rattle.cat_model.specs.declared.refusal.Allowed.TheVariants as allowed
 

@@ -2,8 +2,5 @@ pub mod Bodies
 pub mod Faults
 pub mod Operations
 pub mod Paths
-pub mod Refusals
-pub mod Replies
 pub mod Served
 pub mod Wanted
-pub mod Wording

@@ -7,14 +7,9 @@ mod command;
 mod commit;
 mod operation;
 mod path;
-mod refusal;
-mod reply;
 #[cfg(test)]
 mod tests;
-mod wording;
 
+pub use cat_replies::{refusal_to_json, status_of, to_json};
 pub use cat_routes::Routes;
 pub use command::to_command;
-pub use refusal::refusal_to_json;
-pub use reply::to_json;
-pub use wording::status_of;
