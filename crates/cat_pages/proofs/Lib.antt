@@ -1,3 +1,6 @@
+pub mod Listed
 pub mod Lists
+pub mod Pages
+pub mod Sorted
 pub mod Texts
 pub mod Walks

@@ -58,14 +58,10 @@ pub fn history_page<'a>(
     until: &Option<Hash>,
     limit: u32,
 ) -> Result<Page<(&'a Hash, &'a Commit)>, NoMemory>
-    ensures items {
-        let left = history graph.now.list from.now until.now in
-        IfOk result (λ page. values page.items ≡ take limit left)
-    }
-    ensures token {
-        let left = history graph.now.list from.now until.now in
-        IfOk result (λ page. page.token ≡ option_map (λ x. Token.History x.0) (first (drop limit left)))
-    }
+    ensures items { let left = history graph.now.list from.now until.now in
+        IfOk result (λ page. values page.items ≡ take limit left) }
+    ensures token { let left = history graph.now.list from.now until.now in
+        IfOk result (λ page. page.token ≡ option_map (λ x. Token.History x.0) (first (drop limit left))) }
 {
     let shown = limit as usize;
     let mut commits = graph.chain(alloc, from, shown + 1)?;

@@ -6,6 +6,7 @@
 
 mod entries;
 mod history;
+pub mod laws;
 pub mod page;
 mod references;
 #[cfg(test)]

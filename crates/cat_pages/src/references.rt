@@ -50,14 +50,10 @@ pub fn references_page(
     after: Option<&RefName>,
     limit: u32,
 ) -> Result<Page<Reference>, NoMemory>
-    ensures items {
-        let page = Answer.references_page references.now.list (record { limit = limit; after = option_map (λ name. name.now) after.entry }) in
-        IfOk result (λ p. p.items ≡ page.items)
-    }
-    ensures token {
-        let page = Answer.references_page references.now.list (record { limit = limit; after = option_map (λ name. name.now) after.entry }) in
-        IfOk result (λ p. p.token ≡ option_map (λ name. Token.References name) page.next)
-    }
+    ensures items { let page = Answer.references_page references.now.list (record { limit = limit; after = option_map (λ name. name.now) after.entry }) in
+        IfOk result (λ p. p.items ≡ page.items) }
+    ensures token { let page = Answer.references_page references.now.list (record { limit = limit; after = option_map (λ name. name.now) after.entry }) in
+        IfOk result (λ p. p.token ≡ option_map (λ name. Token.References name) page.next) }
 {
     first_part(alloc, references.after(after), limit)
 }

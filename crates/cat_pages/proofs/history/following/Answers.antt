@@ -1,6 +1,5 @@
 use Rattle.std.proofs.Common.{ap, Option}
 use Rattle.std.specs.Option.{option_map}
-use Rattle.cat_model.specs.Chain.{Commits}
 use Rattle.cat_model.specs.declared.commit.Commit.{Commit}
 use Rattle.cat_names.specs.declared.hash.Hash.{Hash}
 use Rattle.cat_pages.proofs.Walks.{behind}

@@ -1,4 +1,4 @@
-use Rattle.std.proofs.Common.{◌≡◌, ◌≤◌, ◌+◌, take, length}
+use Rattle.std.proofs.Common.{◌≡◌, ◌≤◌, take}
 use Rattle.cat_pages.proofs.references.first_part.Given as goal
 
 abbrev pub invariant-loop-reference : goal.invariant-loop-reference
