@@ -1,12 +1,7 @@
-pub mod Kept
 pub mod Plain
 pub mod Called
-pub mod Counts
-pub mod Held
-pub mod Added
 pub mod Asked
 pub mod Ids
 pub mod PlainCalls
 pub mod Steps
-pub mod Moved
 pub mod Accepts

@@ -24,64 +24,6 @@ use Rattle.cat_core.specs.declared.failure.Failure.{Failure}
 use Rattle.cat_core.specs.declared.failure.Failure.TheVariants as failures
 use Rattle.cat_core.specs.Giving.{Fails, refused_at}
 
-abbrev pub IsOther : Refusal → Type 0
-IsOther why = why ≡ NoMemory → ⊥
-
-abbrev pub IsPlain : {A : Type 0} → Result A Refusal → Type 0
-IsPlain (Ok x) = Unit {0}
-IsPlain (Err why) = IsOther why
-
-pub plain_bind : {A B : Type 0} (r : Result A Refusal) (f : A → Result B Refusal) → IsPlain r → ((x : A) → IsPlain (f x)) → IsPlain (r >>= f)
-plain_bind (Ok x) f p q = q x
-plain_bind (Err why) f p q = p
-
-pub plain_needs : (b : Bool) (why : Refusal) → IsOther why → IsPlain (needs b why)
-plain_needs true why p = tt
-plain_needs false why p = p
-
-pub plain_found : {A : Type 0} (o : Option A) (why : Refusal) → IsOther why → IsPlain (found o why)
-plain_found None why p = p
-plain_found (Some x) why p = tt
-
-pub plain_choice : {A : Type 0} (b : Bool) (x : A) (why : Refusal) → IsOther why → IsPlain (if b then Ok x else Err why)
-plain_choice true x why p = tt
-plain_choice false x why p = p
-
-pub plain_named : (state : State) (name : List ℕ) → IsPlain (named state name)
-plain_named state name = plain_found _ RefNotFound (λ e. cc)
-
-pub plain_perhaps : (state : State) (name : Option (List ℕ)) → IsPlain (perhaps_named state name)
-plain_perhaps state None = tt
-plain_perhaps state (Some name) = plain_bind (named state name) (λ r. Ok (Some r)) (plain_named state name) (λ r. tt)
-
-pub plain_pointed : (state : State) (reference : Option Reference) (hash : Option Hash) → IsPlain (pointed sha256 state reference hash)
-plain_pointed state (Some reference) None = tt
-plain_pointed state (Some reference) (Some hash) = plain_choice _ hash RefNotFound (λ e. cc)
-plain_pointed state None (Some hash) = plain_choice _ hash RefNotFound (λ e. cc)
-plain_pointed state None None = λ e. cc
-
--- ---- reading
-
-plain_last : (content : Option Content) (e : Effective) → IsPlain (found content (ContentNotFound missing.Expired) >>= λ content. Ok (replies.Content (record { effective = e; content = content })))
-plain_last None e = λ e. cc
-plain_last (Some content) e = tt
-
-plain_tail : (entry : Option Entry) (present : List (Hash × Content)) (e : Effective)
-    → IsPlain (found entry (ContentNotFound missing.Absent) >>= λ entry. found (content_at present entry.hash) (ContentNotFound missing.Expired) >>= λ content. Ok (replies.Content (record { effective = e; content = content })))
-plain_tail None present e = λ e. cc
-plain_tail (Some entry) present e = plain_last (content_at present entry.hash) e
-
-pub plain_answer : (state : State) (ask : Ask) → IsPlain (answer sha256 state ask)
-unfolding answer_reference answer_content
-plain_answer state asks.Config = tt
-plain_answer state (asks.Reference p) =
-    plain_bind (perhaps_named state p.name) _ (plain_perhaps state p.name) (λ r.
-    plain_bind (pointed sha256 state r p.hash) _ (plain_pointed state r p.hash) (λ h. tt))
-plain_answer state (asks.Content a) =
-    plain_bind (perhaps_named state a.at.name) _ (plain_perhaps state a.at.name) (λ r.
-    plain_bind (pointed sha256 state r a.at.hash) _ (plain_pointed state r a.at.hash) (λ h.
-    plain_tail (entry_of (entries state.commits h) a.key) state.present (effective_at r h)))
-
 read_by : (book : Book) (ask : Ask) (why : Refusal) (refused : Refused) → IsOther why → told_at book.state (answer sha256 book.state ask) ≡ Err refused → ReadRefuses sha256 book ask why refused
 read_by book ask (BadRequest x) refused p e = e
 read_by book ask RefNotFound refused p e = e

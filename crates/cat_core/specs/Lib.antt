@@ -1,4 +1,3 @@
-pub mod Keeping
 pub mod Giving
 pub mod Ops
 pub mod Putting

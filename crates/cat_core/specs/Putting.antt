@@ -27,26 +27,6 @@ use Rattle.cat_core.specs.declared.preparing.Prepared.{Prepared}
 use Rattle.cat_core.specs.Giving.{Fails}
 use Rattle.cat_core.specs.Keeping.{IsNext}
 
--- a state with these contents, the newest first
-abbrev pub holding : List (Hash × Content) → State → State
-holding contents state = record state { present = contents }
-
--- a state with these commits, the newest first
-abbrev pub keeping : chain.Commits → State → State
-keeping commits state = record state { commits = commits }
-
--- a list is what the older one was, after some more at its front
-abbrev pub IsAbove : {A : Type 0} → List A → List A → Type 0
-IsAbove older list = drop (length list - length older) list ≡ older
-
--- a state with more contents, then with one more commit
-abbrev pub with_both : State → List Content → Commit → Result State Refusal
-with_both state contents c = with_contents sha256 state contents >>= λ held. with_commit sha256 held c
-
--- a state with an entry more, and a branch moved
-abbrev pub moved_state : State → Reference → State
-moved_state state moved = record state { place = state.place + 1; references = moved_reference state.references moved }
-
 -- what is added to a state, less what is kept already, and the reply
 abbrev pub add_step : State → Prepared → Outcome
 add_step state made =

@@ -5,21 +5,12 @@
 #![tactic(auto)]
 
 mod accepting;
-mod adding;
 mod calls;
-mod commits;
 mod committing;
-mod contents;
-mod copies;
-mod failure;
 mod given;
 mod judging;
 mod ops;
 mod preparing;
-mod reading;
-mod records;
-mod references;
-mod room;
 mod store;
 
 pub use store::Store;

@@ -85,7 +85,8 @@ impl KeyMap {
         let _ = &self.pairs;
     }
 
-    fn pairs(&self) -> &[(ContentKey, Entry)]
+    /// The keys and their entries, keys ascending.
+    pub fn pairs(&self) -> &[(ContentKey, Entry)]
         ensures { result.now ≡ self.now }
     {
         match &self.pairs {

@@ -1,0 +1,4 @@
+pub mod Kept
+pub mod Added
+pub mod Heads
+pub mod Taken

@@ -1,0 +1,51 @@
+-- States with more contents, commits and entries.
+use Rattle.std.specs.Prelude.{◌≡◌, List, ◌-◌, Result, Ok, length, drop, map}
+use Rattle.sha2.specs.Sha256.{sha256}
+use Rattle.cat_names.specs.declared.hash.Hash.{Hash}
+use Rattle.cat_model.specs.declared.commit.Commit.{Commit}
+use Rattle.cat_model.specs.declared.content.Content.{Content}
+use Rattle.cat_model.specs.declared.reference.Reference.{Reference}
+use Rattle.cat_model.specs.declared.refusal.Refusal.{Refusal}
+use Rattle.cat_model.specs.Chain.{Commits}
+use Rattle.cat_model.specs.Formats.{commit_code}
+use Rattle.cat_model.specs.Moves.{with_references}
+use Rattle.cat_model.specs.Records.{with_commit, with_contents}
+use Rattle.cat_model.specs.Refusing.{◌>>=◌}
+use Rattle.cat_model.specs.State.{State, commit_hash, content_hash, moved_reference}
+use Rattle.cat_state.specs.declared.records.Record.{Record}
+
+-- the hashes are the contents'
+abbrev pub AreHashesOf : List Hash → List Content → Type 0
+AreHashesOf hashes contents = hashes ≡ map (content_hash sha256) contents
+
+-- the record is the commit's
+pub record IsRecordOf (c : Commit) (r : Record) : Type 0 where
+  pub hash : r.hash ≡ commit_hash sha256 c
+  pub bytes : r.bytes.items ≡ (commit_code).spell c
+
+-- a state with these contents, the newest first
+abbrev pub holding : List (Hash × Content) → State → State
+holding contents state = record state { present = contents }
+
+-- a state with these commits, the newest first
+abbrev pub keeping : Commits → State → State
+keeping commits state = record state { commits = commits }
+
+-- a list is what the older one was, after some more at its front
+abbrev pub IsAbove : {A : Type 0} → List A → List A → Type 0
+IsAbove older list = drop (length list - length older) list ≡ older
+
+-- a state with more contents, then with one more commit
+abbrev pub with_both : State → List Content → Commit → Result State Refusal
+with_both state contents c = with_contents sha256 state contents >>= λ held. with_commit sha256 held c
+
+-- a state with an entry more, and a reference moved
+abbrev pub moved_state : State → Reference → State
+moved_state state moved = with_references state (moved_reference state.references moved)
+
+-- a state with more contents, then one more commit, then an entry more and a reference moved
+abbrev pub with_all : State → List Content → Commit → Reference → Result State Refusal
+with_all state contents c moved =
+    with_contents sha256 state contents >>= λ held.
+    with_commit sha256 held c >>= λ more.
+    Ok (moved_state more moved)

@@ -1,0 +1,17 @@
+-- Refusals of tests in turn.
+use Rattle.std.proofs.Common.{◌≡◌, Result, Ok, Err, refl}
+use Rattle.cat_model.specs.declared.refusal.Refusal.{Refusal}
+use Rattle.cat_model.specs.Refusing.{◌>>=◌}
+use Rattle.cat_state.specs.declared.failure.Failure.{Failure}
+use Rattle.cat_state.specs.declared.failure.Failure.TheVariants as failures
+use Rattle.cat_state.specs.Giving.{Fails}
+
+-- a test that fails refuses
+pub fails_on : {A B : Type 0} (failure : Failure) (r : Result A Refusal) (f : A → Result B Refusal) → Fails failure r → Fails failure (r >>= f)
+fails_on failures.NoMemory r f h = tt
+fails_on (failures.Refused why) r f h = rw h refl
+
+-- tests in turn, bracketed the other way
+pub in_turn : {A B C : Type 0} (r : Result A Refusal) (f : A → Result B Refusal) (g : B → Result C Refusal) → ((r >>= f) >>= g) ≡ (r >>= λ x. f x >>= g)
+in_turn (Ok x) f g = refl
+in_turn (Err why) f g = refl

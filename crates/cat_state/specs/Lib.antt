@@ -1,0 +1,6 @@
+pub mod Keeping
+pub mod KeepingLaws
+pub mod Giving
+pub mod GivingLaws
+pub mod Adding
+pub mod PlainLaws

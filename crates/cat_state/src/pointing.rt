@@ -1,0 +1,78 @@
+//! The commits that requests point at.
+
+ghost use Rattle.std.specs.Prelude.{◌≡◌, IfOk, IsTrue};
+ghost use Rattle.std.specs.Option.{option_copied};
+ghost use Rattle.sha2.specs.Sha256.{sha256};
+ghost use Rattle.cat_model.specs.Chain.{on_chain};
+ghost use Rattle.cat_model.specs.State.{is_known};
+ghost use Rattle.cat_model.specs.Refusing as refusing;
+ghost use Rattle.cat_state.specs.Giving.{SaysAs};
+ghost use Rattle.cat_state.specs.Keeping.{IsAtCommit};
+
+use crate::catalogue::Catalogue;
+use cat_model::reference::Reference;
+use cat_model::refusal::Refusal;
+use cat_names::hash::Hash;
+use cat_names::ref_name::RefName;
+
+impl Catalogue {
+    /// Whether it is a commit's hash, or the one that has no ancestor.
+    pub(crate) fn is_known(&self, hash: &Hash) -> bool
+        ensures { result ≡ is_known sha256 self.now hash.now }
+    {
+        self.commits().is_known(hash)
+    }
+
+    /// Whether the hash is on the chain of the head. Then it is known where the head is.
+    #[tactic(auto, using(crate::proofs::Heads::chain_is_known))]
+    pub(crate) fn is_on_chain(&self, head: &Hash, hash: &Hash) -> bool
+        ensures on { result ≡ on_chain self.now.commits head.now hash.now }
+        ensures known { IsTrue result → IsTrue (is_known sha256 self.now head.now) → IsTrue (is_known sha256 self.now hash.now) }
+    {
+        self.commits().on_chain(head, hash)
+    }
+
+    /// The reference of a name. It points at what is known.
+    #[tactic(auto, using(crate::proofs::Heads::named_is_known))]
+    pub fn named(&self, name: &RefName) -> Result<&Reference, Refusal>
+        ensures named { SaysAs (λ r. r.now) result (refusing.named self.now name.now) }
+        ensures known { IfOk result (λ r. IsTrue (is_known sha256 self.now r.now.head)) }
+    {
+        match self.references().get(name) {
+            None => Err(Refusal::RefNotFound),
+            Some(reference) => Ok(reference),
+        }
+    }
+
+    /// The reference of a name that may be missing.
+    pub fn perhaps_named(&self, name: &Option<RefName>) -> Result<Option<&Reference>, Refusal>
+        ensures named { SaysAs option_copied result (refusing.perhaps_named self.now name.now) }
+        ensures known { IfOk result (λ r. IsAtCommit self.now (option_copied r)) }
+    {
+        match name {
+            None => Ok(None),
+            Some(name) => Ok(Some(self.named(name)?)),
+        }
+    }
+
+    /// The commit that a request points at: a reference's head or a hash on its chain, or a hash
+    /// that is known. What a reference points at so is known if its head is.
+    pub fn pointed(
+        &self,
+        reference: Option<&Reference>,
+        hash: &Option<Hash>,
+    ) -> Result<Hash, Refusal>
+        ensures pointed { result ≡ refusing.pointed sha256 self.now (option_copied reference.entry) hash.now }
+        ensures known { IsAtCommit self.now (option_copied reference.entry) → IfOk result (λ hash. IsTrue (is_known sha256 self.now hash)) }
+    {
+        let found = match (reference, hash) {
+            (None, None) => None,
+            (Some(reference), None) => Some(reference.head),
+            (Some(reference), Some(hash)) => {
+                self.is_on_chain(&reference.head, hash).then_some(*hash)
+            }
+            (None, Some(hash)) => self.is_known(hash).then_some(*hash),
+        };
+        found.ok_or(Refusal::RefNotFound)
+    }
+}

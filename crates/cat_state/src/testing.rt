@@ -1,0 +1,81 @@
+//! What stands in the way of a reference.
+
+ghost use Rattle.std.specs.Prelude.{◌≡◌, ◌++◌, None, IfOk, OnOk, is_none};
+ghost use Rattle.cat_model.specs.Moves.{needs_contents, needs_new_name};
+ghost use Rattle.cat_model.specs.Records.{expired_keys, needs_no_expired};
+ghost use Rattle.cat_model.specs.State.{content_at, reference_of};
+ghost use Rattle.cat_state.specs.Giving.{Gives};
+
+use crate::catalogue::Catalogue;
+use crate::contents::find_content;
+use crate::failure::Failure;
+use cat_codes::fault::NoMemory;
+use cat_codes::seq::Seq;
+use cat_model::entry::Entry;
+use cat_model::refusal::Refusal;
+use cat_names::hash::Hash;
+use cat_names::key::ContentKey;
+use cat_names::ref_name::RefName;
+use std::alloc::Global;
+
+/// Refused with keys, if there are any, and the place.
+fn needs_none(keys: Seq<ContentKey>, place: u32) -> Result<(), Failure>
+    ensures { Gives result (needs_no_expired keys place) }
+{
+    if keys.len() == 0 {
+        return Ok(());
+    }
+    Err(Failure::Refused(Refusal::Expired {
+        keys,
+        opened: place,
+    }))
+}
+
+impl Catalogue {
+    /// No reference has the name.
+    pub fn needs_new_name(&self, name: &RefName) -> Result<(), Refusal>
+        ensures test { result ≡ needs_new_name self.now name.now }
+        ensures absent { OnOk result (reference_of self.now.references name.now ≡ None) }
+    {
+        match self.references().get(name) {
+            None => Ok(()),
+            Some(_) => Err(Refusal::RefExists),
+        }
+    }
+
+    /// Whether the catalogue doesn't hold the content of an entry.
+    fn is_expired(&self, entry: &Entry) -> bool
+        ensures { result ≡ is_none (content_at self.now.present entry.now.hash) }
+    {
+        find_content(self.contents(), &entry.hash).is_none()
+    }
+
+    /// The keys whose contents the catalogue doesn't hold, by one walk.
+    #[tactic(auto, unfolding(cat_model::specs::Records::expired_keys))]
+    fn expired_keys(
+        &self,
+        alloc: Global,
+        pairs: &[(ContentKey, Entry)],
+    ) -> Result<Seq<ContentKey>, NoMemory>
+        ensures { IfOk result (λ keys. keys ≡ expired_keys self.now pairs.now) }
+    {
+        let mut keys = Seq::new(alloc);
+        for (key, entry) in pairs {
+            if self.is_expired(entry) {
+                keys.push(key.clone()?)?;
+            }
+        }
+        Ok(keys)
+    }
+
+    /// The catalogue holds every content that is visible at the commit. It is refused with the keys
+    /// of those that it doesn't hold, ascending, and the place.
+    #[tactic(auto, unfolding(cat_model::specs::Moves::needs_contents))]
+    pub fn needs_contents(&self, alloc: Global, hash: &Hash) -> Result<(), Failure>
+        ensures { Gives result (needs_contents self.now hash.now) }
+    {
+        let map = self.map_at(hash)?;
+        let keys = self.expired_keys(alloc, map.pairs())?;
+        needs_none(keys, self.place())
+    }
+}
