@@ -4,3 +4,4 @@ pub mod Giving
 pub mod GivingLaws
 pub mod Adding
 pub mod PlainLaws
+pub mod Turning

@@ -12,7 +12,13 @@ mod changing;
 mod contents;
 pub mod copies;
 pub mod failure;
+mod histories;
+mod keyed;
+mod listing;
+mod needing;
 mod pointing;
 pub mod records;
 mod room;
-mod testing;
+#[cfg(test)]
+mod tests;
+mod turning;

@@ -1,0 +1,8 @@
+use Rattle.std.proofs.Common.{arith}
+use Rattle.cat_model.specs.Answer.{keyed_content}
+use Rattle.cat_state.proofs.Walks.{filter_map_more}
+use Rattle.cat_state.proofs.keyed.keyed_contents.Goals as goal
+
+pub loop-key-preserved : goal.loop-key-preserved
+loop-key-preserved c =
+    filter_map_more (keyed_content c.args.contents.now.list c.args.map.now) c.args.keys.now c.key-item.result c.loop-key.key-index c.loop-key.found _ c.loop-key.invariant c.in_ok-add_keyed.ensures (omega arith) c.key-item.is
