@@ -1,6 +1,6 @@
 //! What stands in the way of a reference.
 
-ghost use Rattle.std.specs.Prelude.{◌≡◌, ◌++◌, None, IfOk, OnOk, is_none};
+ghost use Rattle.std.specs.Prelude.{◌≡◌, None, IfOk, OnOk, is_none};
 ghost use Rattle.cat_model.specs.Moves.{needs_contents, needs_new_name};
 ghost use Rattle.cat_model.specs.Records.{expired_keys, needs_no_expired};
 ghost use Rattle.cat_model.specs.State.{content_at, reference_of};
