@@ -68,16 +68,14 @@ fn filter(alloc: Global, prefix: Option<&str>) -> Result<Filter, Fail> {
 }
 
 /// The paths of a page's keys, each with a blank, and of the key of its token.
-fn paths(alloc: Global, page: Page<(ContentKey, Entry)>) -> Result<String, Fail> {
+fn paths(alloc: Global, page: &Page<(ContentKey, Entry)>) -> Result<String, Fail> {
     let mut paths = String::new(alloc);
     for (key, _) in page.items.as_slice() {
         paths.push_str(key.to_path(alloc)?.as_str())?;
         paths.push(' ')?;
     }
-    if let Some(Token::Entries(at, key)) = page.token {
-        if at == Hash::none() {
-            paths.push_str(key.to_path(alloc)?.as_str())?;
-        }
+    if let Some(Token::Entries(_, key)) = &page.token {
+        paths.push_str(key.to_path(alloc)?.as_str())?;
     }
     Ok(paths)
 }
@@ -101,16 +99,17 @@ fn pages_of_entries_follow_one_another(rt: HostRuntime) -> Result<(), Fail> {
             Some(path) => Some(key(alloc, path)?),
         };
         let page = entries_page(alloc, &map, &Hash::none(), &filter, after.as_ref(), limit)?;
-        assert_eq!(rt; paths(alloc, page)?.as_str(), want);
+        assert_eq!(rt; paths(alloc, &page)?.as_str(), want);
     }
     Ok(())
 }
 
-fn commit(alloc: Global, parent: u64) -> Result<Commit, AllocError> {
+/// A commit without changes.
+fn commit(alloc: Global, parent: u64, generation: u64) -> Result<Commit, AllocError> {
     Ok(Commit {
         parent: hash(parent),
         merge_parent: None,
-        generation: parent + 1,
+        generation,
         time: Moment::from_micros(8),
         meta: Meta {
             message: Text::from_str(alloc, "a commit")?,
@@ -126,9 +125,9 @@ fn commit(alloc: Global, parent: u64) -> Result<Commit, AllocError> {
 /// Commits 1 to 3 in a row.
 fn three(alloc: Global) -> Result<Graph, Fail> {
     let mut graph = Graph::new(alloc);
-    for parent in 0..3u64 {
-        let hash = hash(parent + 1);
-        let commit = commit(alloc, parent)?;
+    for (n, parent) in [(1, 0), (2, 1), (3, 2)] {
+        let hash = hash(n);
+        let commit = commit(alloc, parent, n)?;
         if graph.is_next(&hash, &commit) {
             graph.add(hash, commit)?;
         }
