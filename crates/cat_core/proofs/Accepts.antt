@@ -1,62 +1,64 @@
--- The step of what is accepted, from the lists of the store.
-use Rattle.std.proofs.Common.{◌≡◌, ℕ, ◌+◌, List, [], reverse, Result, Ok, sym, ap, subst, ◌∙◌}
+-- The place after what is accepted.
+use Rattle.std.proofs.Common.{◌≡◌, ℕ, ◌+◌, List, [], ◌∷◌, Option, Some, None, Result, Ok, Err, Bool, true, false, if◌then◌else◌, refl, sym, ap, ◌∙◌}
 use Rattle.sha2.specs.Sha256.{sha256}
 use Rattle.cat_names.specs.declared.hash.Hash.{Hash}
+use Rattle.cat_model.specs.declared.commit.Commit.{Commit}
 use Rattle.cat_model.specs.declared.content.Content.{Content}
-use Rattle.cat_model.specs.declared.limits.Limits.{Limits}
-use Rattle.cat_model.specs.declared.log_entry.LogEntry.{LogEntry}
 use Rattle.cat_model.specs.declared.reference.Reference.{Reference}
 use Rattle.cat_model.specs.declared.refusal.Refusal.{Refusal}
-use Rattle.cat_model.specs.Book.{Book}
-use Rattle.cat_model.specs.Chain.{Commits}
-use Rattle.cat_model.specs.Records.{with_commit, with_contents}
-use Rattle.cat_model.specs.Refusing.{◌>>=◌, Outcome}
-use Rattle.cat_model.specs.State.{State, moved_reference}
-use Rattle.cat_core.specs.declared.commits.Kept.{Kept}
-use Rattle.cat_core.specs.declared.failure.Failure.{Failure}
-use Rattle.cat_core.specs.declared.preparing.Prepared.{Prepared}
-use Rattle.cat_core.specs.Giving.{Fails}
-use Rattle.cat_core.specs.Keeping.{recorded}
-use Rattle.cat_core.specs.Putting.{accepted_told, add_step, holding, keeping, moved_state, with_both}
-use Rattle.cat_core.proofs.Held.{fails_on, in_turn}
+use Rattle.cat_model.specs.declared.refusal.Refusal.TheVariants.{Collision}
+use Rattle.std.specs.Str.{bytes_eq}
+use Rattle.cat_model.specs.Contents.{content_code}
+use Rattle.cat_model.specs.Formats.{commit_code}
+use Rattle.cat_model.specs.Records.{added, commit_bytes, content_bytes, with_commit, with_content, with_contents}
+use Rattle.cat_model.specs.Refusing.{◌>>=◌}
+use Rattle.cat_model.specs.State.{State, commit_hash, content_hash}
+use Rattle.cat_state.specs.Adding.{moved_state, with_all}
 
--- the state of a store's lists
-abbrev pub state_of : ℕ → List Reference → Commits → List (Hash × Content) → Limits → State
-state_of place references commits contents limits = record { place = place; references = references; commits = commits; present = contents; limits = limits }
+added_by : (b : Bool) (state after : State) (why : Refusal) → (if b then Ok state else Err why) ≡ Ok after → after.place ≡ state.place
+added_by true state after why e = cc
+added_by false state after why e = absurd cc
 
--- the book of a store's lists
-abbrev pub book_of : State → ℕ → List LogEntry → Book
-book_of state draft log = record { state = state; draft = draft; log = reverse log }
+added_place : (state more after : State) (hash : Hash) (kept : Option (List ℕ)) (bytes : List ℕ) → more.place ≡ state.place → added state more hash kept bytes ≡ Ok after → after.place ≡ state.place
+added_place state more after hash None bytes m e = cc
+added_place state more after hash (Some kept) bytes m e = added_by (bytes_eq kept bytes) state after (Collision hash kept bytes) e
 
--- what follows once contents and commit are added
-abbrev pub last_step : Prepared → State → Outcome
-last_step made more = Ok (moved_state more made.moved, (accepted_told (record { state = more; draft = 0; log = [] }) made).reply)
+content_place : (state after : State) (c : Content) → with_content sha256 state c ≡ Ok after → after.place ≡ state.place
+unfolding with_content
+content_place state after c e =
+    let hash = content_hash sha256 c in
+    added_place state (record state { present = (hash, c) ∷ state.present }) after hash (content_bytes state hash) ((content_code).spell c) refl e
 
-both_then : (state : State) (made : Prepared) → (with_both state made.request.contents made.kept.commit >>= last_step made) ≡ add_step state made
-both_then state made = in_turn (with_contents sha256 state made.request.contents) (λ held. with_commit sha256 held made.kept.commit) (last_step made)
+commit_place : (state after : State) (c : Commit) → with_commit sha256 state c ≡ Ok after → after.place ≡ state.place
+unfolding with_commit
+commit_place state after c e =
+    let hash = commit_hash sha256 c in
+    added_place state (record state { commits = (hash, c) ∷ state.commits }) after hash (commit_bytes sha256 state hash) ((commit_code).spell c) refl e
 
--- the step adds what was made
-pub step_accepts : (before : Book) (place : ℕ) (references moved : List Reference) (commits commits1 commits2 : List (Hash × Kept)) (contents contents2 : List (Hash × Content)) (limits : Limits) (last : ℕ) (made : Prepared) (log : List LogEntry) (slice : List Content)
-    → book_of (state_of place references (recorded commits) contents limits) last log ≡ before
-    → commits1 ≡ commits → slice ≡ made.request.contents → moved ≡ moved_reference references made.moved
-    → ((s : State) → with_both (keeping (recorded commits1) (holding contents s)) slice made.kept.commit ≡ Ok (keeping (recorded commits2) (holding contents2 s)))
-    → add_step before.state made ≡ Ok (state_of (place + 1) moved (recorded commits2) contents2 limits, (accepted_told before made).reply)
-step_accepts before place references moved commits commits1 commits2 contents contents2 limits last made log slice view k w r add =
-    let state : State = state_of place references (recorded commits) contents limits in
-    let more : State = state_of place references (recorded commits2) contents2 limits in
-    let here : with_both state made.request.contents made.kept.commit ≡ Ok more =
-    subst (λ (l : List Content). with_both state l made.kept.commit ≡ Ok more) w (subst (λ (l : List (Hash × Kept)). with_both (keeping (recorded l) state) slice made.kept.commit ≡ Ok more) k (add state)) in
-    subst (λ (b : Book). add_step b.state made ≡ Ok (state_of (place + 1) moved (recorded commits2) contents2 limits, (accepted_told b made).reply)) view
-    (sym (both_then state made) ∙ ap (λ (r : Result State Refusal). r >>= last_step made) here ∙ ap (λ (l : List Reference). Ok (state_of (place + 1) l (recorded commits2) contents2 limits, (accepted_told before made).reply)) (sym r))
+-- what a step in turn had before it
+passed_by : {A B : Type 0} (r : Result A Refusal) (f : A → Result B Refusal) (after : B) (P : Type 0) → ((x : A) → r ≡ Ok x → f x ≡ Ok after → P) → (r >>= f) ≡ Ok after → P
+passed_by (Ok x) f after P h e = h x refl e
+passed_by (Err why) f after P h e = absurd cc
 
--- the step fails
-pub step_rejects : (before : Book) (place : ℕ) (references : List Reference) (commits commits1 : List (Hash × Kept)) (contents : List (Hash × Content)) (limits : Limits) (last : ℕ) (made : Prepared) (log : List LogEntry) (slice : List Content) (failure : Failure)
-    → book_of (state_of place references (recorded commits) contents limits) last log ≡ before
-    → commits1 ≡ commits → slice ≡ made.request.contents
-    → ((s : State) → Fails failure (with_both (keeping (recorded commits1) (holding contents s)) slice made.kept.commit))
-    → Fails failure (add_step before.state made)
-step_rejects before place references commits commits1 contents limits last made log slice failure view k w add =
-    let state : State = state_of place references (recorded commits) contents limits in
-    let here : Fails failure (with_both state made.request.contents made.kept.commit) =
-    subst (λ (l : List Content). Fails failure (with_both state l made.kept.commit)) w (subst (λ (l : List (Hash × Kept)). Fails failure (with_both (keeping (recorded l) state) slice made.kept.commit)) k (add state)) in
-    subst (λ (b : Book). Fails failure (add_step b.state made)) view (subst (Fails failure) (both_then state made) (fails_on failure (with_both state made.request.contents made.kept.commit) (last_step made) here))
+contents_place : (state after : State) (contents : List Content) → with_contents sha256 state contents ≡ Ok after → after.place ≡ state.place
+contents_place state after [] e = cc
+contents_place state after (c ∷ contents) e =
+    passed_by (with_content sha256 state c) (λ more. with_contents sha256 more contents) after (after.place ≡ state.place) (λ more first rest. contents_place more after contents rest ∙ content_place state more c first) e
+
+-- a state with an entry more and a reference moved
+abbrev moved_ok : Reference → State → Result State Refusal
+moved_ok r state = Ok (moved_state state r)
+
+abbrev place_of : Result State Refusal → ℕ
+place_of (Ok state) = state.place
+place_of (Err why) = 0
+
+moved_place : (held after : State) (r : Reference) → moved_ok r held ≡ Ok after → after.place ≡ held.place + 1
+moved_place held after r e = sym (ap place_of e)
+
+-- it is the next
+pub all_place : (state after : State) (contents : List Content) (c : Commit) (r : Reference) → with_all state contents c r ≡ Ok after → after.place ≡ state.place + 1
+all_place state after contents c r e =
+    passed_by (with_contents sha256 state contents) _ after (after.place ≡ state.place + 1) (λ held first rest.
+    passed_by (with_commit sha256 held c) (moved_ok r) after (after.place ≡ state.place + 1) (λ more second last.
+    moved_place more after r last ∙ ap (λ (n : ℕ). n + 1) (commit_place held more c second ∙ contents_place state held contents first)) rest) e

@@ -1,7 +1,9 @@
-pub mod Plain
-pub mod Called
 pub mod Asked
 pub mod Ids
-pub mod PlainCalls
 pub mod Steps
 pub mod Accepts
+pub mod Plain
+pub mod PlainCalls
+pub mod PlainMoves
+pub mod Called
+pub mod Undrafted

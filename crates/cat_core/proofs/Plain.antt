@@ -1,28 +1,18 @@
--- No definition refuses for want of memory.
-use Rattle.std.proofs.Common.{◌≡◌, ℕ, List, Option, Some, None, Result, Ok, Err, Bool, true, false, if◌then◌else◌, refl, subst, ap}
+-- Refusals of reading calls.
+use Rattle.std.proofs.Common.{◌≡◌, Some, Result, Err, refl, subst, ap}
 use Rattle.sha2.specs.Sha256.{sha256}
-use Rattle.cat_names.specs.declared.hash.Hash.{Hash}
 use Rattle.cat_model.specs.declared.ask.Ask.{Ask}
-use Rattle.cat_model.specs.declared.ask.Ask.TheVariants as asks
-use Rattle.cat_model.specs.declared.content.Content.{Content}
-use Rattle.cat_model.specs.declared.reference.Reference.{Reference}
 use Rattle.cat_model.specs.declared.refusal.Refusal.{Refusal}
 use Rattle.cat_model.specs.declared.refusal.Refusal.TheVariants.{BadRequest, RefNotFound, RefExists, ContentNotFound, Conflicts, Expired, RetriesSpent, SweepOpen, Limit, Collision, Fault, Down, NoMemory, NoRoute, WrongMethod, TooLarge, Encoding}
 use Rattle.cat_model.specs.declared.refusal.Refused.{Refused}
-use Rattle.cat_model.specs.declared.refusal.Missing.TheVariants as missing
-use Rattle.cat_model.specs.declared.entry.Entry.{Entry}
-use Rattle.cat_model.specs.declared.reference.Effective.{Effective}
-use Rattle.cat_model.specs.declared.reply.Reply.TheVariants as replies
-use Rattle.cat_model.specs.Answer.{answer, effective_at, answer_reference, answer_content}
+use Rattle.cat_model.specs.Answer.{answer}
 use Rattle.cat_model.specs.Book.{Book, Reads, ReadRefuses}
 use Rattle.cat_model.specs.Calls.{told_at}
-use Rattle.cat_model.specs.Chain.{entries}
-use Rattle.cat_model.specs.Maps.{entry_of}
-use Rattle.cat_model.specs.Refusing.{◌>>=◌, needs, found, named, perhaps_named, pointed}
-use Rattle.cat_model.specs.State.{State, content_at}
-use Rattle.cat_core.specs.declared.failure.Failure.{Failure}
-use Rattle.cat_core.specs.declared.failure.Failure.TheVariants as failures
-use Rattle.cat_core.specs.Giving.{Fails, refused_at}
+use Rattle.cat_state.specs.declared.failure.Failure.{Failure}
+use Rattle.cat_state.specs.declared.failure.Failure.TheVariants as failures
+use Rattle.cat_state.specs.Giving.{Fails}
+use Rattle.cat_state.specs.PlainLaws.{IsOther, IsPlain, plain_answer}
+use Rattle.cat_core.specs.Making.{refused_at}
 
 read_by : (book : Book) (ask : Ask) (why : Refusal) (refused : Refused) → IsOther why → told_at book.state (answer sha256 book.state ask) ≡ Err refused → ReadRefuses sha256 book ask why refused
 read_by book ask (BadRequest x) refused p e = e

@@ -1,5 +1,5 @@
 -- The step of a commit, by how far it comes.
-use Rattle.std.proofs.Common.{◌≡◌, ℕ, ◌+◌, ◌≤◌, List, [], ◌∷◌, length, Result, Ok, map, filter_map, refl, true, sym, ap, subst, ◌∙◌}
+use Rattle.std.proofs.Common.{◌≡◌, ℕ, List, [], ◌∷◌, Result, Ok, map, filter_map, refl, true, sym, ap, subst, ◌∙◌}
 use Rattle.sha2.specs.Sha256.{sha256}
 use Rattle.cat_names.specs.declared.hash.Hash.{Hash}
 use Rattle.cat_model.specs.declared.command.CommitRequest.{CommitRequest}
@@ -16,16 +16,18 @@ use Rattle.cat_model.specs.Maps.{Map, after_changes}
 use Rattle.cat_model.specs.Namespaces.{is_well_formed}
 use Rattle.cat_model.specs.Records.{with_commit, with_contents}
 use Rattle.cat_model.specs.Refusing.{◌>>=◌, Outcome, Tested}
-use Rattle.cat_model.specs.State.{State, commit_hash, content_hash}
-use Rattle.cat_core.specs.declared.commits.Kept.{Kept}
-use Rattle.cat_core.specs.declared.committing.Turn.{Turn}
-use Rattle.cat_core.specs.declared.failure.Failure.{Failure}
+use Rattle.cat_model.specs.State.{State, commit_hash, is_known}
+use Rattle.cat_state.specs.declared.failure.Failure.{Failure}
+use Rattle.cat_state.specs.declared.records.NewCommit.{NewCommit}
+use Rattle.cat_state.specs.Adding.{AreHashesOf}
+use Rattle.cat_state.specs.Giving.{Fails}
+use Rattle.cat_state.specs.Keeping.{MayBeAdded}
+use Rattle.cat_state.specs.KeepingLaws.{upon_may_be_added}
 use Rattle.cat_core.specs.declared.given.Given.{Given}
+use Rattle.cat_core.specs.declared.logging.Turn.{Turn}
 use Rattle.cat_core.specs.declared.preparing.Prepared.{Prepared}
-use Rattle.cat_core.specs.Giving.{Fails}
-use Rattle.cat_core.specs.Keeping.{IsNext}
 use Rattle.cat_core.specs.Putting.{IsMade, IsPrepared, add_step}
-use Rattle.cat_core.proofs.Held.{fails_on}
+use Rattle.cat_state.specs.GivingLaws.{fails_on}
 use Rattle.cat_core.proofs.Ids.{Both}
 
 -- the operations and contents with the ids that the draft gives
@@ -56,15 +58,11 @@ pub judge_at : (expected at before head : Map) (slice ops : List Op) → before 
 judge_at expected at before head slice ops b h s =
     ap (λ (m : Map). or_conflicts (judge m head slice)) b ∙ ap (λ (m : Map). or_conflicts (judge expected m slice)) h ∙ ap (λ (l : List Op). or_conflicts (judge expected at l)) s
 
--- a commit at a head, kept with the map after its operations
-pub next_kept : (state : State) (c : CommitRequest) (head : Hash) (moment : ℕ) (ops : List Op) (map : Map) (commit : Commit) (k : Kept) → commit ≡ request_commit state head moment c ops → commit.generation ≤ length state.commits + 1
-    → map ≡ after_changes (changes_of ops) (entries state.commits head) → is_well_formed map ≡ true → k.commit ≡ commit → k.map ≡ map → IsNext state.commits k
+-- a commit at a known head, with the map after its operations, may be added
+pub next_kept : (state : State) (c : CommitRequest) (head : Hash) (moment : ℕ) (ops : List Op) (map : Map) (commit : Commit) (k : NewCommit) → commit ≡ request_commit state head moment c ops → is_known sha256 state head ≡ true
+    → map ≡ after_changes (changes_of ops) (entries state.commits head) → is_well_formed map ≡ true → k.commit ≡ commit → k.map ≡ map → MayBeAdded state.commits k.commit k.map
 unfolding request_commit
-next_kept state c head moment ops map commit k e b m w kc km = record {
-  changed = subst (λ (x : Commit). k.map ≡ after_changes x.ops (entries state.commits x.parent)) (sym (kc ∙ e)) (km ∙ m);
-  bounded = subst (λ (x : Commit). x.generation ≤ length state.commits + 1) (sym kc) b;
-  well_formed = subst (λ (m : Map). is_well_formed m ≡ true) (sym km) w;
-}
+next_kept state c head moment ops map commit k e known m w kc km = rw (kc, km, e) (upon_may_be_added state.commits (request_commit state head moment c ops) map known refl refl m w)
 
 abbrev room : State → Reference → List Op → Tested
 room state branch ops = needs_commit_room state (entries state.commits branch.head) (puts ops)
@@ -124,7 +122,7 @@ made_is : (state : State) (turn : Turn) (c : CommitRequest) (branch : Reference)
     → IsPrepared state turn c branch given made → rest state turn.moment c branch given.ops given.contents ≡ add_step state made
 unfolding rest
 made_is state turn c branch given made p =
-    rw (p.moved, p.added, p.request, p.hash, p.commit) refl
+    rw (p.moved, p.added, p.request, (p.written).hash, p.commit) refl
 
 -- there is room and nothing conflicts: the step is what is added
 pub step_added : (state : State) (turn : Turn) (c : CommitRequest) (branch : Reference) (expected : Hash) (given : Given) (made : Prepared) (map : Map)
@@ -138,5 +136,5 @@ step_added state turn c branch expected given made map g opened r j p =
 
 -- what was prepared is what its hashes say
 pub made_of : (state : State) (turn : Turn) (c : CommitRequest) (branch : Reference) (given : Given) (made : Prepared)
-    → IsPrepared state turn c branch given made → (given.hashes).items ≡ map (content_hash sha256) given.contents → IsMade state made
-made_of state turn c branch given made p h = record { hashes = rw (p.hashes, p.request) h; hash = p.hash; bytes = p.bytes; next = p.next }
+    → IsPrepared state turn c branch given made → AreHashesOf (given.hashes).items given.contents → IsMade state made
+made_of state turn c branch given made p h = record { hashes = rw (p.hashes, p.request) h; written = p.written; next = p.next; head = rw p.moved refl }

@@ -1,3 +1,3 @@
-pub mod Giving
 pub mod Ops
+pub mod Making
 pub mod Putting

@@ -1,18 +1,18 @@
 //! The calls of a store.
 
-ghost use Rattle.std.specs.Prelude.{◌≡◌, ◌<◌, true, IsTrue, OnOk};
+ghost use Rattle.std.specs.Prelude.{◌≡◌, ◌<◌, true, IfOk, IsTrue, OnOk};
 ghost use Rattle.sha2.specs.Sha256.{sha256};
 ghost use Rattle.cat_model.specs.Book.{Applies, Reads, call_on};
 ghost use Rattle.cat_model.specs.Calls.{needs_draft};
 ghost use Rattle.cat_model.specs.Commits.{commit_opening};
 ghost use Rattle.cat_model.specs.Distinct.{are_distinct};
+ghost use Rattle.cat_model.specs.State.{is_known};
 ghost use Rattle.cat_model.specs.WellMade.{is_well_made};
 ghost use Rattle.cat_model.specs.declared.command.Command.TheVariants as commands;
-ghost use Rattle.cat_core.specs.Giving.{SaysAs, refused_at};
-ghost use Rattle.cat_core.specs.Putting.{Commits, taking};
+ghost use Rattle.cat_state.specs.Giving.{SaysAs};
+ghost use Rattle.cat_core.specs.Making.{Makes, refused_at, taking};
 
-use crate::committing::Turn;
-use crate::failure::Failure;
+use crate::logging::Turn;
 use crate::store::Store;
 use cat_model::ask::Ask;
 use cat_model::command::{Command, CommitRequest};
@@ -22,6 +22,7 @@ use cat_model::reference::{Kind, Reference};
 use cat_model::refusal::{Reason, Refusal, Refused};
 use cat_model::reply::Told;
 use cat_names::hash::Hash;
+use cat_state::failure::Failure;
 use std::alloc::Global;
 
 /// A call's refusal at a place; want of memory has none.
@@ -41,11 +42,17 @@ fn refused(place: u32, failure: Failure) -> Refused
 }
 
 impl Store {
+    fn place(&self) -> u32
+        ensures { result ≡ self.now.state.place }
+    {
+        self.catalogue().place()
+    }
+
     /// Answers a reading call.
     pub fn read(&self, alloc: Global, ask: &Ask) -> Result<Told, Refused>
         ensures { Reads sha256 self.now ask.now result }
     {
-        match self.answer(alloc, ask) {
+        match self.catalogue().answer(alloc, ask) {
             Ok(reply) => Ok(Told {
                 place: self.place(),
                 reply,
@@ -57,13 +64,14 @@ impl Store {
     /// The branch of a request, and the commit that it expects there.
     #[tactic(auto, unfolding(cat_model::specs::Commits::commit_opening))]
     fn open(&self, request: &CommitRequest) -> Result<(&Reference, Hash), Refusal>
-        ensures { SaysAs (λ o. (o.0.now, o.1)) result (commit_opening sha256 self.now.state request.now) }
+        ensures opened { SaysAs (λ o. (o.0.now, o.1)) result (commit_opening sha256 self.now.state request.now) }
+        ensures known { IfOk result (λ o. IsTrue (is_known sha256 self.now.state o.0.now.head)) }
     {
-        let branch = self.named(&request.branch)?;
+        let branch = self.catalogue().named(&request.branch)?;
         if branch.kind != Kind::Branch {
             return Err(Refusal::BadRequest(Reason::NotABranch));
         }
-        let expected = self.pointed(Some(branch), &request.expected)?;
+        let expected = self.catalogue().pointed(Some(branch), &request.expected)?;
         Ok((branch, expected))
     }
 
@@ -72,7 +80,7 @@ impl Store {
         ensures test { result ≡ needs_draft self.now.state self.now.draft true }
         ensures below { OnOk result (self.now.draft < 18446744073709551615) }
     {
-        let limit = self.limits().drafts;
+        let limit = self.catalogue().limits().drafts;
         if self.draft < limit {
             Ok(())
         } else {
@@ -99,7 +107,7 @@ impl Store {
         request: &CommitRequest,
     ) -> Result<Told, Failure>
         requires { IsTrue (are_distinct request.now.ops) }
-        ensures { Commits (call_on sha256 caller self.old (commands.Commit request.now) moment) self.old self.new result }
+        ensures { Makes (call_on sha256 caller self.old (commands.Commit request.now) moment) self.old self.new result }
     {
         let (branch, expected) = self.open(request)?;
         self.needs_draft()?;
@@ -117,8 +125,27 @@ impl Store {
         }
     }
 
-    /// Makes a call that changes the catalogue.
+    /// Makes a call, by what it is.
     #[tactic(auto, using(crate::proofs::Asked::ops_are_distinct))]
+    fn make(
+        &mut self,
+        alloc: Global,
+        caller: u32,
+        moment: Moment,
+        command: &Command,
+    ) -> Result<Told, Failure>
+        requires { IsTrue (is_well_made sha256 command.now) }
+        ensures { Makes (call_on sha256 caller self.old command.now moment) self.old self.new result }
+    {
+        match command {
+            Command::Create(create) => self.create(alloc, caller, moment, create),
+            Command::Assign(assign) => self.assign(alloc, caller, moment, assign),
+            Command::Delete(delete) => self.delete(alloc, caller, moment, delete),
+            Command::Commit(request) => self.commit(alloc, caller, moment, request),
+        }
+    }
+
+    /// Makes a call that changes the catalogue.
     pub fn apply(
         &mut self,
         alloc: Global,
@@ -130,11 +157,9 @@ impl Store {
         ensures { Applies (call_on sha256 caller self.old command.now moment) self.old self.new result }
     {
         let place = self.place();
-        match command {
-            Command::Commit(request) => match self.commit(alloc, caller, moment, request) {
-                Ok(told) => Ok(told),
-                Err(failure) => Err(refused(place, failure)),
-            },
+        match self.make(alloc, caller, moment, command) {
+            Ok(told) => Ok(told),
+            Err(failure) => Err(refused(place, failure)),
         }
     }
 }

@@ -8,8 +8,6 @@ ghost use Rattle.cat_model.specs.Contents.{body_kind};
 ghost use Rattle.cat_model.specs.State.{content_hash, entry_for};
 ghost use Rattle.cat_core.specs.Ops.{left_after, listed, their_content};
 
-use crate::copies::{copy_content, copy_op};
-use crate::records::content_hash;
 use cat_codes::fault::NoMemory;
 use cat_codes::seq::Seq;
 use cat_model::command::CommitRequest;
@@ -18,6 +16,8 @@ use cat_model::entry::{ContentKind, Entry};
 use cat_model::op::Op;
 use cat_names::hash::{ContentId, Hash};
 use cat_names::key::ContentKey;
+use cat_state::copies::{copy_content, copy_op};
+use cat_state::records::content_hash;
 use std::alloc::Global;
 
 /// The operations and the contents of a request, with their ids, and the hashes of the contents.

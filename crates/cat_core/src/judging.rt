@@ -5,13 +5,13 @@ ghost use Rattle.cat_model.specs.Commits.{or_conflicts};
 ghost use Rattle.cat_model.specs.Distinct.{are_distinct};
 ghost use Rattle.cat_model.specs.Judge;
 ghost use Rattle.cat_model.specs.Namespaces.{is_well_formed};
-ghost use Rattle.cat_core.specs.Giving.{Gives};
+ghost use Rattle.cat_state.specs.Giving.{Gives};
 
-use crate::failure::Failure;
 use cat_keymap::key_map::KeyMap;
 use cat_model::op::Op;
 use cat_model::refusal::Refusal;
 use cat_rules::judging::{Judged, judge};
+use cat_state::failure::Failure;
 use std::alloc::Global;
 
 /// The map after the operations, by the maps that are expected and at the head.

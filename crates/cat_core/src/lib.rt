@@ -1,7 +1,7 @@
-//! A catalogue in memory: its references, its commits with the map at each, its contents, and the
-//! log that led to them. A store is seen as a book of the model. Each call answers what the model's
-//! call on the book does and leaves the book that it leaves, or is refused for want of memory,
-//! which leaves state and log as they were. The map at each commit is well-formed.
+//! A catalogue with its last draft number and the log that led to it, seen as a book of the model.
+//! Each call answers what the model's call on the book does and leaves the book that it leaves, or
+//! is refused for want of memory, which leaves state and log as they were. The map at each commit
+//! is well-formed.
 #![tactic(auto)]
 
 mod accepting;
@@ -9,8 +9,11 @@ mod calls;
 mod committing;
 mod given;
 mod judging;
+mod logging;
+mod moving;
 mod ops;
 mod preparing;
+mod referring;
 mod store;
 
 pub use store::Store;

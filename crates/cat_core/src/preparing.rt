@@ -1,24 +1,22 @@
 //! What a commit adds, made before its contents and its hash are tested.
 
-ghost use Rattle.std.specs.Prelude.{◌≡◌, ◌+◌, ◌<◌, ◌≤◌, length, IfOk, IsTrue};
+ghost use Rattle.std.specs.Prelude.{◌≡◌, ◌<◌, length, IfOk, IsTrue};
 ghost use Rattle.sha2.specs.Sha256.{sha256};
-ghost use Rattle.cat_model.specs.Chain.{entries, generation};
+ghost use Rattle.cat_model.specs.Chain.{entries};
 ghost use Rattle.cat_model.specs.Commits.{request_commit};
 ghost use Rattle.cat_model.specs.Distinct.{are_distinct};
-ghost use Rattle.cat_model.specs.Formats.{commit_code};
 ghost use Rattle.cat_model.specs.Judge;
 ghost use Rattle.cat_model.specs.Maps.{after_changes};
 ghost use Rattle.cat_model.specs.Namespaces.{is_well_formed};
-ghost use Rattle.cat_model.specs.State.{commit_hash};
-ghost use Rattle.cat_core.specs.Keeping.{IsNext};
+ghost use Rattle.cat_model.specs.State.{is_known};
+ghost use Rattle.cat_state.specs.Adding.{IsRecordOf};
+ghost use Rattle.cat_state.specs.Keeping.{MayBeAdded};
 ghost use Rattle.cat_core.specs.Putting.{IsPrepared};
 
-use crate::commits::Kept;
-use crate::committing::Turn;
-use crate::copies::copy_meta;
 use crate::given::Given;
+use crate::logging::Turn;
 use crate::ops::added_ids;
-use crate::records::{Record, commit_record};
+use crate::referring::at_head;
 use crate::store::Store;
 use cat_codes::fault::NoMemory;
 use cat_codes::seq::Seq;
@@ -31,6 +29,8 @@ use cat_model::op::Op;
 use cat_model::reference::Reference;
 use cat_names::hash::{ContentId, Hash};
 use cat_names::key::ContentKey;
+use cat_state::copies::copy_meta;
+use cat_state::records::{NewCommit, commit_record};
 use std::alloc::Global;
 
 /// What a commit adds if nothing of its hashes is kept.
@@ -38,32 +38,23 @@ use std::alloc::Global;
 pub(crate) struct Prepared {
     /// Those of the request's contents.
     pub(crate) hashes: Vec<Hash>,
-    pub(crate) kept: Kept,
-    pub(crate) commit_record: Record,
+    pub(crate) kept: NewCommit,
     pub(crate) moved: Reference,
     pub(crate) added: Seq<(ContentId, ContentKey)>,
     pub(crate) request: CommitRequest,
 }
 
-/// The commit with the map at it, and its record.
-fn keep(alloc: Global, commit: Commit, map: KeyMap) -> Result<(Kept, Record), NoMemory>
-    ensures commit { IfOk result (λ x. x.0.commit ≡ commit) }
-    ensures map { IfOk result (λ x. x.0.map ≡ map) }
-    ensures hash { IfOk result (λ x. x.1.hash ≡ commit_hash sha256 commit) }
-    ensures bytes { IfOk result (λ x. x.1.bytes.items ≡ (commit_code).spell commit) }
+/// The commit with the map at it and its record.
+fn keep(alloc: Global, commit: Commit, map: KeyMap) -> Result<NewCommit, NoMemory>
+    ensures commit { IfOk result (λ kept. kept.commit ≡ commit) }
+    ensures map { IfOk result (λ kept. kept.map ≡ map) }
+    ensures written { IfOk result (λ kept. IsRecordOf commit kept.written) }
 {
-    let record = commit_record(alloc, &commit)?;
-    Ok((Kept { commit, map }, record))
-}
-
-/// The branch at its new head.
-fn moved_to(branch: &Reference, head: Hash) -> Result<Reference, NoMemory>
-    ensures { IfOk result (λ r. r ≡ record branch.now { head = head }) }
-{
-    Ok(Reference {
-        name: branch.name.clone()?,
-        kind: branch.kind,
-        head,
+    let written = commit_record(alloc, &commit)?;
+    Ok(NewCommit {
+        commit,
+        map,
+        written,
     })
 }
 
@@ -91,17 +82,6 @@ fn logged_request(
 }
 
 impl Store {
-    #[tactic(auto, using(crate::proofs::Kept::generation_is))]
-    fn generation(&self, hash: &Hash) -> u64
-        ensures value { result ≡ generation self.now.state.commits hash.now }
-        ensures bound { result ≤ length self.now.state.commits }
-    {
-        match self.commits().get(hash) {
-            None => 0,
-            Some(kept) => kept.commit.generation,
-        }
-    }
-
     /// The commit of the operations at a head.
     #[tactic(auto, unfolding(cat_model::specs::Commits::request_commit))]
     fn request_commit(
@@ -114,13 +94,12 @@ impl Store {
     ) -> Result<Commit, NoMemory>
         requires room { length self.now.state.commits < 4294967295 }
         requires distinct { IsTrue (are_distinct ops.now) }
-        ensures commit { IfOk result (λ c. c ≡ request_commit self.now.state head.now moment request.now ops.now) }
-        ensures bound { IfOk result (λ c. c.generation ≤ length self.now.state.commits + 1) }
+        ensures { IfOk result (λ c. c ≡ request_commit self.now.state head.now moment request.now ops.now) }
     {
         Ok(Commit {
             parent: *head,
             merge_parent: None,
-            generation: self.generation(head) + 1,
+            generation: self.catalogue().generation(head) + 1,
             time: moment,
             meta: copy_meta(&request.meta)?,
             ops: changes_of(alloc, ops)?,
@@ -136,19 +115,19 @@ impl Store {
         head: &Hash,
         ops: &[Op],
         map: KeyMap,
-    ) -> Result<(Kept, Record), NoMemory>
+    ) -> Result<NewCommit, NoMemory>
         requires room { length self.now.state.commits < 4294967295 }
         requires distinct { IsTrue (are_distinct ops.now) }
+        requires known { IsTrue (is_known sha256 self.now.state head.now) }
         requires map { map ≡ after_changes (Judge.changes_of ops.now) (entries self.now.state.commits head.now) }
         requires well_formed { IsTrue (is_well_formed map) }
-        ensures commit { IfOk result (λ x. x.0.commit ≡ request_commit self.now.state head.now moment request.now ops.now) }
-        ensures next { IfOk result (λ x. IsNext self.now.state.commits x.0) }
-        ensures hash { IfOk result (λ x. x.1.hash ≡ commit_hash sha256 x.0.commit) }
-        ensures bytes { IfOk result (λ x. x.1.bytes.items ≡ (commit_code).spell x.0.commit) }
+        ensures commit { IfOk result (λ kept. kept.commit ≡ request_commit self.now.state head.now moment request.now ops.now) }
+        ensures next { IfOk result (λ kept. MayBeAdded self.now.state.commits kept.commit kept.map) }
+        ensures written { IfOk result (λ kept. IsRecordOf kept.commit kept.written) }
     {
         let commit = self.request_commit(alloc, moment, request, head, ops)?;
-        let (kept, record) = keep(alloc, commit, map)?;
-        Ok((kept, record))
+        let kept = keep(alloc, commit, map)?;
+        Ok(kept)
     }
 
     /// What the request adds on the branch, each value made, given the map after its operations.
@@ -163,26 +142,19 @@ impl Store {
     ) -> Result<Prepared, NoMemory>
         requires room { length self.now.state.commits < 4294967295 }
         requires distinct { IsTrue (are_distinct given.ops) }
+        requires known { IsTrue (is_known sha256 self.now.state branch.now.head) }
         requires map { map ≡ after_changes (Judge.changes_of given.ops) (entries self.now.state.commits branch.now.head) }
         requires well_formed { IsTrue (is_well_formed map) }
         ensures { IfOk result (λ made. IsPrepared self.now.state turn request.now branch.now given made) }
     {
         let ops = given.ops.as_slice();
-        let (kept, commit_record) = self.kept_commit(
-            alloc,
-            turn.moment,
-            request,
-            &branch.head,
-            ops,
-            map,
-        )?;
-        let moved = moved_to(branch, commit_record.hash)?;
+        let kept = self.kept_commit(alloc, turn.moment, request, &branch.head, ops, map)?;
+        let moved = at_head(branch, kept.written.hash)?;
         let added = added_ids(alloc, ops)?;
         let (request, hashes) = logged_request(request, given)?;
         Ok(Prepared {
             hashes,
             kept,
-            commit_record,
             moved,
             added,
             request,

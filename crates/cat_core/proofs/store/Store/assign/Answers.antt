@@ -1,0 +1,21 @@
+use Rattle.std.proofs.Common.{Some, refl}
+use Rattle.std.proofs.lemmas.Result.{err_from_is_err_and}
+use Rattle.cat_model.specs.declared.command.Command.TheVariants as commands
+use Rattle.cat_model.specs.Moves.{with_references}
+use Rattle.cat_model.specs.State.{moved_reference}
+use Rattle.cat_core.proofs.PlainMoves.{plain_assign}
+use Rattle.cat_core.proofs.Undrafted.{undrafted_done, undrafted_fails}
+use Rattle.cat_core.proofs.store.Store.assign.Goals as goal
+
+pub returns-in_err-moved : goal.returns-in_err-moved
+returns-in_err-moved c =
+    let p = err_from_is_err_and c.from_residual.result c.from_residual.ensures.1 in
+    rw (p.1, p.2) (undrafted_fails c.args.caller c.args.self.now (commands.Assign c.args.assign.now) c.args.moment c.in_err-moved.field-0.0
+    (record { opens = refl; passes = refl }) (plain_assign c.args.self.now.state c.args.assign.now) c.in_err-moved.ensures.step)
+
+pub returns : goal.returns
+returns c =
+    let state = c.args.self.now.state in
+    let moved = c.in_ok-moved.moved in
+    undrafted_done c.args.caller c.args.self.now c.move_to.new.self (commands.Assign c.args.assign.now) c.in_ok-command.command c.args.moment c.undrafted.result (with_references state (moved_reference state.references moved)) moved (Some moved.head) c.in_ok-told.told
+    (record { opens = refl; passes = refl }) c.in_ok-moved.ensures.step refl c.undrafted.ensures c.in_ok-command.ensures refl c.in_ok-told.ensures.ok c.in_ok-told.ensures.told

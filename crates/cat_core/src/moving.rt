@@ -1,0 +1,178 @@
+//! Calls that make, move and remove references. They open no draft.
+
+ghost use Rattle.std.specs.Prelude.{◌≡◌, ◌<◌, Some, None, IfOk, IsTrue, OnErr, OnOk};
+ghost use Rattle.sha2.specs.Sha256.{sha256};
+ghost use Rattle.cat_model.specs.Book.{call_on};
+ghost use Rattle.cat_model.specs.Moves.{with_references};
+ghost use Rattle.cat_model.specs.State.{is_known, moved_reference, reference_of, with_reference, without_reference};
+ghost use Rattle.cat_model.specs.declared.command.Command.TheVariants as commands;
+ghost use Rattle.cat_core.specs.Making.{Makes, entry_at, reference_told, with_entry};
+
+use crate::logging::{Turn, entry, push_entry, reserve_entry};
+use crate::referring::copy_reference;
+use crate::store::Store;
+use cat_codes::fault::NoMemory;
+use cat_model::command::{Assign, Command, Create, Delete};
+use cat_model::moment::Moment;
+use cat_model::reference::Reference;
+use cat_model::reply::{Reply, Told};
+use cat_names::ref_name::RefName;
+use cat_state::failure::Failure;
+use std::alloc::{AllocError, Global};
+
+/// The turn of a call that opens no draft.
+fn undrafted(caller: u32, moment: Moment) -> Turn
+    ensures { result ≡ record { caller = caller; draft = 0; moment = moment } }
+{
+    Turn {
+        caller,
+        draft: 0,
+        moment,
+    }
+}
+
+/// The call as it is logged.
+fn logged_create(create: &Create) -> Result<Command, AllocError>
+    ensures { IfOk result (λ c. c ≡ commands.Create (record create.now { source_kind = None })) }
+{
+    let mut create = create.clone()?;
+    create.source_kind = None;
+    Ok(Command::Create(create))
+}
+
+/// The call as it is logged.
+fn logged_assign(assign: &Assign) -> Result<Command, AllocError>
+    ensures { IfOk result (λ c. c ≡ commands.Assign (record assign.now { source_kind = None })) }
+{
+    let mut assign = assign.clone()?;
+    assign.source_kind = None;
+    Ok(Command::Assign(assign))
+}
+
+/// The call as it is logged.
+fn logged_delete(delete: &Delete) -> Result<Command, AllocError>
+    ensures { IfOk result (λ c. c ≡ commands.Delete delete.now) }
+{
+    Ok(Command::Delete(delete.clone()?))
+}
+
+impl Store {
+    /// Adds a reference, and the entry of the call, which answers a copy of it; or nothing.
+    fn insert(
+        &mut self,
+        turn: Turn,
+        command: Command,
+        reference: Reference,
+        answer: Reference,
+    ) -> Result<Told, NoMemory>
+        requires place { self.old.state.place < 4294967295 }
+        requires absent { reference_of self.old.state.references reference.name ≡ None }
+        requires known { IsTrue (is_known sha256 self.old.state reference.head) }
+        ensures ok { OnOk result (self.new ≡ with_entry self.old (with_references self.old.state (with_reference self.old.state.references reference)) (entry_at self.old turn command (Some answer.head))) }
+        ensures told { IfOk result (λ told. told ≡ reference_told self.old answer) }
+        ensures err { OnErr result (self.new ≡ self.old) }
+    {
+        let place = self.catalogue.place() + 1;
+        reserve_entry(&mut self.log)?;
+        self.catalogue.insert(reference)?;
+        push_entry(
+            &mut self.log,
+            entry(place, turn, command, Some(answer.head)),
+        );
+        Ok(Told {
+            place,
+            reply: Reply::Reference(answer),
+        })
+    }
+
+    /// Sets the reference of its name to this one, and adds the entry of the call; or does nothing.
+    fn move_to(&mut self, turn: Turn, command: Command, moved: Reference) -> Result<Told, NoMemory>
+        requires place { self.old.state.place < 4294967295 }
+        requires known { IsTrue (is_known sha256 self.old.state moved.head) }
+        ensures ok { OnOk result (self.new ≡ with_entry self.old (with_references self.old.state (moved_reference self.old.state.references moved)) (entry_at self.old turn command (Some moved.head))) }
+        ensures told { IfOk result (λ told. told ≡ reference_told self.old moved) }
+        ensures err { OnErr result (self.new ≡ self.old) }
+    {
+        let place = self.catalogue.place() + 1;
+        reserve_entry(&mut self.log)?;
+        self.catalogue.move_to(&moved);
+        push_entry(&mut self.log, entry(place, turn, command, Some(moved.head)));
+        Ok(Told {
+            place,
+            reply: Reply::Reference(moved),
+        })
+    }
+
+    /// Removes the reference of a name, and adds the entry of the call, which answers what was
+    /// removed; or does nothing.
+    fn remove(
+        &mut self,
+        turn: Turn,
+        command: Command,
+        name: &RefName,
+        removed: Reference,
+    ) -> Result<Told, NoMemory>
+        requires { self.old.state.place < 4294967295 }
+        ensures ok { OnOk result (self.new ≡ with_entry self.old (with_references self.old.state (without_reference self.old.state.references name.now)) (entry_at self.old turn command None)) }
+        ensures told { IfOk result (λ told. told ≡ reference_told self.old removed) }
+        ensures err { OnErr result (self.new ≡ self.old) }
+    {
+        let place = self.catalogue.place() + 1;
+        reserve_entry(&mut self.log)?;
+        self.catalogue.remove(name);
+        push_entry(&mut self.log, entry(place, turn, command, None));
+        Ok(Told {
+            place,
+            reply: Reply::Reference(removed),
+        })
+    }
+
+    /// Makes a reference at a source.
+    pub(crate) fn create(
+        &mut self,
+        alloc: Global,
+        caller: u32,
+        moment: Moment,
+        create: &Create,
+    ) -> Result<Told, Failure>
+        ensures { Makes (call_on sha256 caller self.old (commands.Create create.now) moment) self.old self.new result }
+    {
+        let made = self.created(alloc, create)?;
+        let answer = copy_reference(&made)?;
+        let command = logged_create(create)?;
+        let told = self.insert(undrafted(caller, moment), command, made, answer)?;
+        Ok(told)
+    }
+
+    /// Moves a reference to a source.
+    pub(crate) fn assign(
+        &mut self,
+        alloc: Global,
+        caller: u32,
+        moment: Moment,
+        assign: &Assign,
+    ) -> Result<Told, Failure>
+        ensures { Makes (call_on sha256 caller self.old (commands.Assign assign.now) moment) self.old self.new result }
+    {
+        let moved = self.assigned(alloc, assign)?;
+        let command = logged_assign(assign)?;
+        let told = self.move_to(undrafted(caller, moment), command, moved)?;
+        Ok(told)
+    }
+
+    /// Removes a reference.
+    pub(crate) fn delete(
+        &mut self,
+        alloc: Global,
+        caller: u32,
+        moment: Moment,
+        delete: &Delete,
+    ) -> Result<Told, Failure>
+        ensures { Makes (call_on sha256 caller self.old (commands.Delete delete.now) moment) self.old self.new result }
+    {
+        let removed = self.deleted(alloc, delete)?;
+        let command = logged_delete(delete)?;
+        let told = self.remove(undrafted(caller, moment), command, &delete.name, removed)?;
+        Ok(told)
+    }
+}
