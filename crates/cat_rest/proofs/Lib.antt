@@ -1,3 +1,5 @@
+mod Keys
 mod Options
+mod Points
 mod Ready
 pub mod Served

@@ -9,11 +9,15 @@ use Rattle.cat_names.specs.declared.key_fault.KeyFault.{KeyFault}
 use Rattle.cat_names.specs.declared.key_fault.KeyFault.TheVariants as keys
 use Rattle.cat_names.specs.declared.name_fault.NameFault.{NameFault}
 use Rattle.cat_names.specs.declared.name_fault.NameFault.TheVariants as names
+use Rattle.cat_pages.specs.declared.token.TokenFault.{TokenFault}
+use Rattle.cat_pages.specs.declared.token.TokenFault.TheVariants as tokens
 use Rattle.cat_model.specs.declared.refusal.Reason.{Reason}
-use Rattle.cat_model.specs.declared.refusal.Reason.TheVariants.{BadPath, BadBody}
+use Rattle.cat_model.specs.declared.refusal.Reason.TheVariants.{BadPath, BadQuery, BadBody}
 use Rattle.cat_model.specs.declared.refusal.Refusal.{Refusal}
 use Rattle.cat_model.specs.declared.refusal.Refusal.TheVariants.{BadRequest, NoMemory}
 use Rattle.cat_model.specs.declared.refusal.Refused.{Refused}
+use Rattle.cat_rest.specs.declared.parameter.QueryFault.{QueryFault}
+use Rattle.cat_rest.specs.declared.parameter.QueryFault.TheVariants as queries
 use Rattle.cat_rest.specs.declared.path.PathFault.{PathFault}
 use Rattle.cat_rest.specs.declared.path.PathFault.TheVariants as paths
 
@@ -49,11 +53,21 @@ GivesText (Ok text) reading = reading ≡ Some (cow_str_bytes text)
 GivesText (Err paths.Bad) reading = reading ≡ None
 GivesText (Err paths.NoMemory) reading = Unit {0}
 
+-- the same of a parameter of a query
+abbrev pub GivesQuery : {A : Type 0} → Result A QueryFault → Option A → Type 0
+GivesQuery (Ok x) reading = reading ≡ Some x
+GivesQuery (Err queries.Bad) reading = reading ≡ None
+GivesQuery (Err queries.NoMemory) reading = Unit {0}
+
 -- ---- a fault as the fault above it: only want of memory stays that
 
 abbrev pub BecomesRefused : PathFault → Refused → Type 0
 BecomesRefused paths.Bad r = r ≡ record { place = None; why = BadRequest BadPath }
 BecomesRefused paths.NoMemory r = r ≡ record { place = None; why = NoMemory }
+
+abbrev pub BecomesBadQuery : QueryFault → Refused → Type 0
+BecomesBadQuery queries.Bad r = r ≡ record { place = None; why = BadRequest BadQuery }
+BecomesBadQuery queries.NoMemory r = r ≡ record { place = None; why = NoMemory }
 
 abbrev pub BecomesBadBody : JsonFault → Refused → Type 0
 BecomesBadBody json.Bad r = r ≡ record { place = None; why = BadRequest BadBody }
@@ -69,3 +83,18 @@ KeyBecomes keys.Empty f = f ≡ paths.Bad
 KeyBecomes keys.TooMany f = f ≡ paths.Bad
 KeyBecomes keys.Control f = f ≡ paths.Bad
 KeyBecomes keys.TooLong f = f ≡ paths.Bad
+
+abbrev pub NameBecomesBad : NameFault → QueryFault → Type 0
+NameBecomesBad names.NoMemory f = f ≡ queries.NoMemory
+NameBecomesBad names.Bad f = f ≡ queries.Bad
+
+abbrev pub KeyBecomesBad : KeyFault → QueryFault → Type 0
+KeyBecomesBad keys.NoMemory f = f ≡ queries.NoMemory
+KeyBecomesBad keys.Empty f = f ≡ queries.Bad
+KeyBecomesBad keys.TooMany f = f ≡ queries.Bad
+KeyBecomesBad keys.Control f = f ≡ queries.Bad
+KeyBecomesBad keys.TooLong f = f ≡ queries.Bad
+
+abbrev pub TokenBecomesBad : TokenFault → QueryFault → Type 0
+TokenBecomesBad tokens.NoMemory f = f ≡ queries.NoMemory
+TokenBecomesBad tokens.Bad f = f ≡ queries.Bad

@@ -1,6 +1,10 @@
 pub mod Bodies
+pub mod Changes
 pub mod Faults
 pub mod Operations
 pub mod Paths
+pub mod Queries
+pub mod Reads
 pub mod Served
+pub mod Sources
 pub mod Wanted

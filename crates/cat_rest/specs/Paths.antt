@@ -1,5 +1,5 @@
 -- References and keys in paths.
-use Rattle.std.specs.Prelude.{ℕ, ◌==◌, List, Option, Some, None, is_some, Bool, bytes_eq, if◌then◌else◌, codes}
+use Rattle.std.specs.Prelude.{ℕ, ◌==◌, nat_eq, List, length, Option, Some, None, is_some, Bool, bytes_eq, if◌then◌else◌, codes}
 use Rattle.std.specs.List.{before_first, after_first, position}
 use Rattle.std.specs.Str.{is_utf8}
 use Rattle.percent_encoding.specs.Percent.{percent_decode}
@@ -8,6 +8,7 @@ use Rattle.cat_json.specs.Reading.{◌>>=◌}
 use Rattle.cat_names.specs.Fields.{Key, key_of, pieces}
 use Rattle.cat_names.specs.Hashes.{hash_of}
 use Rattle.cat_names.specs.RefNames.{is_reference_name}
+use Rattle.cat_model.specs.declared.reference.Pointer.{Pointer}
 use Rattle.cat_rest.specs.declared.path.PathReference.{PathReference}
 
 -- a parameter without its escapes, where that is a text
@@ -33,7 +34,24 @@ reference_in text =
     Some (record { name = name; hash = Some hash }))
     else (name_in text >>= λ name. Some (record { name = name; hash = None }))
 
--- the reference that a parameter stands for
+-- what stands before an `@`: a name, or nothing for a hash alone
+abbrev pub name_before : List ℕ → Option (Option (List ℕ))
+name_before text = if nat_eq (length text) 0 then Some None else (name_in text >>= λ name. Some (Some name))
+
+-- a name, a name, `@` and a hash, or `@` and a hash
+unfoldable pub pointer_in : List ℕ → Option Pointer
+pointer_in text =
+    if is_some (position is_at text) then
+    (name_before (before_first is_at text) >>= λ name.
+    hash_of (after_first is_at text) >>= λ hash.
+    Some (record { name = name; hash = Some hash }))
+    else (name_in text >>= λ name. Some (record { name = Some name; hash = None }))
+
+-- what a parameter of a read points at
+abbrev pub pointer_at : Option (List ℕ) → Option Pointer
+pointer_at part = part >>= decoded >>= pointer_in
+
+-- the reference that a parameter of a change stands for
 abbrev pub reference_at : Option (List ℕ) → Option PathReference
 reference_at part = part >>= decoded >>= reference_in
 

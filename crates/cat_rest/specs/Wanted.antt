@@ -1,34 +1,30 @@
 -- What a request wants, by its bytes.
-use Rattle.std.specs.Prelude.{ℕ, ◌==◌, ◌||◌, List, take, Option, Some, None, Bool, bytes_eq, if◌then◌else◌, codes, Result, Ok, Err}
+use Rattle.std.specs.Prelude.{ℕ, ◌==◌, ◌||◌, ◌+◌, List, [], take, drop, Option, Some, None, Bool, bytes_eq, if◌then◌else◌, codes, Result, Ok, Err}
 use Rattle.std.specs.List.{position}
 use Rattle.cat_http.specs.Fields.{is_encoded}
 use Rattle.cat_http.specs.Message.{Message}
-use Rattle.cat_json.specs.Reading.{body_as}
 use Rattle.cat_model.specs.declared.ask.Ask.TheVariants as asks
-use Rattle.cat_model.specs.declared.command.Command.TheVariants as commands
-use Rattle.cat_model.specs.declared.command.CommitRequest.{CommitRequest}
-use Rattle.cat_model.specs.declared.reference.Pointer.{Pointer}
 use Rattle.cat_model.specs.declared.refusal.Allowed.{Allowed}
 use Rattle.cat_model.specs.declared.refusal.Allowed.TheVariants.{Get, Post, GetPost, GetPutDelete}
-use Rattle.cat_model.specs.declared.refusal.Reason.TheVariants.{BadPath, BadBody}
 use Rattle.cat_model.specs.declared.refusal.Refusal.{Refusal}
 use Rattle.cat_model.specs.declared.refusal.Refusal.TheVariants.{NoRoute, WrongMethod, Encoding}
 use Rattle.cat_model.specs.declared.wanted.Wanted.{Wanted}
-use Rattle.cat_model.specs.declared.wanted.Wanted.TheVariants.{Read, Change}
+use Rattle.cat_model.specs.declared.wanted.Wanted.TheVariants.{Read}
 use Rattle.cat_routes.specs.Parts.{escaped}
 use Rattle.cat_routes.specs.Table.{Match, found_in}
 use Rattle.cat_routes.specs.declared.routes.Route.{Route}
 use Rattle.cat_routes.specs.declared.routes.Route.TheVariants as routes
-use Rattle.cat_rest.specs.Bodies.{commit_as}
-use Rattle.cat_rest.specs.Faults.{◌>>!◌, or_bad}
-use Rattle.cat_rest.specs.Paths.{reference_at, key_at}
-use Rattle.cat_rest.specs.declared.commit.CommitBody.{CommitBody}
-use Rattle.cat_rest.specs.declared.path.PathReference.{PathReference}
+use Rattle.cat_rest.specs.Changes.{create_at, assign_at, delete_at, commit_at}
+use Rattle.cat_rest.specs.Reads.{references_at, reference_at, entries_at, history_at, contents_at, requested_at, content_at}
 
 -- the methods of a route
 abbrev pub methods_of : Route → Allowed
 methods_of routes.Config = Get
-methods_of routes.Tree = Get
+methods_of routes.Trees = GetPost
+methods_of routes.Tree = GetPutDelete
+methods_of routes.Entries = Get
+methods_of routes.History = Get
+methods_of routes.Contents = GetPost
 methods_of routes.Content = Get
 methods_of routes.Commit = Post
 
@@ -46,36 +42,54 @@ abbrev pub front : Option ℕ → List ℕ → List ℕ
 front None target = target
 front (Some end) target = take end target
 
--- the path is what stands before the first `?`; what follows is the query, which no route reads
+abbrev pub back : Option ℕ → List ℕ → List ℕ
+back None target = []
+back (Some end) target = drop (end + 1) target
+
+-- the path is what stands before the first `?`
 abbrev pub path_of : List ℕ → List ℕ
 path_of target = front (query_start target) target
 
-abbrev pub pointer : PathReference → Pointer
-pointer at = record { name = Some at.name; hash = at.hash }
+-- the query is what follows it
+abbrev pub query_of : List ℕ → List ℕ
+query_of target = back (query_start target) target
 
-abbrev pub commit : PathReference → CommitBody → CommitRequest
-commit at body = record { branch = at.name; expected = at.hash; meta = body.meta; ops = body.ops; contents = body.contents }
+-- ---- routes with several methods
 
--- the path is read first, then the body
-abbrev pub read_at : Match → List ℕ → Result Wanted Refusal
-read_at (routes.Config, parts) body = Ok (Read asks.Config)
-read_at (routes.Tree, parts) body =
-    or_bad BadPath (reference_at parts.0) >>! λ at.
-    Ok (Read (asks.Reference (pointer at)))
-read_at (routes.Content, parts) body =
-    or_bad BadPath (reference_at parts.0) >>! λ at.
-    or_bad BadPath (key_at parts.1) >>! λ key.
-    Ok (Read (asks.Content (record { at = pointer at; key = key })))
-read_at (routes.Commit, parts) body =
-    or_bad BadPath (reference_at parts.0) >>! λ at.
-    or_bad BadBody (body_as commit_as body) >>! λ asked.
-    Ok (Change (commands.Commit (commit at asked)))
+abbrev pub trees_by : Message → Result Wanted Refusal
+trees_by r =
+    if bytes_eq r.method (codes "GET") then references_at (query_of r.target)
+    else create_at (query_of r.target) r.body
+
+abbrev pub tree_by : Option (List ℕ) → Message → Result Wanted Refusal
+tree_by part r =
+    if bytes_eq r.method (codes "GET") then reference_at part
+    else if bytes_eq r.method (codes "PUT") then assign_at part (query_of r.target) r.body
+    else delete_at part (query_of r.target)
+
+abbrev pub contents_by : Option (List ℕ) → Message → Result Wanted Refusal
+contents_by part r =
+    if bytes_eq r.method (codes "GET") then contents_at part (query_of r.target)
+    else requested_at part r.body
+
+-- ---- requests
+
+-- what a request wants of a route that has its method
+abbrev pub read_at : Match → Message → Result Wanted Refusal
+read_at (routes.Config, parts) r = Ok (Read asks.Config)
+read_at (routes.Trees, parts) r = trees_by r
+read_at (routes.Tree, parts) r = tree_by parts.0 r
+read_at (routes.Entries, parts) r = entries_at parts.0 (query_of r.target)
+read_at (routes.History, parts) r = history_at parts.0 (query_of r.target)
+read_at (routes.Contents, parts) r = contents_by parts.0 r
+read_at (routes.Content, parts) r = content_at parts.0 parts.1
+read_at (routes.Commit, parts) r = commit_at parts.0 r.body
 
 -- the method comes first, then the encoding
 abbrev pub with_route : Match → Message → Result Wanted Refusal
 with_route found r =
     if allows (methods_of found.0) r.method
-    then (if is_encoded r.fields then Err Encoding else read_at found r.body)
+    then (if is_encoded r.fields then Err Encoding else read_at found r)
     else Err (WrongMethod (methods_of found.0))
 
 abbrev pub by_route : Option Match → Message → Result Wanted Refusal

@@ -1,21 +1,19 @@
 //! What a request wants.
 
-ghost use Rattle.std.specs.Prelude.{◌≡◌, None, IfOk, [], option_map};
+ghost use Rattle.std.specs.Prelude.{◌≡◌, IfOk, option_map};
 ghost use Rattle.cat_routes.specs.Table.{shown};
-ghost use Rattle.cat_routes.specs.declared.routes.Route.TheVariants as routes;
-ghost use Rattle.cat_rest.specs.Faults.{Answers, BecomesBadBody};
+ghost use Rattle.cat_rest.specs.Faults.{Answers};
 ghost use Rattle.cat_rest.specs.Served.{IsServed};
-ghost use Rattle.cat_rest.specs.Wanted.{methods_of, allows, query_start, path_of, read_at, with_route, wanted};
+ghost use Rattle.cat_rest.specs.Wanted.{methods_of, allows, query_start, path_of, query_of, trees_by, tree_by, contents_by, read_at, with_route, wanted};
 
-use crate::commit::{CommitBody, CommitForm};
-use crate::path::{key_at, reference_at};
+use crate::changes::{assign_at, commit_at, create_at, delete_at};
+use crate::reads::{
+    content_at, contents_at, entries_at, history_at, reference_at, references_at, requested_at,
+};
+use crate::refused::refused;
 use cat_http::Request;
-use cat_json::fault::JsonFault;
-use cat_json::read::from_bytes;
-use cat_model::ask::{Ask, ContentAsk};
-use cat_model::command::{Command, CommitRequest};
-use cat_model::reference::Pointer;
-use cat_model::refusal::{Allowed, Reason, Refusal, Refused};
+use cat_model::ask::Ask;
+use cat_model::refusal::{Allowed, Refusal, Refused};
 use cat_model::wanted::Wanted;
 use cat_routes::{Found, Path, Route, Routes};
 use std::alloc::Global;
@@ -25,7 +23,11 @@ fn methods_of(route: Route) -> Allowed
 {
     match route {
         Route::Config => Allowed::Get,
-        Route::Tree => Allowed::Get,
+        Route::Trees => Allowed::GetPost,
+        Route::Tree => Allowed::GetPutDelete,
+        Route::Entries => Allowed::Get,
+        Route::History => Allowed::Get,
+        Route::Contents => Allowed::GetPost,
         Route::Content => Allowed::Get,
         Route::Commit => Allowed::Post,
     }
@@ -60,73 +62,62 @@ fn path_of(target: &[u8]) -> &[u8]
     }
 }
 
-fn refused(why: Refusal) -> Refused
-    ensures { result ≡ record { place = None; why = why } }
+// The query of a target: what follows its first `?`.
+fn query_of(target: &[u8]) -> &[u8]
+    ensures { result.now ≡ query_of target.now }
 {
-    Refused { place: None, why }
-}
-
-fn bad_body(fault: JsonFault) -> Refused
-    ensures { BecomesBadBody fault result }
-{
-    match fault {
-        JsonFault::Bad => refused(Refusal::BadRequest(Reason::BadBody)),
-        JsonFault::NoMemory => refused(Refusal::NoMemory),
+    match query_start(target) {
+        Some(end) => &target[end + 1..],
+        None => &[],
     }
 }
 
-fn tree_at(alloc: Global, reference: Option<&str>) -> Result<Wanted, Refused>
-    ensures { Answers result (read_at (routes.Tree, (option_map (λ s. s.now) reference.entry, None)) []) }
+fn trees_by(alloc: Global, request: &Request<'_>) -> Result<Wanted, Refused>
+    ensures { Answers result (trees_by request.now) }
 {
-    let at = reference_at(alloc, reference)?;
-    Ok(Wanted::Read(Ask::Reference(Pointer {
-        name: Some(at.name),
-        hash: at.hash,
-    })))
-}
-
-fn content_at(alloc: Global, reference: Option<&str>, key: Option<&str>) -> Result<Wanted, Refused>
-    ensures { Answers result (read_at (routes.Content, (option_map (λ s. s.now) reference.entry, option_map (λ s. s.now) key.entry)) []) }
-{
-    let at = reference_at(alloc, reference)?;
-    let key = key_at(alloc, key)?;
-    let at = Pointer {
-        name: Some(at.name),
-        hash: at.hash,
-    };
-    Ok(Wanted::Read(Ask::Content(ContentAsk { at, key })))
-}
-
-fn commit_at(alloc: Global, reference: Option<&str>, body: &[u8]) -> Result<Wanted, Refused>
-    ensures { Answers result (read_at (routes.Commit, (option_map (λ s. s.now) reference.entry, None)) body.now) }
-{
-    let at = reference_at(alloc, reference)?;
-    match from_bytes::<CommitForm>(alloc, body) {
-        Ok(
-            CommitBody {
-                meta,
-                ops,
-                contents,
-            },
-        ) => Ok(Wanted::Change(Command::Commit(CommitRequest {
-            branch: at.name,
-            expected: at.hash,
-            meta,
-            ops,
-            contents,
-        }))),
-        Err(fault) => Err(bad_body(fault)),
+    let query = query_of(request.target());
+    if request.method() == b"GET".as_slice() {
+        return references_at(alloc, query);
     }
+    create_at(alloc, query, request.body())
 }
 
-fn read_at(alloc: Global, found: Found<'_>, body: &[u8]) -> Result<Wanted, Refused>
-    ensures { Answers result (read_at (shown found.entry) body.now) }
+fn tree_by(alloc: Global, part: Option<&str>, request: &Request<'_>) -> Result<Wanted, Refused>
+    ensures { Answers result (tree_by (option_map (λ s. s.now) part.entry) request.now) }
 {
+    let method = request.method();
+    let query = query_of(request.target());
+    if method == b"GET".as_slice() {
+        return reference_at(alloc, part);
+    }
+    if method == b"PUT".as_slice() {
+        return assign_at(alloc, part, query, request.body());
+    }
+    delete_at(alloc, part, query)
+}
+
+fn contents_by(alloc: Global, part: Option<&str>, request: &Request<'_>) -> Result<Wanted, Refused>
+    ensures { Answers result (contents_by (option_map (λ s. s.now) part.entry) request.now) }
+{
+    if request.method() == b"GET".as_slice() {
+        return contents_at(alloc, part, query_of(request.target()));
+    }
+    requested_at(alloc, part, request.body())
+}
+
+fn read_at(alloc: Global, found: Found<'_>, request: &Request<'_>) -> Result<Wanted, Refused>
+    ensures { Answers result (read_at (shown found.entry) request.now) }
+{
+    let part = found.reference;
     match found.route {
         Route::Config => Ok(Wanted::Read(Ask::Config)),
-        Route::Tree => tree_at(alloc, found.reference),
-        Route::Content => content_at(alloc, found.reference, found.key),
-        Route::Commit => commit_at(alloc, found.reference, body),
+        Route::Trees => trees_by(alloc, request),
+        Route::Tree => tree_by(alloc, part, request),
+        Route::Entries => entries_at(alloc, part, query_of(request.target())),
+        Route::History => history_at(alloc, part, query_of(request.target())),
+        Route::Contents => contents_by(alloc, part, request),
+        Route::Content => content_at(alloc, part, found.key),
+        Route::Commit => commit_at(alloc, part, request.body()),
     }
 }
 
@@ -140,7 +131,7 @@ fn with_route(alloc: Global, found: Found<'_>, request: &Request<'_>) -> Result<
     if request.is_encoded() {
         return Err(refused(Refusal::Encoding));
     }
-    read_at(alloc, found, request.body())
+    read_at(alloc, found, request)
 }
 
 #[tactic(auto, unfolding(crate::specs::Wanted::wanted))]
@@ -157,8 +148,8 @@ fn wanted(alloc: Global, routes: &Routes, request: &Request<'_>) -> Result<Wante
 }
 
 /// What a request wants, or the first that stands in its way: that no route has its path, that its
-/// route hasn't its method, that its body is encoded, that its path has no reading, that its body
-/// has none. No state is looked at, so a refusal has no place.
+/// route hasn't its method, that its body is encoded, that its path has no reading, that its query
+/// has none, that its body has none. No state is looked at, so a refusal has no place.
 #[tactic(auto, using(crate::proofs::Served::answered))]
 pub fn to_command(alloc: Global, routes: &Routes, request: &Request<'_>) -> Result<Wanted, Refused>
     ensures wanted { Answers result (wanted request.now) }

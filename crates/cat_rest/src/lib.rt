@@ -1,12 +1,19 @@
-//! Requests as what they want of the catalogue, and its answers as JSON. What a request wants, or the
-//! refusal of one that has no reading, is one function of its method, target, fields and body; each
-//! reply and each refusal has one text.
+//! Requests as what they want of the catalogue. What a request wants, or the refusal of one that
+//! has no reading, is one function of its method, target, fields and body.
 #![tactic(auto)]
 
+mod changes;
 mod command;
 mod commit;
 mod operation;
+mod parameter;
 mod path;
+mod query;
+mod reads;
+mod refused;
+#[cfg(test)]
+mod route_tests;
+mod source;
 #[cfg(test)]
 mod tests;
 

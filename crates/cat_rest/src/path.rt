@@ -2,8 +2,9 @@
 
 ghost use Rattle.std.specs.Prelude.{option_map};
 ghost use Rattle.cat_rest.specs.Faults.{GivesPath, GivesText, BecomesRefused, NameBecomes, KeyBecomes};
-ghost use Rattle.cat_rest.specs.Paths.{decoded, name_in, reference_in, reference_at, key_at};
+ghost use Rattle.cat_rest.specs.Paths.{decoded, name_in, reference_in, reference_at, name_before, pointer_in, pointer_at, key_at};
 
+use cat_model::reference::Pointer;
 use cat_model::refusal::{Reason, Refusal, Refused};
 use cat_names::hash::Hash;
 use cat_names::key::ContentKey;
@@ -104,7 +105,53 @@ fn reference_in(alloc: Global, text: &str) -> Result<PathReference, PathFault>
     }
 }
 
-/// The reference that a parameter stands for.
+// The name before an `@`, which may be missing there.
+fn name_before(alloc: Global, text: &str) -> Result<Option<RefName>, PathFault>
+    ensures { GivesPath result (name_before text.now) }
+{
+    if text.is_empty() {
+        return Ok(None);
+    }
+    Ok(Some(name_in(alloc, text)?))
+}
+
+#[tactic(auto, unfolding(crate::specs::Paths::pointer_in))]
+fn pointer_in(alloc: Global, text: &str) -> Result<Pointer, PathFault>
+    ensures { GivesPath result (pointer_in text.now) }
+{
+    match text.split_once('@') {
+        None => {
+            let name = name_in(alloc, text)?;
+            Ok(Pointer {
+                name: Some(name),
+                hash: None,
+            })
+        }
+        Some((name, hash)) => {
+            let name = name_before(alloc, name)?;
+            match Hash::parse(hash) {
+                Some(hash) => Ok(Pointer {
+                    name,
+                    hash: Some(hash),
+                }),
+                None => Err(PathFault::Bad),
+            }
+        }
+    }
+}
+
+/// What a parameter of a read points at.
+pub(crate) fn pointer_at(alloc: Global, part: Option<&str>) -> Result<Pointer, PathFault>
+    ensures { GivesPath result (pointer_at (option_map (λ s. s.now) part.entry)) }
+{
+    let Some(part) = part else {
+        return Err(PathFault::Bad);
+    };
+    let text = decoded(alloc, part)?;
+    pointer_in(alloc, text.as_str())
+}
+
+/// The reference that a parameter of a change stands for.
 pub(crate) fn reference_at(alloc: Global, part: Option<&str>) -> Result<PathReference, PathFault>
     ensures { GivesPath result (reference_at (option_map (λ s. s.now) part.entry)) }
 {
