@@ -9,6 +9,9 @@ use std::test::Fail;
 const NOT_GET: &str =
     "HTTP/1.1 405 Method Not Allowed\r\nContent-Type: application/json\r\nAllow: GET\r\n\r\n";
 
+const NOT_A_TREES: &str =
+    "HTTP/1.1 405 Method Not Allowed\r\nContent-Type: application/json\r\nAllow: GET, PUT, DELETE\r\n\r\n";
+
 const NOT_POST: &str =
     "HTTP/1.1 405 Method Not Allowed\r\nContent-Type: application/json\r\nAllow: POST\r\n\r\n";
 
@@ -21,9 +24,9 @@ const LAST_UNKNOWN: &str =
 fn a_reply_to_head_has_neither_a_body_nor_its_length(rt: HostRuntime) -> Result<(), Fail> {
     let table = [
         ("HEAD /api/v2/config HTTP/1.1\r\n\r\n", NOT_GET),
-        ("HEAD /api/v2/trees/main HTTP/1.1\r\n\r\n", NOT_GET),
-        ("HEAD /api/v2/trees/none HTTP/1.1\r\n\r\n", NOT_GET),
-        ("HEAD /api/v2/trees/%ff HTTP/1.1\r\n\r\n", NOT_GET),
+        ("HEAD /api/v2/trees/main HTTP/1.1\r\n\r\n", NOT_A_TREES),
+        ("HEAD /api/v2/trees/none HTTP/1.1\r\n\r\n", NOT_A_TREES),
+        ("HEAD /api/v2/trees/%ff HTTP/1.1\r\n\r\n", NOT_A_TREES),
         (
             "HEAD /api/v2/trees/main/contents/t1 HTTP/1.1\r\n\r\n",
             NOT_GET,

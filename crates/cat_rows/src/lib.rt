@@ -9,15 +9,23 @@ mod content_texts;
 #[cfg(test)]
 mod contents;
 #[cfg(test)]
+mod entries;
+#[cfg(test)]
 mod faults;
 #[cfg(test)]
 mod first_path;
 #[cfg(test)]
 mod heads;
 #[cfg(test)]
+mod histories;
+#[cfg(test)]
 mod judging;
 #[cfg(test)]
 mod limits;
+#[cfg(test)]
+mod queries;
+#[cfg(test)]
+mod references;
 #[cfg(test)]
 mod refusals;
 #[cfg(test)]

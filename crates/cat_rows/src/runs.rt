@@ -100,3 +100,19 @@ pub fn answers<R: Threads + Wait + Sync>(
     let ran = script(rt, alloc, &requests, 4096)?;
     Ok(ran.status == Status::Done && wrote(&ran, &replies))
 }
+
+/// Whether a run of requests ends well and writes their replies, each beside its request.
+pub fn plays<R: Threads + Wait + Sync>(
+    rt: &R,
+    alloc: Global,
+    turns: &[(&str, &str)],
+) -> Result<bool, AllocError> {
+    let mut requests = Vec::new(alloc);
+    let mut replies = Vec::new(alloc);
+    for (request, reply) in turns {
+        requests.push(*request)?;
+        replies.push(*reply)?;
+    }
+    let ran = script(rt, alloc, &requests, 4096)?;
+    Ok(ran.status == Status::Done && wrote(&ran, &replies))
+}

@@ -36,7 +36,6 @@ fn the_segments_of_a_route_stand_as_they_are(rt: HostRuntime) -> Result<(), Fail
         "*",
         "/api/v2/tree%73/main",
         "/api/v2/Trees/main",
-        "/api/v2/trees",
         "/api/v2/trees/",
         "/api/v2/trees/main/",
         "/api/v2//trees/main",
