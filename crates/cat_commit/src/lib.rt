@@ -6,8 +6,6 @@
 mod bytes;
 mod instant;
 mod meta;
-#[cfg(test)]
-mod tests;
 
 pub use bytes::{from_bytes, id, to_bytes};
 pub use instant::{InstantForm, read_instant, write_instant};

@@ -4,8 +4,6 @@
 
 mod bytes;
 mod read;
-#[cfg(test)]
-mod tests;
 mod write;
 
 pub use bytes::{from_bytes, hash, to_bytes};

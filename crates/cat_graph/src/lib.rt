@@ -7,5 +7,3 @@
 
 pub mod add_fault;
 pub mod graph;
-#[cfg(test)]
-mod tests;

@@ -16,8 +16,6 @@ mod put;
 mod reply;
 mod request;
 mod size_line;
-#[cfg(test)]
-mod tests;
 
 pub use buffer::{Buffer, Incoming, read_request};
 pub use law::one_stream_has_one_reading;

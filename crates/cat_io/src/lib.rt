@@ -14,8 +14,6 @@ mod memory_clock;
 mod standard;
 mod stream;
 mod system_clock;
-#[cfg(test)]
-mod tests;
 
 pub use absent::{NoDisk, NoDisks, NoListener};
 pub use clock::Clock;

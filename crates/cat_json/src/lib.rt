@@ -6,7 +6,5 @@
 pub mod fault;
 pub mod names;
 pub mod read;
-#[cfg(test)]
-mod tests;
 pub mod values;
 pub mod write;

@@ -13,5 +13,3 @@ pub mod key_map;
 pub mod listing;
 pub mod maps;
 pub mod order;
-#[cfg(test)]
-mod tests;

@@ -19,6 +19,4 @@ pub mod op;
 pub mod reference;
 pub mod refusal;
 pub mod reply;
-#[cfg(test)]
-mod tests;
 pub mod wanted;

@@ -9,8 +9,6 @@ mod history;
 pub mod laws;
 pub mod page;
 mod references;
-#[cfg(test)]
-mod tests;
 pub mod token;
 
 pub use entries::entries_page;

@@ -4,8 +4,6 @@
 
 mod page;
 mod parameters;
-#[cfg(test)]
-mod tests;
 
 pub use page::page_limit;
 pub use parameters::{all, first};

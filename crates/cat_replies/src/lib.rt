@@ -8,8 +8,6 @@ mod page;
 mod reference;
 mod refusal;
 mod reply;
-#[cfg(test)]
-mod tests;
 mod token;
 mod wording;
 

@@ -11,11 +11,7 @@ mod path;
 mod query;
 mod reads;
 mod refused;
-#[cfg(test)]
-mod route_tests;
 mod source;
-#[cfg(test)]
-mod tests;
 
 pub use cat_replies::{refusal_to_json, status_of, to_json};
 pub use cat_routes::Routes;

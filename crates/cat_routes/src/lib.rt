@@ -3,8 +3,6 @@
 
 mod path;
 mod routes;
-#[cfg(test)]
-mod tests;
 
 pub use path::Path;
 pub use routes::{Found, Route, Routes};

@@ -7,5 +7,3 @@
 mod deletions;
 pub mod judging;
 pub mod namespaces;
-#[cfg(test)]
-mod tests;

@@ -19,6 +19,4 @@ mod needing;
 mod pointing;
 pub mod records;
 mod room;
-#[cfg(test)]
-mod tests;
 mod turning;

@@ -7,5 +7,3 @@
 
 pub mod references;
 pub mod table;
-#[cfg(test)]
-mod tests;

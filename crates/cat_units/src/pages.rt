@@ -1,6 +1,6 @@
-use crate::page::Page;
-use crate::token::Token;
-use crate::{entries_page, history_page, references_page};
+use cat_pages::page::Page;
+use cat_pages::token::Token;
+use cat_pages::{entries_page, history_page, references_page};
 use cat_codes::ascending::Ascending;
 use cat_codes::fault::NoMemory;
 use cat_codes::seq::Seq;

@@ -1,6 +1,6 @@
 //! Replies and refusals against texts written by hand.
 
-use crate::{refusal_to_json, to_json};
+use cat_replies::{refusal_to_json, to_json};
 use cat_codes::ascending::Ascending;
 use cat_codes::seq::Seq;
 use cat_codes::text::Text;

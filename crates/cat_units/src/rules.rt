@@ -1,4 +1,4 @@
-use crate::judging::{Judged, judge};
+use cat_rules::judging::{Judged, judge};
 use cat_codes::seq::Seq;
 use cat_codes::text::Text;
 use cat_keymap::distinct::are_distinct;

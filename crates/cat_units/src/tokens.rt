@@ -1,4 +1,4 @@
-use crate::token::{Token, TokenFault};
+use cat_pages::token::{Token, TokenFault};
 use std::test::*;
 
 #[test]

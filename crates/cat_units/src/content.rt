@@ -1,6 +1,6 @@
 //! Contents against bytes from outside.
 
-use crate::{
+use cat_content::{
     ContentForm, ContentKind, Given, KindForm, from_bytes, from_json, hash, to_bytes, to_json,
 };
 use cat_codes::fault::FieldFault;

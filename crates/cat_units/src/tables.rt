@@ -1,5 +1,5 @@
-use crate::references::References;
-use crate::table::Table;
+use cat_tables::references::References;
+use cat_tables::table::Table;
 use cat_codes::fault::NoMemory;
 use cat_codes::text::Text;
 use cat_model::reference::{Kind, Reference};

@@ -1,4 +1,4 @@
-use crate::{all, first, page_limit};
+use cat_queries::{all, first, page_limit};
 use cat_codes::text::Text;
 use std::alloc::Global;
 use std::test::Fail;

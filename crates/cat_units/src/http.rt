@@ -1,4 +1,4 @@
-use crate::{Body, Buffer, Incoming, Response, WriteFault, read_request, write_reply};
+use cat_http::{Body, Buffer, Incoming, Response, WriteFault, read_request, write_reply};
 use cat_io::{MemorySink, MemorySource};
 use http::StatusCode;
 use std::alloc::Global;

@@ -1,8 +1,8 @@
 //! What JSON is read as, and what is written.
 
-use crate::fault::JsonFault;
-use crate::read::{ReadForm, absent, defaulted, from_bytes, member, optional, required};
-use crate::write::{Object, list, to_text};
+use cat_json::fault::JsonFault;
+use cat_json::read::{ReadForm, absent, defaulted, from_bytes, member, optional, required};
+use cat_json::write::{Object, list, to_text};
 use cat_codes::ascending::Ascending;
 use cat_codes::seq::Seq;
 use cat_codes::text::Text;

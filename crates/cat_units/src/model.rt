@@ -1,7 +1,7 @@
 //! The bytes of stored values, each field with a value of its own.
 
-use crate::commit::Commit;
-use crate::content::{Body, Content};
+use cat_model::commit::Commit;
+use cat_model::content::{Body, Content};
 use cat_codes::fault::FieldFault;
 use cat_codes::field::{from_bytes, to_bytes};
 use std::test::*;

@@ -1,7 +1,7 @@
-use crate::distinct::{are_distinct, ids_differ};
-use crate::key_map::{KeyMap, ParentState};
-use crate::maps::Maps;
-use crate::order::changes_of;
+use cat_keymap::distinct::{are_distinct, ids_differ};
+use cat_keymap::key_map::{KeyMap, ParentState};
+use cat_keymap::maps::Maps;
+use cat_keymap::order::changes_of;
 use cat_codes::ascending::Ascending;
 use cat_codes::seq::Seq;
 use cat_codes::text::Text;

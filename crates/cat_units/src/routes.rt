@@ -1,4 +1,4 @@
-use crate::{Path, Route, Routes};
+use cat_routes::{Path, Route, Routes};
 use std::alloc::Global;
 use std::test::Fail;
 

@@ -2,8 +2,8 @@ ghost use Rattle.std.specs.Prelude.{IfOk, IsTrue};
 ghost use Rattle.sha2.specs.Sha256.{sha256};
 ghost use Rattle.cat_model.specs.State.{is_known};
 
-use crate::catalogue::Catalogue;
-use crate::failure::Failure;
+use cat_state::catalogue::Catalogue;
+use cat_state::failure::Failure;
 use cat_model::ask::{Ask, ReferencesAsk};
 use cat_model::limits::Limits;
 use cat_model::reference::{Kind, Reference};

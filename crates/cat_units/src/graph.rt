@@ -1,5 +1,5 @@
-use crate::add_fault::AddFault;
-use crate::graph::Graph;
+use cat_graph::add_fault::AddFault;
+use cat_graph::graph::Graph;
 use cat_codes::ascending::Ascending;
 use cat_codes::fault::NoMemory;
 use cat_codes::seq::Seq;

@@ -1,6 +1,6 @@
 //! Commits and instants against values from outside.
 
-use crate::{CommitMetaForm, MetaForm, from_bytes, id, read_instant, to_bytes, write_instant};
+use cat_commit::{CommitMetaForm, MetaForm, from_bytes, id, read_instant, to_bytes, write_instant};
 use cat_codes::fault::FieldFault;
 use cat_json::fault::JsonFault;
 use cat_json::read::from_bytes as read;

@@ -1,4 +1,4 @@
-use crate::{
+use cat_io::{
     Clock, Failed, Listener, MemoryClock, MemorySink, MemorySource, NoListener, ReaderSource, Sink,
     Source, SystemClock, WriterSink,
 };

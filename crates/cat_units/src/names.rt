@@ -1,10 +1,10 @@
 //! What names are read from and written as.
 
-use crate::hash::{ContentId, Hash};
-use crate::key::ContentKey;
-use crate::key_fault::KeyFault;
-use crate::name_fault::NameFault;
-use crate::ref_name::RefName;
+use cat_names::hash::{ContentId, Hash};
+use cat_names::key::ContentKey;
+use cat_names::key_fault::KeyFault;
+use cat_names::name_fault::NameFault;
+use cat_names::ref_name::RefName;
 use cat_codes::field::{from_bytes, to_bytes};
 use cat_codes::seq::Seq;
 use cat_codes::text::Text;

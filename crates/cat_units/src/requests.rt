@@ -1,4 +1,4 @@
-use crate::tests::{ONES, ask, key, refusal};
+use crate::rest::{ONES, ask, key, refusal};
 use cat_codes::seq::Seq;
 use cat_model::ask::{Ask, ContentAsk, ContentsAsk, EntriesAsk, HistoryAsk, ReferencesAsk};
 use cat_model::command::{Assign, Command, Create, Delete};
