@@ -75,10 +75,8 @@ impl Store {
         let place = self.catalogue.place() + 1;
         reserve_entry(&mut self.log)?;
         self.catalogue.insert(reference)?;
-        push_entry(
-            &mut self.log,
-            entry(place, turn, command, Some(answer.head)),
-        );
+        let creation = entry(place, turn, command, Some(answer.head));
+        push_entry(&mut self.log, creation);
         Ok(Told {
             place,
             reply: Reply::Reference(answer),
@@ -96,7 +94,8 @@ impl Store {
         let place = self.catalogue.place() + 1;
         reserve_entry(&mut self.log)?;
         self.catalogue.move_to(&moved);
-        push_entry(&mut self.log, entry(place, turn, command, Some(moved.head)));
+        let assignment = entry(place, turn, command, Some(moved.head));
+        push_entry(&mut self.log, assignment);
         Ok(Told {
             place,
             reply: Reply::Reference(moved),
@@ -120,7 +119,8 @@ impl Store {
         let place = self.catalogue.place() + 1;
         reserve_entry(&mut self.log)?;
         self.catalogue.remove(name);
-        push_entry(&mut self.log, entry(place, turn, command, None));
+        let deletion = entry(place, turn, command, None);
+        push_entry(&mut self.log, deletion);
         Ok(Told {
             place,
             reply: Reply::Reference(removed),
