@@ -84,7 +84,9 @@ const HISTORIES: [(&str, &str); 19] = [
 ];
 
 #[test]
-fn a_history_goes_from_the_newest_commit_to_the_last_asked_for(rt: HostRuntime) -> Result<(), Fail> {
+fn a_history_goes_from_the_newest_commit_to_the_last_asked_for(
+    rt: HostRuntime,
+) -> Result<(), Fail> {
     assert!(rt; plays(&rt, rt.alloc(), &HISTORIES)?);
     Ok(())
 }

@@ -160,7 +160,9 @@ const A_TAG: [(&str, &str); 19] = [
 ];
 
 #[test]
-fn a_branch_is_made_and_removed_and_the_default_branch_is_moved(rt: HostRuntime) -> Result<(), Fail> {
+fn a_branch_is_made_and_removed_and_the_default_branch_is_moved(
+    rt: HostRuntime,
+) -> Result<(), Fail> {
     assert!(rt; plays(&rt, rt.alloc(), &A_BRANCH)?);
     Ok(())
 }

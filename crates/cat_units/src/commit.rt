@@ -1,7 +1,7 @@
 //! Commits and instants against values from outside.
 
-use cat_commit::{CommitMetaForm, MetaForm, from_bytes, id, read_instant, to_bytes, write_instant};
 use cat_codes::fault::FieldFault;
+use cat_commit::{CommitMetaForm, MetaForm, from_bytes, id, read_instant, to_bytes, write_instant};
 use cat_json::fault::JsonFault;
 use cat_json::read::from_bytes as read;
 use cat_json::write::to_text;

@@ -1,9 +1,9 @@
 //! Contents against bytes from outside.
 
+use cat_codes::fault::FieldFault;
 use cat_content::{
     ContentForm, ContentKind, Given, KindForm, from_bytes, from_json, hash, to_bytes, to_json,
 };
-use cat_codes::fault::FieldFault;
 use cat_json::fault::JsonFault;
 use cat_json::read::from_bytes as read;
 use cat_json::write::to_text;

@@ -1,9 +1,9 @@
-use cat_graph::add_fault::AddFault;
-use cat_graph::graph::Graph;
 use cat_codes::ascending::Ascending;
 use cat_codes::fault::NoMemory;
 use cat_codes::seq::Seq;
 use cat_codes::text::Text;
+use cat_graph::add_fault::AddFault;
+use cat_graph::graph::Graph;
 use cat_model::commit::{Commit, Meta};
 use cat_model::moment::Moment;
 use cat_names::hash::Hash;

@@ -1,11 +1,11 @@
 //! What JSON is read as, and what is written.
 
-use cat_json::fault::JsonFault;
-use cat_json::read::{ReadForm, absent, defaulted, from_bytes, member, optional, required};
-use cat_json::write::{Object, list, to_text};
 use cat_codes::ascending::Ascending;
 use cat_codes::seq::Seq;
 use cat_codes::text::Text;
+use cat_json::fault::JsonFault;
+use cat_json::read::{ReadForm, absent, defaulted, from_bytes, member, optional, required};
+use cat_json::write::{Object, list, to_text};
 use cat_names::hash::{ContentId, Hash};
 use cat_names::key::ContentKey;
 use serde_json::Value;

@@ -1,10 +1,10 @@
+use cat_codes::ascending::Ascending;
+use cat_codes::seq::Seq;
+use cat_codes::text::Text;
 use cat_keymap::distinct::{are_distinct, ids_differ};
 use cat_keymap::key_map::{KeyMap, ParentState};
 use cat_keymap::maps::Maps;
 use cat_keymap::order::changes_of;
-use cat_codes::ascending::Ascending;
-use cat_codes::seq::Seq;
-use cat_codes::text::Text;
 use cat_model::entry::{ContentKind, Entry};
 use cat_model::filter::Filter;
 use cat_model::op::Op;

@@ -1,9 +1,9 @@
 //! The bytes of stored values, each field with a value of its own.
 
-use cat_model::commit::Commit;
-use cat_model::content::{Body, Content};
 use cat_codes::fault::FieldFault;
 use cat_codes::field::{from_bytes, to_bytes};
+use cat_model::commit::Commit;
+use cat_model::content::{Body, Content};
 use std::test::*;
 
 /// A commit of generation 7 at 8 µs that deletes `n.t` and puts a Delta Lake table at `t1`.

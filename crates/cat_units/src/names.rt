@@ -1,13 +1,13 @@
 //! What names are read from and written as.
 
+use cat_codes::field::{from_bytes, to_bytes};
+use cat_codes::seq::Seq;
+use cat_codes::text::Text;
 use cat_names::hash::{ContentId, Hash};
 use cat_names::key::ContentKey;
 use cat_names::key_fault::KeyFault;
 use cat_names::name_fault::NameFault;
 use cat_names::ref_name::RefName;
-use cat_codes::field::{from_bytes, to_bytes};
-use cat_codes::seq::Seq;
-use cat_codes::text::Text;
 
 const NONE: &str = "2e1cfa82b035c26cbbbdae632cea070514eb8b773f616aaeaf668e2f0be8f10d";
 

@@ -1,6 +1,3 @@
-use cat_pages::page::Page;
-use cat_pages::token::Token;
-use cat_pages::{entries_page, history_page, references_page};
 use cat_codes::ascending::Ascending;
 use cat_codes::fault::NoMemory;
 use cat_codes::seq::Seq;
@@ -15,6 +12,9 @@ use cat_model::reference::{Kind, Reference};
 use cat_names::hash::{ContentId, Hash};
 use cat_names::key::ContentKey;
 use cat_names::ref_name::RefName;
+use cat_pages::page::Page;
+use cat_pages::token::Token;
+use cat_pages::{entries_page, history_page, references_page};
 use cat_tables::references::References;
 use std::alloc::{AllocError, Global};
 use std::test::*;

@@ -1,5 +1,5 @@
-use cat_queries::{all, first, page_limit};
 use cat_codes::text::Text;
+use cat_queries::{all, first, page_limit};
 use std::alloc::Global;
 use std::test::Fail;
 

@@ -1,6 +1,5 @@
 //! Replies and refusals against texts written by hand.
 
-use cat_replies::{refusal_to_json, to_json};
 use cat_codes::ascending::Ascending;
 use cat_codes::seq::Seq;
 use cat_codes::text::Text;
@@ -17,6 +16,7 @@ use cat_model::reply::{
 use cat_names::hash::{ContentId, Hash};
 use cat_names::key::ContentKey;
 use cat_names::ref_name::RefName;
+use cat_replies::{refusal_to_json, to_json};
 use std::alloc::Global;
 use std::test::Fail;
 

@@ -1,4 +1,3 @@
-use cat_rules::judging::{Judged, judge};
 use cat_codes::seq::Seq;
 use cat_codes::text::Text;
 use cat_keymap::distinct::are_distinct;
@@ -8,6 +7,7 @@ use cat_model::entry::{ContentKind, Entry};
 use cat_model::op::Op;
 use cat_names::hash::{ContentId, Hash};
 use cat_names::key::ContentKey;
+use cat_rules::judging::{Judged, judge};
 use std::test::*;
 
 fn key(rt: HostRuntime, elements: &[&str]) -> Result<ContentKey, Fail> {

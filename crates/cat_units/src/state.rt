@@ -2,14 +2,14 @@ ghost use Rattle.std.specs.Prelude.{IfOk, IsTrue};
 ghost use Rattle.sha2.specs.Sha256.{sha256};
 ghost use Rattle.cat_model.specs.State.{is_known};
 
-use cat_state::catalogue::Catalogue;
-use cat_state::failure::Failure;
 use cat_model::ask::{Ask, ReferencesAsk};
 use cat_model::limits::Limits;
 use cat_model::reference::{Kind, Reference};
 use cat_model::reply::Reply;
 use cat_names::hash::Hash;
 use cat_names::ref_name::RefName;
+use cat_state::catalogue::Catalogue;
+use cat_state::failure::Failure;
 use std::alloc::Global;
 use std::test::*;
 

@@ -1,11 +1,11 @@
-use cat_tables::references::References;
-use cat_tables::table::Table;
 use cat_codes::fault::NoMemory;
 use cat_codes::text::Text;
 use cat_model::reference::{Kind, Reference};
 use cat_names::hash::Hash;
 use cat_names::name_fault::NameFault;
 use cat_names::ref_name::RefName;
+use cat_tables::references::References;
+use cat_tables::table::Table;
 use std::alloc::Global;
 use std::test::*;
 
