@@ -29,8 +29,6 @@ mod queries;
 #[cfg(test)]
 mod replies;
 #[cfg(test)]
-mod requests;
-#[cfg(test)]
 mod rest;
 #[cfg(test)]
 mod routes;

@@ -6,16 +6,11 @@ use cat_codes::text::Text;
 use cat_model::commit::Meta;
 use cat_model::conflict::{Conflict, ConflictKind};
 use cat_model::content::{Body, Content, IcebergTable};
-use cat_model::entry::{ContentKind, Entry};
 use cat_model::moment::Moment;
-use cat_model::reference::{Effective, Kind, Reference};
 use cat_model::refusal::Refusal;
-use cat_model::reply::{
-    Change, Committed, ContentsReply, EntriesPage, HistoryItem, HistoryPage, ReferencesPage, Reply,
-};
+use cat_model::reply::{Change, HistoryItem, HistoryPage, Reply};
 use cat_names::hash::{ContentId, Hash};
 use cat_names::key::ContentKey;
-use cat_names::ref_name::RefName;
 use cat_replies::{refusal_to_json, to_json};
 use std::alloc::Global;
 use std::test::Fail;
@@ -26,8 +21,6 @@ const TWOS: Hash = Hash { bytes: [34; 32] };
 
 const THREES: Hash = Hash { bytes: [51; 32] };
 
-const NO_ID: ContentId = ContentId { bytes: [0; 16] };
-
 // pair 1, 0
 const GIVEN: ContentId = ContentId {
     bytes: [0, 0, 0, 0, 0, 0, 0, 1, 0, 0, 0, 0, 0, 0, 0, 0],
@@ -35,19 +28,6 @@ const GIVEN: ContentId = ContentId {
 
 fn key(alloc: Global, path: &str) -> Result<ContentKey, Fail> {
     Ok(ContentKey::parse_path(alloc, path).ok().ok_or("no key")?)
-}
-
-fn name(alloc: Global, text: &str) -> Result<RefName, Fail> {
-    Ok(RefName::parse(alloc, text).ok().ok_or("no name")?)
-}
-
-fn reference(alloc: Global, text: &str, kind: Kind) -> Result<Reference, Fail> {
-    let name = name(alloc, text)?;
-    Ok(Reference {
-        name,
-        kind,
-        head: ONES,
-    })
 }
 
 fn table(alloc: Global) -> Result<Content, Fail> {
@@ -72,55 +52,6 @@ fn the_configuration_has_183_bytes(rt: HostRuntime) -> Result<(), Fail> {
     let body = to_json(rt.alloc(), &Reply::Config).ok().ok_or("memory")?;
     assert_eq!(rt; body.as_str(), CONFIG);
     assert_eq!(rt; body.len(), 183);
-    Ok(())
-}
-
-#[test]
-fn references_are_told_alone(rt: HostRuntime) -> Result<(), Fail> {
-    let alloc = rt.alloc();
-    let reply = Reply::Reference(reference(alloc, "main", Kind::Branch)?);
-    assert!(rt; is_told(alloc, reply, REFERENCE)?);
-    let reply = Reply::Effective(Effective::Detached(ONES));
-    assert!(rt; is_told(alloc, reply, DETACHED)?);
-    Ok(())
-}
-
-#[test]
-fn references_are_told_in_pages(rt: HostRuntime) -> Result<(), Fail> {
-    let alloc = rt.alloc();
-    let mut items = Seq::new(alloc);
-    items.push(reference(alloc, "a/b", Kind::Tag)?)?;
-    let next = Some(name(alloc, "a/b")?);
-    let reply = Reply::References(ReferencesPage { items, next });
-    assert!(rt; is_told(alloc, reply, REFERENCES)?);
-    let items = Seq::new(alloc);
-    let reply = Reply::References(ReferencesPage { items, next: None });
-    assert!(rt; is_told(alloc, reply, NO_REFERENCES)?);
-    Ok(())
-}
-
-#[test]
-fn entries_are_told_in_pages(rt: HostRuntime) -> Result<(), Fail> {
-    let alloc = rt.alloc();
-    let mut items = Seq::new(alloc);
-    let entry = Entry {
-        kind: ContentKind::IcebergTable,
-        id: GIVEN,
-        hash: TWOS,
-    };
-    items.push((key(alloc, "a\u{1d}b.t")?, entry))?;
-    let reply = Reply::Entries(EntriesPage {
-        effective: Effective::Detached(ONES),
-        items,
-        next: Some((ONES, key(alloc, "a\u{1d}b.t")?)),
-    });
-    assert!(rt; is_told(alloc, reply, ENTRIES)?);
-    let reply = Reply::Entries(EntriesPage {
-        effective: Effective::Named(reference(alloc, "main", Kind::Branch)?),
-        items: Seq::new(alloc),
-        next: None,
-    });
-    assert!(rt; is_told(alloc, reply, NO_ENTRIES)?);
     Ok(())
 }
 
@@ -150,18 +81,6 @@ fn merge(alloc: Global) -> Result<HistoryItem, Fail> {
     })
 }
 
-// A first commit, whose operations weren't asked for.
-fn first(alloc: Global) -> Result<HistoryItem, Fail> {
-    Ok(HistoryItem {
-        hash: TWOS,
-        parent: Hash::none(),
-        merge_parent: None,
-        time: Moment::from_micros(1_000_000),
-        meta: meta(alloc, "one")?,
-        operations: None,
-    })
-}
-
 fn history(alloc: Global, item: HistoryItem, next: Option<Hash>) -> Result<Reply, Fail> {
     let mut items = Seq::new(alloc);
     items.push(item)?;
@@ -169,38 +88,10 @@ fn history(alloc: Global, item: HistoryItem, next: Option<Hash>) -> Result<Reply
 }
 
 #[test]
-fn histories_are_told_in_pages(rt: HostRuntime) -> Result<(), Fail> {
+fn a_merge_is_told_with_its_operations(rt: HostRuntime) -> Result<(), Fail> {
     let alloc = rt.alloc();
     let reply = history(alloc, merge(alloc)?, Some(TWOS))?;
     assert!(rt; is_told(alloc, reply, HISTORY)?);
-    let reply = history(alloc, first(alloc)?, None)?;
-    assert!(rt; is_told(alloc, reply, HISTORY_END)?);
-    Ok(())
-}
-
-#[test]
-fn contents_are_told_with_their_keys(rt: HostRuntime) -> Result<(), Fail> {
-    let alloc = rt.alloc();
-    let mut contents = Seq::new(alloc);
-    contents.push((key(alloc, "a\u{1d}b.t")?, table(alloc)?))?;
-    let effective = Effective::Detached(ONES);
-    let reply = Reply::Contents(ContentsReply {
-        effective,
-        contents,
-    });
-    assert!(rt; is_told(alloc, reply, CONTENTS)?);
-    Ok(())
-}
-
-#[test]
-fn a_commit_answers_with_the_new_ids(rt: HostRuntime) -> Result<(), Fail> {
-    let alloc = rt.alloc();
-    let mut added = Seq::new(alloc);
-    added.push((GIVEN, key(alloc, "t1")?))?;
-    added.push((NO_ID, key(alloc, "a.b")?))?;
-    let target = reference(alloc, "main", Kind::Branch)?;
-    let reply = Reply::Committed(Committed { added, target });
-    assert!(rt; is_told(alloc, reply, COMMITTED)?);
     Ok(())
 }
 
@@ -225,34 +116,8 @@ fn conflicts_name_their_keys(rt: HostRuntime) -> Result<(), Fail> {
 const CONFIG: &str =
     r#"{"actualApiVersion":2,"defaultBranch":"main","maxSupportedApiVersion":2,"minSupportedApiVersion":2,"noAncestorHash":"2e1cfa82b035c26cbbbdae632cea070514eb8b773f616aaeaf668e2f0be8f10d"}"#;
 
-const REFERENCE: &str =
-    r#"{"reference":{"hash":"1111111111111111111111111111111111111111111111111111111111111111","name":"main","type":"BRANCH"}}"#;
-
-const DETACHED: &str =
-    r#"{"reference":{"hash":"1111111111111111111111111111111111111111111111111111111111111111","type":"DETACHED"}}"#;
-
-const NO_REFERENCES: &str = r#"{"hasMore":false,"references":[]}"#;
-
-const REFERENCES: &str =
-    r#"{"hasMore":true,"references":[{"hash":"1111111111111111111111111111111111111111111111111111111111111111","name":"a/b","type":"TAG"}],"token":"r.a/b"}"#;
-
-const ENTRIES: &str =
-    r#"{"effectiveReference":{"hash":"1111111111111111111111111111111111111111111111111111111111111111","type":"DETACHED"},"entries":[{"contentId":"00000000-0000-0001-0000-000000000000","name":{"elements":["a.b","t"]},"type":"ICEBERG_TABLE"}],"hasMore":true,"token":"e.1111111111111111111111111111111111111111111111111111111111111111.a\u001db.t"}"#;
-
-const NO_ENTRIES: &str =
-    r#"{"effectiveReference":{"hash":"1111111111111111111111111111111111111111111111111111111111111111","name":"main","type":"BRANCH"},"entries":[],"hasMore":false}"#;
-
 const HISTORY: &str =
     r#"{"hasMore":true,"logEntries":[{"commitMeta":{"allProperties":{},"allSignedOffBy":[],"authors":[],"commitTime":"1970-01-01T00:00:02.000000Z","hash":"1111111111111111111111111111111111111111111111111111111111111111","message":"two","parentCommitHashes":["2222222222222222222222222222222222222222222222222222222222222222","3333333333333333333333333333333333333333333333333333333333333333"]},"operations":[{"content":{"id":"00000000-0000-0001-0000-000000000000","metadataLocation":"m1","schemaId":0,"snapshotId":1,"sortOrderId":0,"specId":0,"type":"ICEBERG_TABLE"},"key":{"elements":["a"]},"type":"PUT"},{"key":{"elements":["b"]},"type":"PUT"},{"key":{"elements":["c"]},"type":"DELETE"}],"parentCommitHash":"2222222222222222222222222222222222222222222222222222222222222222"}],"token":"h.2222222222222222222222222222222222222222222222222222222222222222"}"#;
-
-const HISTORY_END: &str =
-    r#"{"hasMore":false,"logEntries":[{"commitMeta":{"allProperties":{},"allSignedOffBy":[],"authors":[],"commitTime":"1970-01-01T00:00:01.000000Z","hash":"2222222222222222222222222222222222222222222222222222222222222222","message":"one","parentCommitHashes":["2e1cfa82b035c26cbbbdae632cea070514eb8b773f616aaeaf668e2f0be8f10d"]},"parentCommitHash":"2e1cfa82b035c26cbbbdae632cea070514eb8b773f616aaeaf668e2f0be8f10d"}]}"#;
-
-const CONTENTS: &str =
-    r#"{"contents":[{"content":{"id":"00000000-0000-0001-0000-000000000000","metadataLocation":"m1","schemaId":0,"snapshotId":1,"sortOrderId":0,"specId":0,"type":"ICEBERG_TABLE"},"key":{"elements":["a.b","t"]}}],"effectiveReference":{"hash":"1111111111111111111111111111111111111111111111111111111111111111","type":"DETACHED"}}"#;
-
-const COMMITTED: &str =
-    r#"{"addedContents":[{"contentId":"00000000-0000-0001-0000-000000000000","key":{"elements":["t1"]}},{"contentId":"00000000-0000-0000-0000-000000000000","key":{"elements":["a","b"]}}],"targetBranch":{"hash":"1111111111111111111111111111111111111111111111111111111111111111","name":"main","type":"BRANCH"}}"#;
 
 const CONFLICTS: &str =
     r#"{"errorCode":"REFERENCE_CONFLICT","errorDetails":{"conflicts":[{"conflictType":"KEY_EXISTS","key":{"elements":["t1"]},"message":"KEY_EXISTS: t1"},{"conflictType":"NAMESPACE_NOT_EMPTY","key":{"elements":["a","b"]},"message":"NAMESPACE_NOT_EMPTY: a.b"},{"conflictType":"UNEXPECTED_HASH","message":"UNEXPECTED_HASH"}],"type":"REFERENCE_CONFLICTS"},"message":"conflicts: 3","reason":"Conflict","status":409}"#;
