@@ -11,13 +11,11 @@ mod content;
 #[cfg(test)]
 mod graph;
 #[cfg(test)]
-mod http;
-#[cfg(test)]
 mod io;
 #[cfg(test)]
-mod json;
-#[cfg(test)]
 mod keymap;
+#[cfg(test)]
+mod messages;
 #[cfg(test)]
 mod model;
 #[cfg(test)]
@@ -40,3 +38,5 @@ mod state;
 mod tables;
 #[cfg(test)]
 mod tokens;
+#[cfg(test)]
+mod values;
