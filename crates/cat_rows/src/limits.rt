@@ -61,9 +61,18 @@ fn met(told: &Result<Told, Refused>) -> Outcome {
     }
 }
 
+/// What is met by a commit of `t1`, and by one of `t2` after it, on a store of these limits.
+fn met_by_two(alloc: Global, limits: Limits) -> Result<(Outcome, Outcome), Fail> {
+    let t1 = new_table(alloc, "\"t1\"", "m1")?;
+    let t2 = new_table(alloc, "\"t2\"", "m1")?;
+    let mut store = store(alloc, limits)?;
+    let first = met(&tell(alloc, &mut store, t1.as_str())?);
+    let second = met(&tell(alloc, &mut store, t2.as_str())?);
+    Ok((first, second))
+}
+
 #[test]
 fn a_limit_of_one_lets_one_pass(rt: HostRuntime) -> Result<(), Fail> {
-    let alloc = rt.alloc();
     let all = Limits::program();
     let table = [
         (Limits { log: 1, ..all }, Quantity::Log),
@@ -72,14 +81,10 @@ fn a_limit_of_one_lets_one_pass(rt: HostRuntime) -> Result<(), Fail> {
         (Limits { contents: 1, ..all }, Quantity::Contents),
         (Limits { drafts: 1, ..all }, Quantity::Drafts),
     ];
-    let t1 = new_table(alloc, "\"t1\"", "m1")?;
-    let t2 = new_table(alloc, "\"t2\"", "m1")?;
     for (limits, which) in table {
-        let mut store = store(alloc, limits)?;
-        let first = tell(alloc, &mut store, t1.as_str())?;
-        assert_eq!(rt; met(&first), Outcome::Accepted(1), "{which:?}");
-        let second = tell(alloc, &mut store, t2.as_str())?;
-        assert_eq!(rt; met(&second), Outcome::Full(which, 1, Some(1)), "{which:?}");
+        let (first, second) = met_by_two(rt.alloc(), limits)?;
+        assert_eq!(rt; first, Outcome::Accepted(1), "{which:?}");
+        assert_eq!(rt; second, Outcome::Full(which, 1, Some(1)), "{which:?}");
     }
     Ok(())
 }
