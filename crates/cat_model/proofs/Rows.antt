@@ -8,3 +8,5 @@ pub mod Limits
 pub mod Listings
 pub mod Moves
 pub mod Pages
+pub mod Planning
+pub mod Merging

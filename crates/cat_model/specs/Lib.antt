@@ -15,7 +15,11 @@ pub mod Refusing
 pub mod Records
 pub mod Commits
 pub mod Pages
+pub mod Base
+pub mod Changed
+pub mod Plan
 pub mod Moves
+pub mod Merges
 pub mod Step
 pub mod Answer
 pub mod Calls
@@ -25,7 +29,6 @@ pub mod Distinct
 pub mod WellMade
 pub mod Listing
 pub mod KeySets
-pub mod Changed
 pub mod Drafts
 pub mod Mark
 pub mod Turns

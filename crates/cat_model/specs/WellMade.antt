@@ -74,3 +74,4 @@ is_well_made digest (commands.Create c) = points c.source
 is_well_made digest (commands.Assign c) = points c.source
 is_well_made digest (commands.Delete c) = true
 is_well_made digest (commands.Commit c) = may_be_asked c.ops && have_contents digest c.ops c.contents
+is_well_made digest (commands.Merge m) = true

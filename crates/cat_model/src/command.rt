@@ -2,6 +2,7 @@
 
 use crate::commit::Meta;
 use crate::content::Content;
+use crate::merging::Modes;
 use crate::op::Op;
 use crate::reference::{Kind, Pointer};
 use cat_codes::seq::Seq;
@@ -56,6 +57,24 @@ pub struct CommitRequest {
     pub contents: Seq<Content>,
 }
 
+/// Merges a commit of a reference into a branch.
+#[derive(Clone, Debug, PartialEq, Eq, Drop)]
+pub struct Merge {
+    pub branch: RefName,
+    /// A commit that has to be on the branch's chain; it has no other effect.
+    pub hash: Option<Hash>,
+    pub from: RefName,
+    /// The commit to merge, on the chain of that reference.
+    pub from_hash: Hash,
+    /// That of the commit that the merge makes.
+    pub meta: Meta,
+    pub modes: Modes,
+    /// Whether the call is only tried. It isn't logged.
+    pub dry_run: bool,
+    /// Whether conflicts are a reply and no refusal. It isn't logged.
+    pub conflicts_as_result: bool,
+}
+
 /// A call that may add an entry to the log.
 #[derive(Clone, Debug, PartialEq, Eq, Drop)]
 pub enum Command {
@@ -63,4 +82,5 @@ pub enum Command {
     Assign(Assign),
     Delete(Delete),
     Commit(CommitRequest),
+    Merge(Merge),
 }

@@ -14,6 +14,7 @@ pub mod filter;
 pub mod limits;
 pub mod log_entry;
 pub mod logged;
+pub mod merging;
 pub mod moment;
 pub mod op;
 pub mod reference;

@@ -3,6 +3,7 @@
 use crate::commit::Meta;
 use crate::content::Content;
 use crate::entry::Entry;
+use crate::merging::Detail;
 use crate::moment::Moment;
 use crate::reference::{Effective, Reference};
 use cat_codes::seq::Seq;
@@ -81,6 +82,23 @@ pub struct Committed {
     pub target: Reference,
 }
 
+/// What a merge did or found.
+#[derive(Clone, Debug, PartialEq, Eq, Drop)]
+pub struct Merged {
+    /// The commit that changes were reckoned from, for a merge.
+    pub common_ancestor: Option<Hash>,
+    /// Of each key that the source changed, ascending.
+    pub details: Seq<Detail>,
+    /// The head that was merged into.
+    pub effective_target: Hash,
+    /// The branch with the head that it has then.
+    pub target: Reference,
+    /// Whether a commit was made.
+    pub was_applied: bool,
+    /// Whether no key conflicts.
+    pub was_successful: bool,
+}
+
 /// What a call answers.
 #[derive(Clone, Debug, PartialEq, Eq, Drop)]
 pub enum Reply {
@@ -94,6 +112,7 @@ pub enum Reply {
     /// A reference that was made, moved, or removed: as it is, or as it was.
     Reference(Reference),
     Committed(Committed),
+    Merged(Merged),
 }
 
 /// A reply, at the place of its entry, or of the state that was read.

@@ -41,6 +41,7 @@ logged_by (commands.Create c) = ([], [])
 logged_by (commands.Assign c) = ([], [])
 logged_by (commands.Delete c) = ([], [])
 logged_by (commands.Commit c) = (map logged_op c.ops, map (λ x. x.id) c.contents)
+logged_by (commands.Merge m) = ([], [])
 
 abbrev entry_shape : LogEntry → ℕ × (ℕ × (ℕ × (ℕ × Option Hash)))
 entry_shape e = (e.place, (e.caller, (e.draft, (e.moment, e.head))))

@@ -114,6 +114,7 @@ source_kind (commands.Create c) = c.source_kind
 source_kind (commands.Assign c) = c.source_kind
 source_kind (commands.Delete c) = None
 source_kind (commands.Commit c) = None
+source_kind (commands.Merge m) = None
 
 abbrev logged : List LogEntry
 logged = (script quick 7 clock one (create dev Branch (from_branch main) ∷ create dev Branch (from_branch main) ∷ assign dev None None (from_branch main) ∷ delete dev None None ∷ put_new None t2 m1 ∷ [])).logged

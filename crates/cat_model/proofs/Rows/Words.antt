@@ -1,5 +1,5 @@
 -- Words for worked cases: requests and short forms of replies, with a digest that is quick to compute.
-use Rattle.std.specs.Prelude.{ℕ, ◌+◌, ◌*◌, ◌%◌, List, [], ◌∷◌, Option, Some, None, Result, Ok, Err, true, false, fold, map, codes, pos}
+use Rattle.std.specs.Prelude.{ℕ, ◌+◌, ◌*◌, ◌%◌, List, [], ◌∷◌, Option, Some, None, Result, Ok, Err, Bool, true, false, fold, map, codes, pos}
 use Rattle.std.specs.Option.{option_map, option_map_or}
 use Rattle.cat_names.specs.Fields.{Key}
 use Rattle.cat_names.specs.declared.hash.Hash.{Hash}
@@ -12,6 +12,7 @@ use Rattle.cat_model.specs.declared.content.Body.{Body}
 use Rattle.cat_model.specs.declared.content.Body.TheVariants as bodies
 use Rattle.cat_model.specs.declared.content.Content.{Content}
 use Rattle.cat_model.specs.declared.limits.Limits.{Limits}
+use Rattle.cat_model.specs.declared.merging.Behaviour.{Behaviour}
 use Rattle.cat_model.specs.declared.op.Op.{Op}
 use Rattle.cat_model.specs.declared.op.Op.TheVariants.{Put}
 use Rattle.cat_model.specs.declared.reference.Kind.{Kind}
@@ -112,6 +113,21 @@ delete name kind expected = Ok (Change (commands.Delete (record { name = name; k
 abbrev pub look : Option (List ℕ) → Option Hash → Request
 look name hash = Ok (Read (asks.Reference (record { name = name; hash = hash })))
 
+abbrev pub merge_as : Bool → Bool → List ℕ → Option Hash → List ℕ → Hash → Behaviour → Request
+merge_as tried result into hash from from_hash mode = Ok (Change (commands.Merge (record {
+  branch = into;
+  hash = hash;
+  from = from;
+  from_hash = from_hash;
+  meta = note;
+  modes = record { default = mode; keys = [] };
+  dry_run = tried;
+  conflicts_as_result = result;
+})))
+
+abbrev pub merge : List ℕ → List ℕ → Hash → Behaviour → Request
+merge into from from_hash mode = merge_as false false into None from from_hash mode
+
 -- ---- replies
 
 pub data Short : Type 0 where
@@ -119,6 +135,7 @@ pub data Short : Type 0 where
   gives : ℕ → List ℕ → Short
   points : ℕ → Option (List ℕ) → Hash → Short
   stands : ℕ → List ℕ → Kind → Hash → Short
+  merged : ℕ → Bool → Bool → Short
   told : ℕ → Reply → Short
   not : Option ℕ → Refusal → Short
 
@@ -133,6 +150,7 @@ point_of place (Detached hash) = points place None hash
 abbrev pub short_reply : ℕ → Reply → Short
 short_reply place (replies.Committed c) = done place
 short_reply place (replies.Effective e) = point_of place e
+short_reply place (replies.Merged m) = merged place m.was_applied m.was_successful
 short_reply place (replies.Reference r) = stands place r.name r.kind r.head
 short_reply place (replies.Content c) = location_of place (replies.Content c) c.content.body
 short_reply place reply = told place reply
@@ -148,8 +166,11 @@ after s requests = (script quick 1 clock s requests).after
 abbrev pub said : Session → List Request → List Short
 said s requests = map short (script quick 1 clock s requests).said
 
+abbrev pub head_of : List ℕ → Session → Hash
+head_of branch s = option_map_or (λ r. r.head) (reference_of s.state.references branch) H0
+
 abbrev pub head : Session → Hash
-head s = option_map_or (λ r. r.head) (reference_of s.state.references main) H0
+head s = head_of main s
 
 abbrev pub refused_at : ℕ → Key → ConflictKind → Short
 refused_at place key kind = not (Some place) (Conflicts (record { key = Some key; kind = kind } ∷ []))
