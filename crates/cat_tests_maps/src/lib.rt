@@ -1,0 +1,13 @@
+//! Tests of maps and graphs: tables, maps of entries, rules of commits, commits and their chains.
+//! Each call is run on its happy path and against values from outside. They stand here, since a
+//! crate that has tests of its own is proved twice.
+#![tactic(auto)]
+
+#[cfg(test)]
+mod graph;
+#[cfg(test)]
+mod keymap;
+#[cfg(test)]
+mod rules;
+#[cfg(test)]
+mod tables;
