@@ -191,3 +191,35 @@ fn what_is_cut_can_be_pushed_anew(rt: HostRuntime) -> Result<(), Fail> {
     assert!(rt; !is_on_chain(&graph, 3, 2));
     Ok(())
 }
+
+/// The merge base of two commits; none where one of them isn't known.
+fn base(graph: &Graph, alloc: Global, left: u64, right: u64) -> Result<Option<Hash>, NoMemory> {
+    let left = hash(left);
+    let right = hash(right);
+    if !graph.is_known(&left) || !graph.is_known(&right) {
+        return Ok(None);
+    }
+    Ok(Some(graph.base(alloc, &left, &right)?))
+}
+
+/// The hashes of 3 and 4 begin with d5 and 80, so 4 is the lesser one.
+#[test]
+fn a_merge_base_is_the_nearest_common_ancestor(rt: HostRuntime) -> Result<(), Fail> {
+    let alloc = rt.alloc();
+    let mut graph = forked(alloc)?;
+    let found = [
+        base(&graph, alloc, 3, 4)?,
+        base(&graph, alloc, 5, 4)?,
+        base(&graph, alloc, 1, 5)?,
+        base(&graph, alloc, 0, 5)?,
+        base(&graph, alloc, 5, 5)?,
+    ];
+    assert!(rt; found == [2, 4, 1, 0, 5].map(|n| Some(hash(n))));
+    add(&mut graph, alloc, 6, 4, Some(3), 4)?;
+    let crossed = [base(&graph, alloc, 5, 6)?, base(&graph, alloc, 6, 5)?];
+    assert!(rt; crossed == [Some(hash(4)); 2]);
+    add(&mut graph, alloc, 7, 0, None, 1)?;
+    assert!(rt; base(&graph, alloc, 7, 6)? == Some(Hash::none()));
+    assert!(rt; base(&graph, alloc, 9, 5)?.is_none());
+    Ok(())
+}
