@@ -6,7 +6,7 @@ use Rattle.cat_json.specs.Reading.{list_as}
 use Rattle.cat_json.specs.Writing.{list_data}
 use Rattle.cat_json.proofs.RoundTrips.{list_back, map_back}
 use Rattle.cat_model.specs.declared.commit.Meta.{Meta}
-use Rattle.cat_commit.specs.Metas.{meta_as, meta_data, IsKept}
+use Rattle.cat_commit.specs.Metas.{given_meta_as, meta_as, meta_data, IsKept}
 use Rattle.cat_commit.proofs.MomentBack.{moment_back}
 
 texts_back : (xs : List (List ℕ)) → list_as as_str (list_data string xs) ≡ Some xs
@@ -16,7 +16,7 @@ meta_again : (message : List ℕ) (authors signed : List (List ℕ)) (properties
     → IsKept (record { message = message; authors = authors; signed = signed; properties = properties; author_time = time })
     → meta_as (meta_data (record { message = message; authors = authors; signed = signed; properties = properties; author_time = time }))
     ≡ Some (record { message = message; authors = authors; signed = signed; properties = properties; author_time = time })
-unfolding meta_as
+unfolding meta_as given_meta_as
 meta_again message authors signed properties None h =
     rw (texts_back authors, texts_back signed, map_back (list_as as_str) (list_data string) texts_back properties h.0) refl
 meta_again message authors signed properties (Some t) h =

@@ -3,23 +3,39 @@ use Rattle.std.specs.Prelude.{◌≡◌, ◌≤◌, ℕ, IfSome, List, [], ◌�
 use Rattle.serde_json.specs.Data.{Data, string, object, Members, no_members}
 use Rattle.serde_json.specs.Find.{as_str}
 use Rattle.serde_json.specs.Written.{has_float, members_have_float}
-use Rattle.cat_json.specs.Reading.{◌>>=◌, required, optional, defaulted, list_as, map_as, Ascends}
+use Rattle.cat_json.specs.Reading.{◌>>=◌, optional, defaulted, list_as, map_as, Ascends}
 use Rattle.cat_json.specs.Writing.{list_data, map_data, ◌+>◌, ◌+?>◌, floatless}
 use Rattle.cat_json.specs.Names.{hash_data}
 use Rattle.cat_names.specs.declared.hash.Hash.{Hash}
 use Rattle.cat_model.specs.declared.commit.Meta.{Meta}
 use Rattle.cat_model.specs.declared.commit.Commit.{Commit}
 use Rattle.cat_commit.specs.Instants.{moment_as, moment_data}
+use Rattle.cat_commit.specs.declared.meta.GivenMeta.{GivenMeta}
 
--- all but the message may be absent or null
-unfoldable pub meta_as : Data → Option Meta
-meta_as d =
-    required as_str (codes "message") d >>= λ message.
+-- what is said of a commit, of which each member may be absent or null
+unfoldable pub given_meta_as : Data → Option GivenMeta
+given_meta_as d =
+    optional as_str (codes "message") d >>= λ message.
     defaulted (list_as as_str) [] (codes "authors") d >>= λ authors.
     defaulted (list_as as_str) [] (codes "allSignedOffBy") d >>= λ signed.
     defaulted (map_as (list_as as_str)) [] (codes "allProperties") d >>= λ properties.
     optional moment_as (codes "authorTime") d >>= λ time.
     Some (record { message = message; authors = authors; signed = signed; properties = properties; author_time = time })
+
+-- what is said where nothing is
+abbrev pub nothing_given : GivenMeta
+nothing_given = record { message = None; authors = []; signed = []; properties = []; author_time = None }
+
+-- the meta with this message in the place of the one that was given
+abbrev pub with_message : List ℕ → GivenMeta → Meta
+with_message message given = record { message = message; authors = given.authors; signed = given.signed; properties = given.properties; author_time = given.author_time }
+
+-- all but the message may be absent or null
+unfoldable pub meta_as : Data → Option Meta
+meta_as d =
+    given_meta_as d >>= λ given.
+    given.message >>= λ message.
+    Some (with_message message given)
 
 -- the names of the properties ascend, and the time is a moment
 abbrev pub IsKept : Meta → Type 0

@@ -10,5 +10,6 @@ mod meta;
 pub use bytes::{from_bytes, id, to_bytes};
 pub use instant::{InstantForm, read_instant, write_instant};
 pub use meta::{
-    CommitMetaForm, MetaForm, commit_meta_to_json, meta_from_json, meta_to_json, told_meta_to_json,
+    CommitMetaForm, GivenMeta, GivenMetaForm, MetaForm, commit_meta_to_json, meta_from_json,
+    meta_to_json, told_meta_to_json,
 };

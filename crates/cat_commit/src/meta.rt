@@ -4,7 +4,7 @@ ghost use Rattle.std.specs.Prelude.{◌≡◌, IfOk, Some};
 ghost use Rattle.serde_json.specs.View.{view};
 ghost use Rattle.cat_json.specs.Reading.{Gives};
 ghost use Rattle.cat_json.specs.Writing.{held};
-ghost use Rattle.cat_commit.specs.Metas.{meta_as, IsKept, meta_members, meta_data, parents_of, told_meta_data, commit_meta_data, no_float_meta, no_float_commit_meta};
+ghost use Rattle.cat_commit.specs.Metas.{given_meta_as, nothing_given, with_message, meta_as, IsKept, meta_members, meta_data, parents_of, told_meta_data, commit_meta_data, no_float_meta, no_float_commit_meta};
 
 use crate::instant::InstantForm;
 use cat_codes::ascending::Ascending;
@@ -12,7 +12,7 @@ use cat_codes::fault::NoMemory;
 use cat_codes::seq::Seq;
 use cat_codes::text::Text;
 use cat_json::fault::JsonFault;
-use cat_json::read::{ReadForm, defaulted, optional, required};
+use cat_json::read::{ReadForm, defaulted, optional};
 use cat_json::write::{Object, WriteForm};
 use cat_model::commit::{Commit, Meta};
 use cat_model::moment::Moment;
@@ -20,27 +20,91 @@ use cat_names::hash::Hash;
 use serde_json::Value;
 use std::alloc::Global;
 
+/// What JSON says of a commit that may get its message elsewhere.
+#[derive(Debug, PartialEq, Eq, Drop)]
+pub struct GivenMeta {
+    pub message: Option<Text>,
+    pub authors: Seq<Text>,
+    pub signed: Seq<Text>,
+    pub properties: Ascending<Text, Seq<Text>>,
+    pub author_time: Option<Moment>,
+}
+
+impl GivenMeta {
+    /// Nothing is said.
+    pub fn new(alloc: Global) -> GivenMeta
+        ensures { result ≡ nothing_given }
+    {
+        GivenMeta {
+            message: None,
+            authors: Seq::new(alloc),
+            signed: Seq::new(alloc),
+            properties: Ascending::new(alloc),
+            author_time: None,
+        }
+    }
+
+    /// The meta with this message in the place of the one that was given.
+    pub fn with_message(self, message: Text) -> Meta
+        ensures { result ≡ with_message message self }
+    {
+        let GivenMeta {
+            authors,
+            signed,
+            properties,
+            author_time,
+            ..
+        } = self;
+        Meta {
+            message,
+            authors,
+            signed,
+            properties,
+            author_time,
+        }
+    }
+}
+
+/// The form of metas that may get their message elsewhere: each member may be absent or null.
+pub struct GivenMetaForm;
+
+impl ReadForm for GivenMetaForm {
+    type Of = GivenMeta;
+
+    ghost reads = { given_meta_as };
+
+    #[tactic(auto, unfolding(crate::specs::Metas::given_meta_as))]
+    fn from_json(alloc: Global, value: &Value) -> Result<GivenMeta, JsonFault> {
+        let message = optional::<Text>(alloc, value, "message")?;
+        let none = Seq::new(alloc);
+        let authors = defaulted::<Seq<Text>>(alloc, value, "authors", none)?;
+        let none = Seq::new(alloc);
+        let signed = defaulted::<Seq<Text>>(alloc, value, "allSignedOffBy", none)?;
+        let none = Ascending::new(alloc);
+        let properties =
+            defaulted::<Ascending<Text, Seq<Text>>>(alloc, value, "allProperties", none)?;
+        let author_time = optional::<InstantForm>(alloc, value, "authorTime")?;
+        Ok(GivenMeta {
+            message,
+            authors,
+            signed,
+            properties,
+            author_time,
+        })
+    }
+}
+
 /// The meta that JSON gives. `message` is required; `authors`, `allSignedOffBy`, `allProperties`
 /// and `authorTime` may be absent or null.
 #[tactic(auto, unfolding(crate::specs::Metas::meta_as))]
 pub fn meta_from_json(alloc: Global, value: &Value) -> Result<Meta, JsonFault>
     ensures { Gives result (meta_as (view value.now)) }
 {
-    let message = required::<Text>(alloc, value, "message")?;
-    let none = Seq::new(alloc);
-    let authors = defaulted::<Seq<Text>>(alloc, value, "authors", none)?;
-    let none = Seq::new(alloc);
-    let signed = defaulted::<Seq<Text>>(alloc, value, "allSignedOffBy", none)?;
-    let none = Ascending::new(alloc);
-    let properties = defaulted::<Ascending<Text, Seq<Text>>>(alloc, value, "allProperties", none)?;
-    let author_time = optional::<InstantForm>(alloc, value, "authorTime")?;
-    Ok(Meta {
-        message,
-        authors,
-        signed,
-        properties,
-        author_time,
-    })
+    let mut given = GivenMetaForm::from_json(alloc, value)?;
+    match given.message.take() {
+        Some(message) => Ok(given.with_message(message)),
+        None => Err(JsonFault::Bad),
+    }
 }
 
 fn meta_object(alloc: Global, meta: &Meta) -> Result<Object, NoMemory>

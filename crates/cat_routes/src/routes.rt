@@ -28,6 +28,8 @@ pub enum Route {
     Content,
     /// `/api/v2/trees/{reference}/history/commit`
     Commit,
+    /// `/api/v2/trees/{reference}/history/merge`
+    Merge,
 }
 
 /// The route of a path, and what its parameters took, still escaped.
@@ -111,6 +113,11 @@ impl Routes {
             &mut router,
             "/api/v2/trees/{reference}/history/commit",
             Route::Commit,
+        )?;
+        add(
+            &mut router,
+            "/api/v2/trees/{reference}/history/merge",
+            Route::Merge,
         )?;
         Ok(Routes { router })
     }
