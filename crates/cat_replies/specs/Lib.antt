@@ -1,3 +1,4 @@
+pub mod Merged
 pub mod Refusals
 pub mod Replies
 pub mod Wording

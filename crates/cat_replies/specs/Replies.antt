@@ -24,12 +24,14 @@ use Rattle.cat_model.specs.declared.reply.ContentsReply.{ContentsReply}
 use Rattle.cat_model.specs.declared.reply.EntriesPage.{EntriesPage}
 use Rattle.cat_model.specs.declared.reply.HistoryItem.{HistoryItem}
 use Rattle.cat_model.specs.declared.reply.HistoryPage.{HistoryPage}
+use Rattle.cat_model.specs.declared.reply.Merged.{Merged}
 use Rattle.cat_model.specs.declared.reply.ReferencesPage.{ReferencesPage}
 use Rattle.cat_model.specs.declared.reply.Reply.{Reply}
 use Rattle.cat_model.specs.declared.reply.Reply.TheVariants as replies
 use Rattle.cat_pages.specs.Tokens.{token_text}
 use Rattle.cat_pages.specs.declared.token.Token.{Token}
 use Rattle.cat_pages.specs.declared.token.Token.TheVariants as tokens
+use Rattle.cat_replies.specs.Merged.{detail_data, no_float_detail}
 use Rattle.cat_replies.specs.Wording.{kind_text}
 
 abbrev pub reference_data : Reference → Data
@@ -79,6 +81,17 @@ abbrev pub committed_data : Committed → Data
 committed_data r = object (no_members
     +> (codes "addedContents", list_data added_data r.added)
     +> (codes "targetBranch", reference_data r.target))
+
+-- what a merge did or found: the head before, and the one that the branch has then
+abbrev pub merged_data : Merged → Data
+merged_data m = object (no_members
+    +?> (codes "commonAncestor", option_map hash_data m.common_ancestor)
+    +> (codes "details", list_data detail_data m.details)
+    +> (codes "effectiveTargetHash", hash_data m.effective_target)
+    +> (codes "resultantTargetHash", hash_data m.target.head)
+    +> (codes "targetBranch", reference_data m.target)
+    +> (codes "wasApplied", boolean m.was_applied)
+    +> (codes "wasSuccessful", boolean m.was_successful))
 
 -- ---- pages: each tells whether more follows, and the token of the next one where it does
 
@@ -146,6 +159,7 @@ reply_data (replies.Content r) = content_reply_data r
 reply_data (replies.Reference reference) = object (no_members
     +> (codes "reference", reference_data reference))
 reply_data (replies.Committed r) = committed_data r
+reply_data (replies.Merged m) = merged_data m
 
 -- ---- none of them has a float, so its text is a function of it
 
@@ -187,6 +201,9 @@ no_float_keyed_content c = search (floatless, no_float_content, no_float_key)
 pub no_float_contents : (r : ContentsReply) → has_float (contents_data r) ≡ false
 no_float_contents r = search (floatless, no_float_keyed_content, no_float_effective)
 
+pub no_float_merged : (m : Merged) → has_float (merged_data m) ≡ false
+no_float_merged m = search (floatless, no_float_reference, no_float_detail) depth 9
+
 pub no_float_reply : (r : Reply) → has_float (reply_data r) ≡ false
 no_float_reply replies.Config = search floatless
 no_float_reply (replies.References p) = no_float_references p
@@ -197,3 +214,4 @@ no_float_reply (replies.Contents r) = no_float_contents r
 no_float_reply (replies.Content r) = search (floatless, no_float_content, no_float_effective)
 no_float_reply (replies.Reference reference) = search floatless
 no_float_reply (replies.Committed r) = search (floatless, no_float_added)
+no_float_reply (replies.Merged m) = no_float_merged m

@@ -1,4 +1,4 @@
--- The texts of the API for references, conflicts and refusals.
+-- The texts of the API for references, conflicts, merges and refusals.
 use Rattle.std.specs.Prelude.{ℕ, List, [], ◌++◌, length, codes, unwrap_or}
 use Rattle.std.specs.Fmt.{decimal}
 use Rattle.http.specs.StatusCode.{reason_phrase}
@@ -6,6 +6,8 @@ use Rattle.cat_model.specs.declared.conflict.ConflictKind.{ConflictKind}
 use Rattle.cat_model.specs.declared.conflict.ConflictKind.TheVariants.{KeyExists, KeyDoesNotExist, PayloadDiffers, ContentIdDiffers, ValueDiffers, NamespaceAbsent, NotANamespace, NamespaceNotEmpty, UnexpectedHash}
 use Rattle.cat_model.specs.declared.limits.Quantity.{Quantity}
 use Rattle.cat_model.specs.declared.limits.Quantity.TheVariants as quantities
+use Rattle.cat_model.specs.declared.merging.Behaviour.{Behaviour}
+use Rattle.cat_model.specs.declared.merging.Behaviour.TheVariants as behaviours
 use Rattle.cat_model.specs.declared.reference.Kind.{Kind}
 use Rattle.cat_model.specs.declared.reference.Kind.TheVariants.{Branch, Tag}
 use Rattle.cat_model.specs.declared.refusal.Missing.TheVariants as missing
@@ -28,6 +30,11 @@ conflict_text NamespaceAbsent = codes "NAMESPACE_ABSENT"
 conflict_text NotANamespace = codes "NOT_A_NAMESPACE"
 conflict_text NamespaceNotEmpty = codes "NAMESPACE_NOT_EMPTY"
 conflict_text UnexpectedHash = codes "UNEXPECTED_HASH"
+
+abbrev pub behaviour_text : Behaviour → List ℕ
+behaviour_text behaviours.Normal = codes "NORMAL"
+behaviour_text behaviours.Force = codes "FORCE"
+behaviour_text behaviours.Drop = codes "DROP"
 
 abbrev pub quantity_text : Quantity → List ℕ
 quantity_text quantities.References = codes "References"

@@ -4,6 +4,7 @@
 
 mod content;
 mod history;
+mod merged;
 mod page;
 mod reference;
 mod refusal;

@@ -17,7 +17,7 @@ use cat_names::key::ContentKey;
 use serde_json::Value;
 use std::alloc::Global;
 
-struct ConflictForm;
+pub(crate) struct ConflictForm;
 
 // The form of a place and the head at it.
 struct HeadForm;

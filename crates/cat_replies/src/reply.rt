@@ -7,6 +7,7 @@ ghost use Rattle.cat_replies.specs.Replies.{added_data, config_data, committed_d
 
 use crate::content::{content_reply, contents_reply};
 use crate::history::history_page;
+use crate::merged::merged;
 use crate::page::{entries_page, references_page};
 use crate::reference::{EffectiveForm, ReferenceForm};
 use cat_codes::fault::NoMemory;
@@ -92,6 +93,7 @@ impl WriteForm for ReplyForm {
                     .into_value(),
             ),
             Reply::Committed(reply) => committed(alloc, reply),
+            Reply::Merged(reply) => merged(alloc, reply),
         }
     }
 }

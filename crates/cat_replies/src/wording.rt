@@ -1,10 +1,11 @@
-//! The texts of the API for references, conflicts and refusals.
+//! The texts of the API for references, conflicts, merges and refusals.
 
 ghost use Rattle.std.specs.Prelude.{◌≡◌, IfOk, string_bytes};
-ghost use Rattle.cat_replies.specs.Wording.{kind_text, conflict_text, quantity_text, reason_text, status_of as status_number, phrase_of, code_of as code_text, message_of};
+ghost use Rattle.cat_replies.specs.Wording.{kind_text, conflict_text, behaviour_text, quantity_text, reason_text, status_of as status_number, phrase_of, code_of as code_text, message_of};
 
 use cat_model::conflict::ConflictKind;
 use cat_model::limits::Quantity;
+use cat_model::merging::Behaviour;
 use cat_model::reference::Kind;
 use cat_model::refusal::{Missing, Reason, Refusal};
 use http::StatusCode;
@@ -32,6 +33,16 @@ pub(crate) fn conflict_text(kind: ConflictKind) -> &'static str
         ConflictKind::NotANamespace => "NOT_A_NAMESPACE",
         ConflictKind::NamespaceNotEmpty => "NAMESPACE_NOT_EMPTY",
         ConflictKind::UnexpectedHash => "UNEXPECTED_HASH",
+    }
+}
+
+pub(crate) fn behaviour_text(behaviour: Behaviour) -> &'static str
+    ensures { result.now ≡ behaviour_text behaviour }
+{
+    match behaviour {
+        Behaviour::Normal => "NORMAL",
+        Behaviour::Force => "FORCE",
+        Behaviour::Drop => "DROP",
     }
 }
 

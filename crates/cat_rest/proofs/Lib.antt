@@ -3,3 +3,4 @@ mod Options
 mod Points
 mod Ready
 pub mod Served
+mod Sorted

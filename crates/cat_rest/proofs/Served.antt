@@ -28,8 +28,9 @@ use Rattle.cat_routes.specs.Parts.{escaped}
 use Rattle.cat_routes.specs.Table.{Match, found_in}
 use Rattle.cat_routes.specs.declared.routes.Route.TheVariants as routes
 use Rattle.cat_rest.specs.Bodies.{ops_of, contents_of, commit_as}
-use Rattle.cat_rest.specs.Changes.{create, assign, delete, commit, create_at, assign_at, delete_at, commit_at}
+use Rattle.cat_rest.specs.Changes.{create, assign, delete, commit, create_at, assign_at, delete_at, commit_at, merge_at}
 use Rattle.cat_rest.specs.Faults.{◌>>!◌, or_bad, Answers}
+use Rattle.cat_rest.specs.MergeBodies.{merge_as, merge}
 use Rattle.cat_rest.specs.Operations.{op_as}
 use Rattle.cat_rest.specs.Paths.{name_of, reference_at, pointer_at, key_at}
 use Rattle.cat_rest.specs.Queries.{required, optional, kind_of, references_asked, entries_asked, history_asked, contents_asked}
@@ -38,6 +39,7 @@ use Rattle.cat_rest.specs.Served.{IsServed, AreServed}
 use Rattle.cat_rest.specs.Sources.{source_as}
 use Rattle.cat_rest.specs.Wanted.{methods_of, allows, path_of, query_of, trees_by, tree_by, contents_by, read_at, by_route, wanted}
 use Rattle.cat_rest.specs.declared.commit.CommitBody.{CommitBody}
+use Rattle.cat_rest.specs.declared.merge.MergeBody.{MergeBody}
 use Rattle.cat_rest.specs.declared.path.PathReference.{PathReference}
 use Rattle.cat_rest.specs.declared.source.Source.{Source}
 use Rattle.cat_rest.proofs.Options.{step, picked, chosen, joined}
@@ -100,6 +102,10 @@ delete_is_well : (at : PathReference) (kind : Option Kind) → is_well_made sha2
 unfolding is_well_made
 delete_is_well at kind = refl
 
+merge_is_well : (at : PathReference) (b : MergeBody) → is_well_made sha256 (commands.Merge (merge at b)) ≡ true
+unfolding is_well_made
+merge_is_well at b = refl
+
 -- ---- so each change is
 
 through : {A : Type 0} (o : Result A Refusal) (f : A → Result Wanted Refusal) → ((x : A) → o ≡ Ok x → AreServed (f x)) → AreServed (o >>! f)
@@ -127,6 +133,11 @@ commit_served : (part : Option (List ℕ)) (body : List ℕ) → AreServed (comm
 commit_served part body =
     through (or_bad BadPath (reference_at part)) _ (λ at e.
     through (or_bad BadBody (body_as commit_as body)) _ (λ asked e. asked_is_well at body asked e))
+
+merge_served : (part : Option (List ℕ)) (body : List ℕ) → AreServed (merge_at part body)
+merge_served part body =
+    through (or_bad BadPath (reference_at part)) _ (λ at e.
+    through (or_bad BadBody (body_as merge_as body)) _ (λ asked e. merge_is_well at asked))
 
 -- ---- and each read
 
@@ -163,6 +174,7 @@ read_served (routes.History, parts) r = pointed_served parts.0 BadQuery (λ at. 
 read_served (routes.Contents, parts) r = contents_served parts.0 r
 read_served (routes.Content, parts) r = pointed_served parts.0 BadPath (λ at. key_at parts.1) (λ at key. asks.Content (record { at = at; key = key }))
 read_served (routes.Commit, parts) r = commit_served parts.0 r.body
+read_served (routes.Merge, parts) r = merge_served parts.0 r.body
 
 route_served : (found : Option Match) (r : Message) → AreServed (by_route found r)
 route_served None r = tt

@@ -13,6 +13,7 @@ use Rattle.cat_model.specs.declared.wanted.Wanted.{Wanted}
 use Rattle.cat_model.specs.declared.wanted.Wanted.TheVariants.{Change}
 use Rattle.cat_rest.specs.Bodies.{commit_as}
 use Rattle.cat_rest.specs.Faults.{◌>>!◌, or_bad}
+use Rattle.cat_rest.specs.MergeBodies.{merge_as, merge}
 use Rattle.cat_rest.specs.Paths.{name_of, reference_at}
 use Rattle.cat_rest.specs.Queries.{required, optional, kind_of}
 use Rattle.cat_rest.specs.Sources.{source_as}
@@ -61,3 +62,10 @@ commit_at part body =
     or_bad BadPath (reference_at part) >>! λ at.
     or_bad BadBody (body_as commit_as body) >>! λ asked.
     Ok (Change (commands.Commit (commit at asked)))
+
+-- a commit of a reference that is merged into a branch
+abbrev pub merge_at : Option (List ℕ) → List ℕ → Result Wanted Refusal
+merge_at part body =
+    or_bad BadPath (reference_at part) >>! λ at.
+    or_bad BadBody (body_as merge_as body) >>! λ asked.
+    Ok (Change (commands.Merge (merge at asked)))

@@ -1,6 +1,8 @@
 pub mod Bodies
 pub mod Changes
 pub mod Faults
+pub mod MergeBodies
+pub mod Modes
 pub mod Operations
 pub mod Paths
 pub mod Queries

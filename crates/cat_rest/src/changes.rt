@@ -1,17 +1,18 @@
 //! Requests that change.
 
 ghost use Rattle.std.specs.Prelude.{option_map};
-ghost use Rattle.cat_rest.specs.Changes.{create_at, assign_at, delete_at, commit_at};
+ghost use Rattle.cat_rest.specs.Changes.{create_at, assign_at, delete_at, commit_at, merge_at};
 ghost use Rattle.cat_rest.specs.Faults.{Answers};
 
 use crate::commit::{CommitBody, CommitForm};
+use crate::merge::{MergeForm, merge};
 use crate::parameter::{optional, required};
 use crate::path::reference_at;
-use crate::refused::read_body;
+use crate::refused::{read_body, refused};
 use crate::source::SourceForm;
 use cat_model::command::{Assign, Command, CommitRequest, Create, Delete};
 use cat_model::reference::Kind;
-use cat_model::refusal::Refused;
+use cat_model::refusal::{Refusal, Refused};
 use cat_model::wanted::Wanted;
 use cat_names::ref_name::RefName;
 use std::alloc::Global;
@@ -82,4 +83,16 @@ pub(crate) fn commit_at(alloc: Global, part: Option<&str>, body: &[u8]) -> Resul
         ops,
         contents,
     })))
+}
+
+/// A commit of a reference that is merged into a branch.
+pub(crate) fn merge_at(alloc: Global, part: Option<&str>, body: &[u8]) -> Result<Wanted, Refused>
+    ensures { Answers result (merge_at (option_map (λ s. s.now) part.entry) body.now) }
+{
+    let at = reference_at(alloc, part)?;
+    let asked = read_body::<MergeForm>(alloc, body)?;
+    match merge(alloc, at, asked) {
+        Ok(merge) => Ok(Wanted::Change(Command::Merge(merge))),
+        Err(_) => Err(refused(Refusal::NoMemory)),
+    }
 }

@@ -5,6 +5,8 @@
 mod changes;
 mod command;
 mod commit;
+mod merge;
+mod modes;
 mod operation;
 mod parameter;
 mod path;

@@ -22,7 +22,7 @@ pub struct Source {
 }
 
 /// The form of a reference's name.
-struct NameForm;
+pub(crate) struct NameForm;
 
 impl ReadForm for NameForm {
     type Of = RefName;
