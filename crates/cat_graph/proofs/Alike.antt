@@ -1,4 +1,4 @@
--- Where `==` says yes, two commits are one.
+-- Where `==` says yes, two values are one.
 use Rattle.std.proofs.Common.{◌≡◌, ℕ, List, Option, Some, None, Bool, true, false, ◌&&◌, refl, sym, ap, rules}
 use Rattle.std.proofs.lemmas.Option.{none-some, same_Some}
 use Rattle.std.specs.Bool.{Decides}
@@ -11,6 +11,8 @@ use Rattle.cat_names.specs.declared.hash.Hash.{Hash}
 use Rattle.cat_names.specs.declared.hash.ContentId.{ContentId}
 use Rattle.cat_names.specs.contracts.hash.HashPartialEq.TheImpl.{eq-value as hash_eq}
 use Rattle.cat_names.specs.contracts.hash.ContentIdPartialEq.TheImpl.{eq-value as id_eq}
+use Rattle.cat_graph.specs.declared.front.Reached.{Reached}
+use Rattle.cat_graph.specs.contracts.front.ReachedPartialEq.TheImpl.{eq-value as reached_eq}
 use Rattle.cat_model.specs.declared.commit.Commit.{Commit}
 use Rattle.cat_model.specs.declared.commit.Meta.{Meta}
 use Rattle.cat_model.specs.declared.entry.ContentKind.{ContentKind}
@@ -71,3 +73,13 @@ commits_decide a b = by_parts ((commit_eq).it a b)
     (both _ _ (hashes a.parent b.parent) (both _ _ (options hashes a.merge_parent b.merge_parent) (both _ _ (unsigned_Decides a.generation b.generation) (both _ _ (unsigned_Decides a.time b.time) (both _ _ (metas a.meta b.meta) (pointwise_decides (pairs texts (options entries)) a.ops b.ops))))))
     (λ p i. record { parent = p.0 i; merge_parent = p.1.0 i; generation = p.1.1.0 i; time = p.1.1.1.0 i; meta = p.1.1.1.1.0 i; ops = p.1.1.1.1.1 i })
     (λ e. (ap (λ (x : Commit). x.parent) e, (ap (λ (x : Commit). x.merge_parent) e, (ap (λ (x : Commit). x.generation) e, (ap (λ (x : Commit). x.time) e, (ap (λ (x : Commit). x.meta) e, ap (λ (x : Commit). x.ops) e))))))
+
+-- ---- hashes with their generations
+
+reached_decide : (a b : Reached) → Decides ((reached_eq).it a b) (a ≡ b)
+reached_decide a b = by_parts ((reached_eq).it a b) (both _ _ (unsigned_Decides a.generation b.generation) (hashes a.hash.0 b.hash.0))
+    (λ p i. record { generation = p.0 i; hash = record { 0 = p.1 i } }) (λ e. (ap (λ (x : Reached). x.generation) e, ap (λ (x : Reached). x.hash.0) e))
+
+-- so it is of one that may be there
+pub nearest_is : (found : Option Reached) (at : Reached) → option_eq (reached_eq).it found (Some at) ≡ true → found ≡ Some at
+nearest_is found at e = (options reached_decide found (Some at)).0 e

@@ -1,2 +1,5 @@
 pub mod Alike
 pub mod Walks
+pub mod Ancestors
+pub mod Nearest
+pub mod Meeting

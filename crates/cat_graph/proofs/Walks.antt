@@ -52,7 +52,7 @@ more_by : (b : Bool) (c : Commit) (found : Option Commit) (none : Bool) → (is_
 more_by true c found none e = refl
 more_by false c found none e = e
 
-known_more : (x : Hash × Commit) (older : Commits) (hash : Hash) → is_known older hash ≡ true → is_known (x ∷ older) hash ≡ true
+pub known_more : (x : Hash × Commit) (older : Commits) (hash : Hash) → is_known older hash ≡ true → is_known (x ∷ older) hash ≡ true
 known_more x older hash e = more_by (same_hash x.0 hash) x.1 (commit_of older hash) (same_hash (no_ancestor sha256) hash) e
 
 parent_by : (b : Bool) (x : Hash × Commit) (older : Commits) (at : Hash) (c : Commit) → is_known older (x.1).parent ≡ true → (commit_of older at ≡ Some c → is_known older c.parent ≡ true)
@@ -75,7 +75,7 @@ chain_before x older hash e = rw e refl
 on_chain_before : (x : Hash × Commit) (older : Commits) (head hash : Hash) → same_hash x.0 head ≡ false → on_chain (x ∷ older) head hash ≡ on_chain older head hash
 on_chain_before x older head hash e = rw e refl
 
-below : (x : Hash × Commit) (older : Commits) (hash : Hash) → AreLinked (x ∷ older) → is_known older hash ≡ true → same_hash x.0 hash ≡ false
+pub below : (x : Hash × Commit) (older : Commits) (hash : Hash) → AreLinked (x ∷ older) → is_known older hash ≡ true → same_hash x.0 hash ≡ false
 below x older hash are known = apart older x.0 hash are.0 (are.1).has_ancestor known
 
 chain_by : (b : Bool) (x : Hash × Commit) (older : Commits) (at : Hash) (c : Commit) → AreLinked (x ∷ older) → same_hash x.0 at ≡ b

@@ -17,7 +17,7 @@ use Rattle.cat_graph.specs.Linked.{AreLinked, IsNext, is_known, merge_generation
 pub same_is : (a b : Hash) → same_hash a b ≡ true → a ≡ b
 same_is a b e = ap (λ (bytes : List ℕ). record { bytes = bytes }) ((bytes_decides a.bytes b.bytes).0 e)
 
-same_self : (hash : Hash) → same_hash hash hash ≡ true
+pub same_self : (hash : Hash) → same_hash hash hash ≡ true
 same_self hash = (bytes_decides hash.bytes hash.bytes).1 refl
 
 unknown : (found : Option Commit) (b : Bool) → found ≡ None → b ≡ false → (is_some found || b) ≡ true → ⊥

@@ -6,4 +6,6 @@
 #![tactic(auto)]
 
 pub mod add_fault;
+mod base;
+mod front;
 pub mod graph;
