@@ -1,5 +1,5 @@
 -- Fronts of two histories, until they meet.
-use Rattle.std.proofs.Common.{◌≡◌, ℕ, ◌+◌, ◌<◌, ◌≤◌, List, [], ◌∷◌, ◌++◌, Option, Some, None, Bool, true, false, ◌||◌, ◌&&◌, length, length-append, inl, inr, refl, sym, ap, subst, ◌∙◌, arith}
+use Rattle.std.proofs.Common.{◌≡◌, ℕ, ◌+◌, ◌<◌, List, [], ◌∷◌, ◌++◌, Option, Some, None, Bool, true, false, ◌||◌, ◌&&◌, length, length-append, inl, inr, refl, sym, ap, subst, ◌∙◌, arith}
 use mathlib.Core.Bool.{or_assoc, or_comm, and_comm}
 use Rattle.std.specs.Prelude.{slice_get, IsPermutation, All}
 use Rattle.std.specs.BinaryHeap.{IsUpperBound}
@@ -9,7 +9,7 @@ use Rattle.std.specs.Cmp.Lexicographic.{slice_cmp}
 use Rattle.std.specs.Option.{option_map_or}
 use Rattle.std.specs.declared.cmp.Ordering.{Ordering}
 use Rattle.std.specs.declared.cmp.Ordering.TheVariants.{Less, Equal, Greater}
-use Rattle.std.proofs.lemmas.Bool.{or_cases, or_left, or_right, and_parts, and_from, both_ways, false_from_ne_true, false≢true}
+use Rattle.std.proofs.lemmas.Bool.{or_cases, or_left, and_parts, and_from, both_ways, false_from_ne_true, false≢true}
 use Rattle.std.proofs.lemmas.Cmp.{nat_cmp_total, nat_list_cmp_total, on_total, then_total, back_total}
 use Rattle.std.proofs.lemmas.List.Elements.{All-cons, All-head, All-tail, All-nil}
 use Rattle.std.proofs.lemmas.List.Folds.{list_any-append}
@@ -26,7 +26,7 @@ use Rattle.cat_model.specs.State.{no_ancestor}
 use Rattle.cat_graph.specs.declared.front.Reached.{Reached}
 use Rattle.cat_graph.specs.Fronts.{GoesOn, HaveGenerations, is_behind, is_first, nearness, reached, ways}
 use Rattle.cat_graph.specs.Linked.{AreLinked, is_known}
-use Rattle.cat_graph.specs.GraphLaws.{same_is, same_self}
+use Rattle.cat_graph.specs.GraphLaws.{same_is}
 use Rattle.cat_graph.proofs.Ancestors.{ancestor_known, ancestors_step, ancestors_end, among_own, among_common, none_among}
 use Rattle.cat_graph.proofs.Nearest.{behind_not_nearer, under_is_nearer}
 
