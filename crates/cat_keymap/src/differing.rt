@@ -1,8 +1,9 @@
 //! Where two maps differ.
 
-ghost use Rattle.std.specs.Prelude.{IfOk, OnOk, ◌≡◌, ◌++◌};
+ghost use Rattle.std.specs.Prelude.{IfOk, IsTrue, None, OnOk, ◌≡◌, ◌++◌};
 ghost use Rattle.cat_model.specs.Changed.{keys_of, changed_keys};
 ghost use Rattle.cat_model.specs.Maps.{IsMap, entry_of};
+ghost use Rattle.cat_keymap.specs.Ordered.{rise};
 ghost use Rattle.cat_keymap.specs.Walking;
 ghost use Rattle.cat_keymap.specs.Places;
 
@@ -71,7 +72,7 @@ fn walked(
 }
 
 /// The keys whose entries differ, ascending.
-#[tactic(auto, using(crate::proofs::Walks::walk_is))]
+#[tactic(auto, using(crate::proofs::Walks::walk_is, crate::proofs::Walks::walk_rises))]
 pub(crate) fn changed(
     alloc: Global,
     a: &[(ContentKey, Entry)],
@@ -79,7 +80,8 @@ pub(crate) fn changed(
 ) -> Result<Seq<ContentKey>, NoMemory>
     requires a { IsMap a.now }
     requires b { IsMap b.now }
-    ensures { IfOk result (λ keys. keys ≡ changed_keys a.now b.now) }
+    ensures exact { IfOk result (λ keys. keys ≡ changed_keys a.now b.now) }
+    ensures ascend { IfOk result (λ keys. IsTrue (rise None keys)) }
 {
     walked(alloc, a, b)
 }

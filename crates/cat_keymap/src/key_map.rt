@@ -1,12 +1,13 @@
 //! Maps from content keys to entries.
 
-ghost use Rattle.std.specs.Prelude.{IfOk, IsTrue, ◌≡◌, [], length};
+ghost use Rattle.std.specs.Prelude.{IfOk, IsTrue, ◌≡◌, [], None, length};
 ghost use Rattle.std.specs.Option.{option_map};
 ghost use Rattle.cat_model.specs.Changed.{changed_keys};
 ghost use Rattle.cat_model.specs.Distinct.{are_distinct};
 ghost use Rattle.cat_model.specs.Judge.{changes_of};
 ghost use Rattle.cat_model.specs.Maps.{IsMap, entry_of, after_changes};
 ghost use Rattle.cat_model.specs.Namespaces;
+ghost use Rattle.cat_keymap.specs.Ordered.{rise};
 ghost use Rattle.cat_keymap.specs.Shared.{shared};
 ghost use Rattle.cat_keymap.specs.Parents;
 ghost use Rattle.cat_keymap.specs.Parts;
@@ -149,7 +150,8 @@ impl KeyMap {
 
     /// The keys whose entries differ in another map, ascending.
     pub fn changed(&self, alloc: Global, other: &KeyMap) -> Result<Seq<ContentKey>, NoMemory>
-        ensures { IfOk result (λ keys. keys ≡ changed_keys self.now other.now) }
+        ensures exact { IfOk result (λ keys. keys ≡ changed_keys self.now other.now) }
+        ensures ascend { IfOk result (λ keys. IsTrue (rise None keys)) }
     {
         self.known();
         other.known();

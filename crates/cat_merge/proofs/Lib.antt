@@ -1,0 +1,4 @@
+mod Searched
+mod Made
+mod Kept
+mod Passing
