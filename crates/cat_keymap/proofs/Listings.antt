@@ -1,41 +1,18 @@
--- What a listing has after a key.
-use Rattle.std.proofs.Common.{◌≡◌, [], ◌∷◌, Option, Some, None, Bool, true, false, refl, sym, ap, ◌∙◌}
+-- What a listing has in the range of a page.
+use Rattle.std.proofs.Common.{◌≡◌, [], ◌∷◌, Option, Some, None, Bool, true, false, ◌&&◌, ◌||◌, refl, sym, ap, ◌∙◌}
 use Rattle.std.specs.Prelude.{filter}
-use Rattle.std.specs.Ordering.{is_lt, ordering_reverse}
-use Rattle.std.specs.Cmp.{tied_back}
-use Rattle.std.specs.declared.cmp.Ordering.TheVariants.{Less, Equal, Greater}
-use Rattle.cat_codes.specs.Code.{ascends}
+use Rattle.std.specs.Option.{option_map_or}
+use Rattle.std.specs.Ordering.{is_le}
+use Rattle.cat_codes.specs.Code.{follows}
 use Rattle.cat_names.specs.Fields.{Key, key_cmp}
 use Rattle.cat_model.specs.declared.entry.Entry.{Entry}
 use Rattle.cat_model.specs.declared.filter.Filter.{Filter}
-use Rattle.cat_model.specs.Listing.{passes, listing, entries_after}
-use Rattle.cat_model.specs.Maps.{Map, IsMap}
-use Rattle.cat_keymap.specs.KeyOrder.{key_total, less_is, split3, head_tail, ascends_any}
-use Rattle.cat_keymap.specs.Places.{above}
-
--- all pairs of a map that begins above a key come after it
-all_after : (key y : Key) (map : Map) → key_cmp key y ≡ Less → ascends key_cmp (Some y) map ≡ true → filter (λ x. is_lt (key_cmp key x.0)) map ≡ map
-all_after key y [] lt up = refl
-all_after key y (z ∷ map) lt up =
-    let t = head_tail (Some y) z map up in
-    let first : key_cmp key z.0 ≡ Less = key_total.trans key y z.0 lt (less_is _ t.0) in
-    rw first (ap (λ (m : Map). z ∷ m) (all_after key z.0 map first t.1))
-
-all_past : (key y : Key) (map : Map) → key_cmp y key ≡ Equal → ascends key_cmp (Some y) map ≡ true → filter (λ x. is_lt (key_cmp key x.0)) map ≡ map
-all_past key y [] e up = refl
-all_past key y (z ∷ map) e up =
-    let t = head_tail (Some y) z map up in
-    let first : key_cmp key z.0 ≡ Less = sym (key_total.congr y key z.0 e) ∙ less_is _ t.0 in
-    rw first (ap (λ (m : Map). z ∷ m) (all_after key z.0 map first t.1))
-
-pub above_is : (map : Map) (key : Key) → IsMap map → above map key ≡ filter (λ x. is_lt (key_cmp key x.0)) map
-above_is [] key up = refl
-above_is (x ∷ map) key up =
-    let t = (head_tail None x map up).1 in
-    split3 (key_cmp x.0 key)
-    (λ e. let back : key_cmp key x.0 ≡ Greater = key_total.antisymm key x.0 ∙ ap ordering_reverse e in rw (e, back) (above_is map key (ascends_any x.0 map t)))
-    (λ e. let back : key_cmp key x.0 ≡ Equal = tied_back key_total x.0 key e in rw (e, back) (sym (all_past key x.0 map e t)))
-    (λ e. let back : key_cmp key x.0 ≡ Less = key_total.antisymm key x.0 ∙ ap ordering_reverse e in rw (e, back) (ap (λ (m : Map). x ∷ m) (sym (all_after key x.0 map back t))))
+use Rattle.cat_model.specs.Keys.{begins_with}
+use Rattle.cat_model.specs.Listing.{passes, is_one_of, listing, entries_after}
+use Rattle.cat_model.specs.Maps.{Map}
+use Rattle.cat_keymap.specs.KeyOrder.{both_true, and_true}
+use Rattle.cat_keymap.specs.Range.{may_have_prefix, has_begun, goes_on, from_begin, within}
+use Rattle.cat_keymap.proofs.Within.{begins_after}
 
 either_way : (p q : Key × Entry → Bool) (map : Map) → filter p (filter q map) ≡ filter q (filter p map)
 either_way p q [] = refl
@@ -47,7 +24,51 @@ either_way p q (x ∷ map) = by (either_way p q map) (p x) (q x) refl refl
     by rest false true e h = rw (h, e) rest
     by rest false false e h = rw (h, e) rest
 
--- the listing of what is after a key is what the listing has after it
-pub after_listing : (map : Map) (f : Filter) (after : Option Key) → listing (entries_after map after) f ≡ entries_after (listing map f) after
-after_listing map f None = refl
-after_listing map f (Some key) = either_way (λ x. passes f x.0) (λ x. is_lt (key_cmp key x.0)) map
+-- ---- a key that passes is in the range, if it comes after the key that is given
+
+prefix_begun : (prefix : Option Key) (key : Key) → option_map_or (λ prefix. begins_with key prefix) prefix true ≡ true → option_map_or (λ prefix. is_le (key_cmp prefix key)) prefix true ≡ true
+prefix_begun None key e = refl
+prefix_begun (Some prefix) key e = begins_after prefix key e
+
+or_true : (a b : Bool) → b ≡ true → (a || b) ≡ true
+or_true true b e = refl
+or_true false b e = e
+
+prefix_goes_on : (prefix : Option Key) (key : Key) → option_map_or (λ prefix. begins_with key prefix) prefix true ≡ true → may_have_prefix prefix key ≡ true
+prefix_goes_on None key e = refl
+prefix_goes_on (Some prefix) key e = or_true (is_le (key_cmp key prefix)) _ e
+
+pub record InRange (f : Filter) (after : Option Key) (key : Key) : Type 0 where
+  pub begun : has_begun f after key ≡ follows key_cmp after key
+  pub on : goes_on f key ≡ true
+
+passes_in : (f : Filter) (after : Option Key) (key : Key) → passes f key ≡ true → InRange f after key
+passes_in f after key e =
+    let prefixed = and_true _ (is_one_of f.keys key) e in
+    let bounded = and_true _ (option_map_or (λ prefix. begins_with key prefix) f.prefix true) prefixed.0 in
+    let ends = and_true (option_map_or (λ min. is_le (key_cmp min key)) f.min true) (option_map_or (λ max. is_le (key_cmp key max)) f.max true) bounded.0 in
+    record { begun = rw (ends.0, prefix_begun f.prefix key bounded.1) refl; on = both_true _ _ ends.1 (prefix_goes_on f.prefix key bounded.1) }
+
+-- ---- so the range has all of the page
+
+after_is : (map : Map) (after : Option Key) → filter (λ x. follows key_cmp after x.0) map ≡ entries_after map after
+after_is [] None = refl
+after_is (x ∷ map) None = ap (λ (m : Map). x ∷ m) (after_is map None)
+after_is map (Some key) = refl
+
+kept : (map : Map) (f : Filter) (after : Option Key) → within (listing map f) f after ≡ filter (λ x. follows key_cmp after x.0) (listing map f)
+kept [] f after = refl
+kept (x ∷ map) f after = by (kept map f after) (passes f x.0) (follows key_cmp after x.0) refl refl
+  where
+    by : within (listing map f) f after ≡ filter (λ x. follows key_cmp after x.0) (listing map f) → (a b : Bool) → passes f x.0 ≡ a → follows key_cmp after x.0 ≡ b
+        → within (listing (x ∷ map) f) f after ≡ filter (λ x. follows key_cmp after x.0) (listing (x ∷ map) f)
+    by rest false b e h = rw e rest
+    by rest true true e h = let there = passes_in f after x.0 e in rw e (rw (there.begun, h) (rw there.on (ap (λ (m : Map). x ∷ m) rest)))
+    by rest true false e h = let there = passes_in f after x.0 e in rw e (rw (there.begun, h) rest)
+
+-- the listing of the range is what the listing has after the key
+pub in_range : (map : Map) (f : Filter) (after : Option Key) → listing (within map f after) f ≡ entries_after (listing map f) after
+in_range map f after =
+    either_way (λ x. passes f x.0) (λ x. goes_on f x.0) (from_begin map f after)
+    ∙ ap (filter (λ x. goes_on f x.0)) (either_way (λ x. passes f x.0) (λ x. has_begun f after x.0) map)
+    ∙ kept map f after ∙ after_is (listing map f) after

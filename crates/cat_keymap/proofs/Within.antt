@@ -3,9 +3,9 @@ use Rattle.std.proofs.Common.{◌≡◌, ℕ, suc, ◌-◌, ◌<◌, List, take,
 use Rattle.std.specs.Prelude.{not}
 use Rattle.std.specs.Str.{bytes_eq}
 use Rattle.std.specs.List.{starts_with}
-use Rattle.std.specs.Ordering.{is_lt, is_eq, nat_cmp, ordering_reverse}
+use Rattle.std.specs.Ordering.{is_lt, is_le, is_eq, nat_cmp, ordering_reverse}
 use Rattle.std.specs.Cmp.{tied_itself, tied_back}
-use Rattle.std.specs.Cmp.Lexicographic.{pointwise, slice_cmp, nat_list_eq_equiv, nat_list_cmp_total, same_text, texts_ties}
+use Rattle.std.specs.Cmp.Lexicographic.{pointwise, slice_cmp, nat_list_eq_equiv, nat_list_cmp_total, same_text, texts_ties, lists_ties}
 use Rattle.std.specs.declared.cmp.Ordering.{Ordering}
 use Rattle.std.specs.declared.cmp.Ordering.TheVariants.{Less, Equal, Greater}
 use Rattle.cat_codes.specs.Code.{ascends}
@@ -60,21 +60,32 @@ child_after (x ∷ xs) (y ∷ ys) e =
     let tied : slice_cmp nat_cmp y x ≡ Equal = rw same (tied_itself nat_list_cmp_total y) in
     rw tied (child_after xs ys a.1)
 
--- what stands between a key and a child of it is a child
-between : (key mid child : Key) → key_cmp key mid ≡ Less → key_cmp mid child ≡ Less → proper key child ≡ true → proper key mid ≡ true
-unfolding proper
-between [] [] child h g e = absurd cc
-between [] (b ∷ bs) child h g e = refl
-between (x ∷ xs) [] child h g e = absurd cc
+-- a key comes no earlier than one that it begins with
+pub begins_after : (front key : Key) → begins_with key front ≡ true → is_le (key_cmp front key) ≡ true
+begins_after [] [] e = refl
+begins_after [] (y ∷ ys) e = refl
+begins_after (x ∷ xs) [] e = absurd cc
+begins_after (x ∷ xs) (y ∷ ys) e =
+    let a = and_true (bytes_eq y x) (begins_with ys xs) e in
+    let same : y ≡ x = same_text y x (sym a.0) in
+    let tied : slice_cmp nat_cmp x y ≡ Equal = rw same (tied_itself nat_list_cmp_total x) in
+    rw tied (begins_after xs ys a.1)
+
+-- what stands between a key and one that begins with it begins with it too
+pub between : (key mid other : Key) → key_cmp key mid ≡ Less → key_cmp mid other ≡ Less → begins_with other key ≡ true → begins_with mid key ≡ true
+between [] [] other h g e = absurd cc
+between [] (b ∷ bs) other h g e = refl
+between (x ∷ xs) [] other h g e = absurd cc
 between (x ∷ xs) (b ∷ bs) [] h g e = absurd cc
 between (x ∷ xs) (b ∷ bs) (d ∷ ds) h g e =
-    let a = and_true (pointwise nat_eq x d) (proper xs ds) e in
-    let same : x ≡ d = same_text x d (sym a.0) in
+    let a = and_true (bytes_eq d x) (begins_with ds xs) e in
+    let same : x ≡ d = sym (same_text d x (sym a.0)) in
     split3 (slice_cmp nat_cmp x b)
     (λ o. let back : slice_cmp nat_cmp b d ≡ Greater = rw (← same) (nat_list_cmp_total.antisymm b x ∙ ap ordering_reverse o) in
     let bad : Greater ≡ Less = rw back at g in absurd cc)
-    (λ o. let tied : slice_cmp nat_cmp b d ≡ Equal = rw (← same) (tied_back nat_list_cmp_total x b o) in
-    both_true _ _ (texts_ties x b ∙ ap is_eq o) (between xs bs ds (rw o at h) (rw tied at g) a.1))
+    (λ o. let back : slice_cmp nat_cmp b x ≡ Equal = tied_back nat_list_cmp_total x b o in
+    let tied : slice_cmp nat_cmp b d ≡ Equal = rw (← same) back in
+    both_true _ _ (texts_ties b x ∙ ap is_eq back) (between xs bs ds (rw o at h) (rw tied at g) a.1))
     (λ o. let bad : Greater ≡ Less = rw o at h in absurd cc)
 
 no_child : (key other : Key) (o : Ordering) → key_cmp other key ≡ o → (o ≡ Greater → ⊥) → is_child other key ≡ false
@@ -107,8 +118,10 @@ none_later key y (z ∷ map) lt e up =
     by : (b : Bool) → is_child z.0 key ≡ b → is_child z.0 key ≡ false
     by false h = h
     by true h =
-        let mid = between key y z.0 lt (less_is _ (head_tail (Some y) z map up).0) (sym (is_proper key z.0) ∙ h) in
-        let yes = is_proper key y ∙ mid in absurd cc
+        let inside = and_true (begins_with z.0 key) (not (same_key z.0 key)) h in
+        let mid : begins_with y key ≡ true = between key y z.0 lt (less_is _ (head_tail (Some y) z map up).0) inside.0 in
+        let apart : same_key y key ≡ false = lists_ties (slice_cmp nat_cmp) texts_ties y key ∙ ap is_eq (key_total.antisymm y key ∙ ap ordering_reverse lt) in
+        let yes : is_child y key ≡ true = both_true _ _ mid (ap not apart) in absurd cc
 
 -- the pairs above a key ascend above it
 pub above_ascends : (map : Map) (key : Key) → IsMap map → ascends key_cmp (Some key) (above map key) ≡ true

@@ -5,6 +5,7 @@ pub mod Shared
 pub mod Parents
 pub mod Ordered
 pub mod Parts
+pub mod Range
 pub mod MapsAt
 pub mod Walking
 pub mod Unlike

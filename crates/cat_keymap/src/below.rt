@@ -56,7 +56,8 @@ pub(crate) fn front_of(pairs: &[(ContentKey, Entry)], n: usize) -> &[(ContentKey
     &pairs[..n]
 }
 
-fn rest_of(pairs: &[(ContentKey, Entry)], n: usize) -> &[(ContentKey, Entry)]
+/// The pairs from a place on.
+pub(crate) fn rest_of(pairs: &[(ContentKey, Entry)], n: usize) -> &[(ContentKey, Entry)]
     requires { n ≤ length pairs.now }
     ensures { result.now ≡ drop n pairs.now }
 {

@@ -13,3 +13,4 @@ pub mod key_map;
 pub mod listing;
 pub mod maps;
 pub mod order;
+mod range;

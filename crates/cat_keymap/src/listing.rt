@@ -3,16 +3,14 @@
 ghost use Rattle.std.specs.Prelude.{IfOk, ◌≡◌, true};
 ghost use Rattle.std.specs.List.{list_any};
 ghost use Rattle.std.specs.Option.{option_map, option_map_or};
-ghost use Rattle.std.specs.Ordering.{is_le};
-ghost use Rattle.cat_names.specs.Fields.{key_cmp};
 ghost use Rattle.cat_model.specs.Keys.{begins_with};
 ghost use Rattle.cat_model.specs.Listing;
 ghost use Rattle.cat_model.specs.Maps.{IsMap};
 ghost use Rattle.cat_model.specs.Same.{same_key};
 ghost use Rattle.cat_keymap.specs.Parts;
 
-use crate::below::{above, place};
 use crate::children;
+use crate::range::{is_from, is_up_to, within};
 use cat_codes::fault::NoMemory;
 use cat_codes::seq::Seq;
 use cat_model::entry::Entry;
@@ -26,24 +24,6 @@ pub struct ListingPart {
     pub pairs: Seq<(ContentKey, Entry)>,
     /// Whether the listing goes on after them.
     pub more: bool,
-}
-
-fn is_from(min: &Option<ContentKey>, key: &ContentKey) -> bool
-    ensures { result ≡ option_map_or (λ min. is_le (key_cmp min key.now)) min.now true }
-{
-    match min {
-        None => true,
-        Some(min) => min.cmp(key).is_le(),
-    }
-}
-
-fn is_up_to(max: &Option<ContentKey>, key: &ContentKey) -> bool
-    ensures { result ≡ option_map_or (λ max. is_le (key_cmp key.now max)) max.now true }
-{
-    match max {
-        None => true,
-        Some(max) => key.cmp(max).is_le(),
-    }
 }
 
 fn has_prefix(prefix: &Option<ContentKey>, key: &ContentKey) -> bool
@@ -80,21 +60,6 @@ fn passes(filter: &Filter, key: &ContentKey) -> bool
         && is_one_of(filter.keys.as_slice(), key)
 }
 
-/// The pairs after a key, or all.
-#[tactic(auto, using(crate::proofs::Listings::above_is))]
-fn pairs_after<'a>(
-    pairs: &'a [(ContentKey, Entry)],
-    after: Option<&ContentKey>,
-) -> &'a [(ContentKey, Entry)]
-    requires { IsMap pairs.now }
-    ensures { result.now ≡ Listing.entries_after pairs.now (option_map (λ key. key.now) after.entry) }
-{
-    match after {
-        None => pairs,
-        Some(key) => above(pairs, place(pairs, key.elements()), key.elements()),
-    }
-}
-
 fn first_part(
     alloc: Global,
     filter: &Filter,
@@ -122,7 +87,7 @@ fn first_part(
 }
 
 /// At most so many of the pairs that pass the filter, after a key.
-#[tactic(auto, using(crate::proofs::Listings::after_listing))]
+#[tactic(auto, using(crate::proofs::Listings::in_range))]
 pub(crate) fn part(
     alloc: Global,
     pairs: &[(ContentKey, Entry)],
@@ -133,5 +98,5 @@ pub(crate) fn part(
     requires { IsMap pairs.now }
     ensures { IfOk result (λ part. part ≡ Parts.part pairs.now filter.now (option_map (λ key. key.now) after.entry) limit) }
 {
-    first_part(alloc, filter, limit, pairs_after(pairs, after))
+    first_part(alloc, filter, limit, within(pairs, filter, after))
 }
