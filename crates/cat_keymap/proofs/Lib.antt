@@ -7,3 +7,4 @@ pub mod Sorting
 pub mod KeyLists
 pub mod Walks
 pub mod Twice
+pub mod LookUps

@@ -1,5 +1,5 @@
 -- What a listing has in the range of a page.
-use Rattle.std.proofs.Common.{◌≡◌, [], ◌∷◌, Option, Some, None, Bool, true, false, ◌&&◌, ◌||◌, refl, sym, ap, ◌∙◌}
+use Rattle.std.proofs.Common.{◌≡◌, ◌≤◌, arith, List, length, [], ◌∷◌, Option, Some, None, Bool, true, false, ◌&&◌, ◌||◌, refl, sym, ap, ◌∙◌}
 use Rattle.std.specs.Prelude.{filter}
 use Rattle.std.specs.Option.{option_map_or}
 use Rattle.std.specs.Ordering.{is_le}
@@ -11,7 +11,7 @@ use Rattle.cat_model.specs.Keys.{begins_with}
 use Rattle.cat_model.specs.Listing.{passes, is_one_of, listing, entries_after}
 use Rattle.cat_model.specs.Maps.{Map}
 use Rattle.cat_keymap.specs.KeyOrder.{both_true, and_true}
-use Rattle.cat_keymap.specs.Range.{may_have_prefix, has_begun, goes_on, from_begin, within}
+use Rattle.cat_keymap.specs.Range.{may_have_prefix, has_begun, goes_on, from_begin, within, is_among, named}
 use Rattle.cat_keymap.proofs.Within.{begins_after}
 
 either_way : (p q : Key × Entry → Bool) (map : Map) → filter p (filter q map) ≡ filter q (filter p map)
@@ -72,3 +72,23 @@ in_range map f after =
     either_way (λ x. passes f x.0) (λ x. goes_on f x.0) (from_begin map f after)
     ∙ ap (filter (λ x. goes_on f x.0)) (either_way (λ x. passes f x.0) (λ x. has_begun f after x.0) map)
     ∙ kept map f after ∙ after_is (listing map f) after
+
+-- ---- where the filter names keys, no others pass
+
+one_of_is : (keys : List Key) (key : Key) → 1 ≤ length keys → is_one_of keys key ≡ is_among keys key
+one_of_is [] key le = absurd (omega arith)
+one_of_is (first ∷ keys) key le = refl
+
+passes_named : (f : Filter) (key : Key) → 1 ≤ length f.keys → passes f key ≡ true → is_among f.keys key ≡ true
+passes_named f key le e = sym (one_of_is f.keys key le) ∙ (and_true _ (is_one_of f.keys key) e).1
+
+-- the listing of the named pairs is the whole
+pub named_listing : (map : Map) (f : Filter) → 1 ≤ length f.keys → listing (named f.keys map) f ≡ listing map f
+named_listing [] f le = refl
+named_listing (x ∷ map) f le = by (named_listing map f le) (passes f x.0) (is_among f.keys x.0) refl refl
+  where
+    by : listing (named f.keys map) f ≡ listing map f → (a b : Bool) → passes f x.0 ≡ a → is_among f.keys x.0 ≡ b → listing (named f.keys (x ∷ map)) f ≡ listing (x ∷ map) f
+    by rest true true e h = rw (h, e) (ap (λ (m : Map). x ∷ m) rest)
+    by rest true false e h = let there = passes_named f x.0 le e in absurd cc
+    by rest false true e h = rw (h, e) rest
+    by rest false false e h = rw (h, e) rest

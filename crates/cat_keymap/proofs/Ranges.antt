@@ -12,7 +12,7 @@ use Rattle.cat_model.specs.declared.filter.Filter.{Filter}
 use Rattle.cat_model.specs.Keys.{begins_with}
 use Rattle.cat_model.specs.Maps.{Map, IsMap}
 use Rattle.cat_keymap.specs.KeyOrder.{key_total, less_is, split3, both_true, and_true, below_alike, head_tail, ascends_any, ascends_lower, all_above}
-use Rattle.cat_keymap.specs.Range.{may_have_prefix, has_begun, goes_on, from_begin}
+use Rattle.cat_keymap.specs.Range.{may_have_prefix, has_begun, goes_on, from_begin, within}
 use Rattle.cat_keymap.proofs.Within.{between}
 
 -- ---- a search by a test that passes up to some key
@@ -126,3 +126,6 @@ filter_ascends p last (x ∷ map) up = by (head_tail last x map up).0 (filter_as
 
 pub IsMap_from_begin : (map : Map) (f : Filter) (after : Option Key) → IsMap map → IsMap (from_begin map f after)
 IsMap_from_begin map f after up = filter_ascends (λ x. has_begun f after x.0) None map up
+
+pub IsMap_within : (map : Map) (f : Filter) (after : Option Key) → IsMap map → IsMap (within map f after)
+IsMap_within map f after up = filter_ascends (λ x. goes_on f x.0) None (from_begin map f after) (IsMap_from_begin map f after up)

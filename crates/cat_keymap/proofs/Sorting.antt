@@ -16,9 +16,9 @@ use Rattle.cat_model.specs.Distinct.{are_distinct}
 use Rattle.cat_model.specs.Judge.{op_key, op_changes, with_op, by_key}
 use Rattle.cat_model.specs.Same.{same_key}
 use Rattle.cat_keymap.specs.KeyOrder.{key_total, less_is, both_true, and_true, ascends_lower}
-use Rattle.cat_keymap.specs.Ordered.{values, rise, are_ordered}
+use Rattle.cat_keymap.specs.Ordered.{no_fall, climbs, values, rise, are_ordered}
 use Rattle.cat_keymap.specs.Unlike.{unlike}
-use Rattle.cat_keymap.proofs.Twice.{no_fall, climbs, climbing, neighbours, distinct_is}
+use Rattle.cat_keymap.proofs.Twice.{climbing, neighbours, distinct_is}
 
 same_is : (a b : Key) → same_key a b ≡ is_eq (key_cmp a b)
 same_is a b = lists_ties (slice_cmp nat_cmp) texts_ties a b

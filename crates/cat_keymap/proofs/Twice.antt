@@ -17,6 +17,7 @@ use Rattle.cat_model.specs.Judge.{op_key}
 use Rattle.cat_model.specs.Same.{same_key, same_id}
 use Rattle.cat_model.specs.WellMade.{ids_differ}
 use Rattle.cat_keymap.specs.KeyOrder.{less_is, equal_is, split3, both_true, and_true}
+use Rattle.cat_keymap.specs.Ordered.{no_fall, climbs}
 use Rattle.cat_keymap.specs.Unlike.{unlike}
 
 not_true : (b : Bool) → not b ≡ true → b ≡ false
@@ -30,16 +31,6 @@ neither true b e = absurd cc
 by_test : {P : Type 0} (b : Bool) → (b ≡ true → P) → (b ≡ false → P) → P
 by_test true f g = f refl
 by_test false f g = g refl
-
--- ---- lists that don't fall
-
-abbrev pub no_fall : {K : Type 0} → (K → K → Ordering) → Option K → K → Bool
-no_fall cmp None k = true
-no_fall cmp (Some last) k = not (is_lt (cmp k last))
-
-abbrev pub climbs : {K : Type 0} → (K → K → Ordering) → Option K → List K → Bool
-climbs cmp last [] = true
-climbs cmp last (x ∷ xs) = no_fall cmp last x && climbs cmp (Some x) xs
 
 -- ---- how many elements are like one
 
@@ -185,7 +176,7 @@ module _ {K : Type 0} (cmp : K → K → Ordering) (total : IsTotalOrder cmp) wh
             → is_lt (cmp (f (get_or (y ∷ ys) (k + 1) d)) (f (get_or (y ∷ ys) k d))) ≡ false
         later k d e = let n : suc k + 1 ≡ suc (k + 1) = omega arith in subst (λ (n : ℕ). is_lt (cmp (f (get_or (x ∷ y ∷ ys) n d)) (f (get_or (y ∷ ys) k d))) ≡ false) n e
 
-    sorted_climbs : (xs : List A) → IsSortedByKey f cmp xs → climbs cmp None (map f xs) ≡ true
+    pub sorted_climbs : (xs : List A) → IsSortedByKey f cmp xs → climbs cmp None (map f xs) ≡ true
     sorted_climbs [] up = refl
     sorted_climbs (x ∷ xs) up = sorted_from x xs up
 

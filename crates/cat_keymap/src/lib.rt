@@ -12,5 +12,6 @@ pub mod distinct;
 pub mod key_map;
 pub mod listing;
 pub mod maps;
+mod named;
 pub mod order;
 mod range;

@@ -10,6 +10,7 @@ ghost use Rattle.cat_model.specs.Same.{same_key};
 ghost use Rattle.cat_keymap.specs.Parts;
 
 use crate::children;
+use crate::named::named_pairs;
 use crate::range::{is_from, is_up_to, within};
 use cat_codes::fault::NoMemory;
 use cat_codes::seq::Seq;
@@ -86,8 +87,27 @@ fn first_part(
     })
 }
 
+/// Where the filter names keys, these are looked up.
+fn chosen_part(
+    alloc: Global,
+    filter: &Filter,
+    limit: u32,
+    pairs: &[(ContentKey, Entry)],
+) -> Result<ListingPart, NoMemory>
+    requires { IsMap pairs.now }
+    ensures { IfOk result (λ part. part ≡ Parts.first_part limit (Listing.listing pairs.now filter.now)) }
+{
+    match filter.keys.as_slice() {
+        [] => first_part(alloc, filter, limit, pairs),
+        keys => {
+            let named = named_pairs(alloc, pairs, keys)?;
+            first_part(alloc, filter, limit, named.as_slice())
+        }
+    }
+}
+
 /// At most so many of the pairs that pass the filter, after a key.
-#[tactic(auto, using(crate::proofs::Listings::in_range))]
+#[tactic(auto, using(crate::proofs::Listings::in_range, crate::proofs::Ranges::IsMap_within))]
 pub(crate) fn part(
     alloc: Global,
     pairs: &[(ContentKey, Entry)],
@@ -98,5 +118,5 @@ pub(crate) fn part(
     requires { IsMap pairs.now }
     ensures { IfOk result (λ part. part ≡ Parts.part pairs.now filter.now (option_map (λ key. key.now) after.entry) limit) }
 {
-    first_part(alloc, filter, limit, within(pairs, filter, after))
+    chosen_part(alloc, filter, limit, within(pairs, filter, after))
 }
