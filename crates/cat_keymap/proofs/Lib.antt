@@ -1,6 +1,7 @@
 pub mod Found
 pub mod Changes
 pub mod Within
+pub mod Searches
 pub mod Ranges
 pub mod Listings
 pub mod Sorting

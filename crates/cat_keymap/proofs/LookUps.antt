@@ -1,11 +1,10 @@
 -- The pairs of keys that are looked up one after another.
-use Rattle.std.proofs.Common.{◌≡◌, ℕ, suc, ◌+◌, ◌<◌, ◌≤◌, List, [], ◌∷◌, ◌++◌, length, get_or, drop, map, Option, Some, None, Bool, true, false, not, ◌||◌, cond, refl, sym, ap, subst, ◌∙◌, arith, append_assoc, drop-cons}
+use Rattle.std.proofs.Common.{◌≡◌, ℕ, suc, ◌+◌, ◌<◌, ◌≤◌, List, [], ◌∷◌, ◌++◌, length, get_or, drop, map, Some, None, Bool, true, false, not, ◌||◌, cond, refl, sym, ap, subst, ◌∙◌, arith, append_assoc, drop-cons}
 use Rattle.std.specs.Prelude.{filter}
 use Rattle.std.specs.List.Sorted.{IsPermutation}
 use Rattle.std.specs.Cmp.{tied_back}
-use Rattle.std.specs.Cmp.Lexicographic.{slice_cmp, lists_ties, texts_ties}
-use Rattle.std.specs.Ordering.{is_lt, is_eq, nat_cmp, ordering_reverse}
-use Rattle.std.specs.declared.cmp.Ordering.TheVariants.{Less, Equal, Greater}
+use Rattle.std.specs.Ordering.{is_lt, is_eq, ordering_reverse}
+use Rattle.std.specs.declared.cmp.Ordering.TheVariants.{Less}
 use Rattle.std.proofs.lemmas.List.{append-nil, drop_all}
 use Rattle.std.proofs.lemmas.List.Sorted.{list_any-IsPermutation}
 use Rattle.cat_codes.specs.Code.{ascends}
@@ -18,9 +17,7 @@ use Rattle.cat_keymap.specs.MapLaws.{entry_is, none_above, key_same}
 use Rattle.cat_keymap.specs.Ordered.{no_fall, climbs}
 use Rattle.cat_keymap.specs.Places.{above}
 use Rattle.cat_keymap.specs.Range.{is_among, named}
-
-same_is : (a b : Key) → same_key a b ≡ is_eq (key_cmp a b)
-same_is a b = lists_ties (slice_cmp nat_cmp) texts_ties a b
+use Rattle.cat_keymap.proofs.Sorting.{same_is}
 
 -- the order of the keys is nothing to the pairs
 pub permuted : (xs ys : List Key) (map : Map) → IsPermutation xs ys → named ys map ≡ named xs map

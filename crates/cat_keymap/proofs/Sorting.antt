@@ -20,7 +20,7 @@ use Rattle.cat_keymap.specs.Ordered.{no_fall, climbs, values, rise, are_ordered}
 use Rattle.cat_keymap.specs.Unlike.{unlike}
 use Rattle.cat_keymap.proofs.Twice.{climbing, neighbours, distinct_is}
 
-same_is : (a b : Key) → same_key a b ≡ is_eq (key_cmp a b)
+pub same_is : (a b : Key) → same_key a b ≡ is_eq (key_cmp a b)
 same_is a b = lists_ties (slice_cmp nat_cmp) texts_ties a b
 
 keys_of : (rs : List (Bor Op)) → map op_key (values rs) ≡ map (λ r. op_key r.now) rs

@@ -1,5 +1,5 @@
 -- The order of keys, and lists of pairs that ascend by them.
-use Rattle.std.proofs.Common.{◌≡◌, ℕ, zero, suc, ◌<◌, ◌≤◌, List, [], ◌∷◌, length, get_or, drop, Option, Some, None, Bool, true, false, ◌&&◌, refl, sym, ap, ◌∙◌, arith}
+use Rattle.std.proofs.Common.{◌≡◌, ℕ, zero, suc, ◌<◌, List, [], ◌∷◌, length, get_or, drop, Option, Some, None, Bool, true, false, ◌&&◌, refl, sym, ap, ◌∙◌, arith}
 use Rattle.std.specs.Ordering.{is_lt, is_eq, ordering_reverse}
 use Rattle.std.specs.Cmp.{IsTotalOrder, nat_cmp_total}
 use Rattle.std.specs.Cmp.Lexicographic.{lists_total}
@@ -74,13 +74,3 @@ module _ {V : Type 0} where
   ascends_drop zero map up = up
   ascends_drop (suc n) [] up = refl
   ascends_drop (suc n) (x ∷ map) up = ascends_drop n map (ascends_any x.0 map (head_tail None x map up).1)
-
-  -- the keys below a key come before the others
-  pub parted : (key : Key) (map : List (Key × V)) → ascends key_cmp None map ≡ true → (i j : ℕ) (d : Key × V) → i ≤ j → j < length map → is_lt (key_cmp (get_or map j d).0 key) ≡ true → is_lt (key_cmp (get_or map i d).0 key) ≡ true
-  parted key [] up i j d le lt h = absurd (omega arith)
-  parted key (x ∷ map) up zero zero d le lt h = h
-  parted key (x ∷ map) up zero (suc j) d le lt h =
-      let first = all_above x.0 map j d (head_tail None x map up).1 (omega arith) in
-      ap is_lt (key_total.trans x.0 (get_or map j d).0 key first (less_is _ h))
-  parted key (x ∷ map) up (suc i) zero d le lt h = absurd (omega arith)
-  parted key (x ∷ map) up (suc i) (suc j) d le lt h = parted key map (ascends_any x.0 map (head_tail None x map up).1) i j d (omega arith) (omega arith) h

@@ -67,7 +67,6 @@ fn looked_up(
 }
 
 /// The pairs of these keys, in the order of the pairs.
-#[tactic(auto, using(crate::proofs::LookUps::permuted))]
 pub(crate) fn named_pairs(
     alloc: Global,
     pairs: &[(ContentKey, Entry)],

@@ -1,5 +1,5 @@
-//! The pairs among which a page is sought: none before them and none past them passes the filter,
-//! or comes after the key after which the page goes on.
+//! The range of a map in which a page lies: it leaves out keys at the front and at the end that do
+//! not pass the filter, or that come no later than the key after which the page goes on.
 
 ghost use Rattle.std.specs.Prelude.{◌≡◌, true, filter};
 ghost use Rattle.std.specs.Option.{option_map, option_map_or};
@@ -88,7 +88,7 @@ fn up_to_end<'a>(pairs: &'a [(ContentKey, Entry)], filter: &Filter) -> &'a [(Con
     front_of(pairs, at)
 }
 
-/// The pairs of the range, found by two searches.
+/// The pairs of the range. Two searches find it.
 #[tactic(auto, using(crate::proofs::Ranges::IsMap_from_begin))]
 pub(crate) fn within<'a>(
     pairs: &'a [(ContentKey, Entry)],

@@ -4,7 +4,8 @@ use Rattle.std.proofs.lemmas.List.Sorted.{IsPartitionPoint-from_clause}
 use Rattle.cat_names.specs.Fields.{Key}
 use Rattle.cat_model.specs.declared.entry.Entry.{Entry}
 use Rattle.cat_keymap.specs.Range.{has_begun}
-use Rattle.cat_keymap.proofs.Ranges.{parted_by, last_fail, not_begun_falls}
+use Rattle.cat_keymap.proofs.Ranges.{not_begun_falls}
+use Rattle.cat_keymap.proofs.Searches.{parted_by, last_fail}
 use Rattle.cat_keymap.proofs.range.from_begin.Goals as goal
 
 pub returns : goal.returns

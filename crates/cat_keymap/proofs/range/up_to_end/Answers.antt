@@ -3,7 +3,8 @@ use Rattle.std.proofs.lemmas.List.Sorted.{IsPartitionPoint-from_clause}
 use Rattle.cat_names.specs.Fields.{Key}
 use Rattle.cat_model.specs.declared.entry.Entry.{Entry}
 use Rattle.cat_keymap.specs.Range.{goes_on}
-use Rattle.cat_keymap.proofs.Ranges.{parted_by, first_pass, goes_on_falls}
+use Rattle.cat_keymap.proofs.Ranges.{goes_on_falls}
+use Rattle.cat_keymap.proofs.Searches.{parted_by, first_pass}
 use Rattle.cat_keymap.proofs.range.up_to_end.Goals as goal
 
 pub returns : goal.returns
