@@ -9,13 +9,14 @@ use Rattle.cat_tables.specs.References.{heads_pass}
 use Rattle.cat_graph.specs.GraphLaws.{same_is}
 use Rattle.cat_graph.specs.Linked.{AreLinked, is_known}
 use Rattle.cat_model.specs.declared.commit.Commit.{Commit}
+use Rattle.cat_model.specs.declared.content.Content.{Content}
 use Rattle.cat_model.specs.declared.limits.Limits.{Limits}
 use Rattle.cat_model.specs.declared.reference.Reference.{Reference}
 use Rattle.cat_model.specs.Chain.{Commits, commit_of, on_chain}
 use Rattle.cat_model.specs.Maps.{Map}
 use Rattle.cat_model.specs.Same.{same_hash}
 use Rattle.cat_model.specs.State.{no_ancestor, moved_reference, reference_of}
-use Rattle.cat_state.specs.Keeping.{AreKept, IsCatalogue}
+use Rattle.cat_state.specs.Keeping.{AreKept, IsCatalogue, have_contents}
 
 -- ---- what is known
 
@@ -73,12 +74,12 @@ heads_more older commits (r ∷ references) more are =
 -- ---- catalogues
 
 -- other references that point at what is known
-pub catalogue_with : (limits : Limits) (references others : List Reference) (commits : Commits) (maps : List (Hash × Map)) → IsCatalogue limits references commits maps → IsTrue (heads_pass (is_known commits) others) → IsCatalogue limits others commits maps
-catalogue_with limits references others commits maps is heads = record { log_bound = is.log_bound; commits_bound = is.commits_bound; kept = is.kept; heads = heads }
+pub catalogue_with : (limits : Limits) (references others : List Reference) (commits : Commits) (maps : List (Hash × Map)) (contents : List (Hash × Content)) → IsCatalogue limits references commits maps contents → IsTrue (heads_pass (is_known commits) others) → IsCatalogue limits others commits maps contents
+catalogue_with limits references others commits maps contents is heads = record { log_bound = is.log_bound; commits_bound = is.commits_bound; kept = is.kept; heads = heads; held = is.held }
 
--- more commits, and a reference that is moved to one of them
-pub catalogue_after : (limits : Limits) (references : List Reference) (older commits : Commits) (maps more : List (Hash × Map)) (moved : Reference) (hash : Hash) → IsCatalogue limits references older maps → AreKept more commits
-    → ((h : Hash) → IsTrue (is_known older h) → IsTrue (is_known commits h)) → IsTrue (is_known commits hash) → moved.head ≡ hash → IsCatalogue limits (moved_reference references moved) commits more
-catalogue_after limits references older commits maps more moved hash is kept grows known e =
+-- more commits and contents, and a reference that is moved to one of the commits
+pub catalogue_after : (limits : Limits) (references : List Reference) (older commits : Commits) (maps more : List (Hash × Map)) (present contents : List (Hash × Content)) (moved : Reference) (hash : Hash) → IsCatalogue limits references older maps present → AreKept more commits
+    → ((h : Hash) → IsTrue (is_known older h) → IsTrue (is_known commits h)) → IsTrue (is_known commits hash) → moved.head ≡ hash → IsTrue (have_contents contents more) → IsCatalogue limits (moved_reference references moved) commits more contents
+catalogue_after limits references older commits maps more present contents moved hash is kept grows known e held =
     let head = subst (λ (h : Hash). IsTrue (is_known commits h)) (sym e) known in
-    record { log_bound = is.log_bound; commits_bound = is.commits_bound; kept = kept; heads = heads_kept_moved (is_known commits) references moved head (heads_more older commits references grows is.heads) }
+    record { log_bound = is.log_bound; commits_bound = is.commits_bound; kept = kept; heads = heads_kept_moved (is_known commits) references moved head (heads_more older commits references grows is.heads); held = held }

@@ -4,3 +4,4 @@ pub mod Heads
 pub mod Taken
 pub mod Walks
 pub mod Turns
+pub mod Held

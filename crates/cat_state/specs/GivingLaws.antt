@@ -15,3 +15,8 @@ fails_on (failures.Refused why) r f h = rw h refl
 pub in_turn : {A B C : Type 0} (r : Result A Refusal) (f : A → Result B Refusal) (g : B → Result C Refusal) → ((r >>= f) >>= g) ≡ (r >>= λ x. f x >>= g)
 in_turn (Ok x) f g = refl
 in_turn (Err why) f g = refl
+
+-- a step in turn that is accepted had one before it
+pub passed_by : {A B : Type 0} (r : Result A Refusal) (f : A → Result B Refusal) (after : B) (P : Type 0) → ((x : A) → r ≡ Ok x → f x ≡ Ok after → P) → (r >>= f) ≡ Ok after → P
+passed_by (Ok x) f after P h e = h x refl e
+passed_by (Err why) f after P h e = absurd cc

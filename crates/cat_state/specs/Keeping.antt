@@ -1,13 +1,16 @@
--- What holds of each catalogue: the map at each commit, and where references point.
-use Rattle.std.specs.Prelude.{◌≡◌, ◌≤◌, List, [], ◌∷◌, Option, Some, None, IsTrue}
+-- What holds of each catalogue: the map at each commit, the contents that are visible at it, and where references point.
+use Rattle.std.specs.Prelude.{◌≡◌, ◌≤◌, List, [], ◌∷◌, Option, Some, None, Bool, ◌||◌, is_some, IsTrue}
+use Rattle.std.specs.List.{list_all, list_any}
 use Rattle.sha2.specs.Sha256.{sha256}
 use Rattle.cat_names.specs.declared.hash.Hash.{Hash}
 use Rattle.cat_model.specs.declared.commit.Commit.{Commit}
+use Rattle.cat_model.specs.declared.content.Content.{Content}
 use Rattle.cat_model.specs.declared.limits.Limits.{Limits}
 use Rattle.cat_model.specs.declared.reference.Reference.{Reference}
 use Rattle.cat_model.specs.Chain.{Commits, entries}
 use Rattle.cat_model.specs.Maps.{Map, after_changes}
 use Rattle.cat_model.specs.Namespaces.{is_well_formed}
+use Rattle.cat_model.specs.Same.{same_hash}
 use Rattle.cat_model.specs.State as state
 use Rattle.cat_tables.specs.References.{heads_pass}
 use Rattle.cat_graph.specs.Linked.{is_known, is_merge_known, next_generation}
@@ -40,6 +43,24 @@ pub record MayBeAdded (commits : Commits) (c : Commit) (map : Map) : Type 0 wher
   pub changed : map ≡ after_changes c.ops (entries commits c.parent)
   pub well_formed : IsTrue (is_well_formed map)
 
+-- ---- contents
+
+-- there is a content of the hash, or it is one of the others
+abbrev pub is_held : List (Hash × Content) → List Hash → Hash → Bool
+is_held present others hash = is_some (state.content_at present hash) || list_any (λ other. same_hash other hash) others
+
+-- there is a content of each entry's hash
+abbrev pub has_contents : List (Hash × Content) → Map → Bool
+has_contents present map = list_all (λ x. is_some (state.content_at present x.1.hash)) map
+
+-- so it is of each map
+abbrev pub have_contents : List (Hash × Content) → List (Hash × Map) → Bool
+have_contents present maps = list_all (λ m. has_contents present m.1) maps
+
+-- maps that are kept beside older ones: contents of the older ones' entries and of this one's are contents of theirs
+abbrev pub HoldsMore : Map → List (Hash × Map) → List (Hash × Map) → Type 0
+HoldsMore map older maps = (present : List (Hash × Content)) → IsTrue (have_contents present older) → IsTrue (has_contents present map) → IsTrue (have_contents present maps)
+
 -- ---- references
 
 -- a reference that there is points at what the state knows
@@ -49,9 +70,10 @@ IsAtCommit s (Some r) = IsTrue (state.is_known sha256 s r.head)
 
 -- ---- all of it
 
--- what holds of a catalogue's parts: places and generations don't pass their types' ends, and each reference points at a commit or at the hash that has no ancestor
-pub record IsCatalogue (limits : Limits) (references : List Reference) (commits : Commits) (maps : List (Hash × Map)) : Type 0 where
+-- what holds of a catalogue's parts: places and generations don't pass their types' ends, each reference points at a commit or at the hash that has no ancestor, and each content that is visible at a commit is there
+pub record IsCatalogue (limits : Limits) (references : List Reference) (commits : Commits) (maps : List (Hash × Map)) (contents : List (Hash × Content)) : Type 0 where
   pub log_bound : limits.log ≤ 4294967295
   pub commits_bound : limits.commits ≤ 4294967295
   pub kept : AreKept maps commits
   pub heads : IsTrue (heads_pass (is_known commits) references)
+  pub held : IsTrue (have_contents contents maps)

@@ -5,3 +5,4 @@ pub mod GivingLaws
 pub mod Adding
 pub mod PlainLaws
 pub mod Turning
+pub mod HeldLaws

@@ -13,7 +13,7 @@ ghost use Rattle.cat_model.specs.Same.{same_hash};
 ghost use Rattle.cat_model.specs.State.{State, content_hash, no_ancestor};
 ghost use Rattle.cat_state.specs.Adding.{holding, keeping, with_both, AreHashesOf, IsAbove, IsRecordOf};
 ghost use Rattle.cat_state.specs.Giving.{GivesAs};
-ghost use Rattle.cat_state.specs.Keeping.{AreKept, MayBeAdded};
+ghost use Rattle.cat_state.specs.Keeping.{AreKept, HoldsMore, MayBeAdded};
 
 use crate::contents::content_bytes;
 use crate::copies::copy_content;
@@ -127,6 +127,7 @@ fn push_commit(commits: &mut Graph, maps: &mut Maps, made: NewCommit)
     requires below { same_hash (no_ancestor sha256) made.written.hash ≡ false }
     ensures list { commits.new.list ≡ (made.written.hash, made.commit) ∷ commits.old.list }
     ensures kept { AreKept maps.new.list commits.new.list }
+    ensures held { HoldsMore made.map maps.old.list maps.new.list }
 {
     let NewCommit {
         commit,
@@ -152,8 +153,10 @@ fn add_commit(
     ensures step { (s : State) → GivesAs (λ _. keeping commits.new.list s) result (with_commit sha256 (keeping commits.old.list s) made.commit) }
     ensures kept { AreKept maps.new.list commits.new.list }
     ensures grows { (hash : Hash) → IsTrue (is_known commits.old.list hash) → IsTrue (is_known commits.new.list hash) }
+    ensures held { HoldsMore made.map maps.old.list maps.new.list }
     ensures known { OnOk result (IsTrue (is_known commits.new.list made.written.hash)) }
     ensures stay { OnErr result (commits.new.list ≡ commits.old.list) }
+    ensures maps_stay { OnErr result (maps.new.list ≡ maps.old.list) }
 {
     if is_new_commit(alloc, commits, &made.commit, &made.written)? {
         push_commit(commits, maps, made);
@@ -181,8 +184,10 @@ fn add_in_turn(
     ensures above { IsAbove contents.old.list contents.new.list }
     ensures kept { AreKept maps.new.list commits.new.list }
     ensures grows { (hash : Hash) → IsTrue (is_known commits.old.list hash) → IsTrue (is_known commits.new.list hash) }
+    ensures held { HoldsMore made.map maps.old.list maps.new.list }
     ensures known { OnOk result (IsTrue (is_known commits.new.list made.written.hash)) }
     ensures stay { OnErr result (commits.new.list ≡ commits.old.list) }
+    ensures maps_stay { OnErr result (maps.new.list ≡ maps.old.list) }
 {
     add_contents(alloc, contents, more, hashes)?;
     add_commit(alloc, commits, maps, made)
@@ -208,8 +213,10 @@ pub(crate) fn add_all(
     ensures step { (s : State) → GivesAs (λ _. keeping commits.new.list (holding contents.new.list s)) result (with_both (keeping commits.old.list (holding contents.old.list s)) more.now made.commit) }
     ensures kept { AreKept maps.new.list commits.new.list }
     ensures grows { (hash : Hash) → IsTrue (is_known commits.old.list hash) → IsTrue (is_known commits.new.list hash) }
+    ensures held { HoldsMore made.map maps.old.list maps.new.list }
     ensures known { OnOk result (IsTrue (is_known commits.new.list made.written.hash)) }
     ensures commits_stay { OnErr result (commits.new.list ≡ commits.old.list) }
+    ensures maps_stay { OnErr result (maps.new.list ≡ maps.old.list) }
     ensures contents_stay { OnErr result (contents.new.list ≡ contents.old.list) }
 {
     let count = contents.len();

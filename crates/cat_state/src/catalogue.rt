@@ -1,13 +1,15 @@
 //! The catalogue.
 
-ghost use Rattle.std.specs.Prelude.{◌≡◌, ◌≤◌, IfOk, IsTrue, length};
+ghost use Rattle.std.specs.Prelude.{◌≡◌, ◌≤◌, IfOk, IsTrue, is_some, length};
+ghost use Rattle.std.specs.List.{list_all};
 ghost use Rattle.sha2.specs.Sha256.{sha256};
+ghost use Rattle.cat_names.specs.declared.hash.Hash.{Hash};
 ghost use Rattle.cat_model.specs.Chain.{entries, generation};
 ghost use Rattle.cat_model.specs.Namespaces.{is_well_formed};
-ghost use Rattle.cat_model.specs.State.{first_state};
+ghost use Rattle.cat_model.specs.State.{content_at, first_state};
 ghost use Rattle.cat_tables.specs.References.{heads_pass};
 ghost use Rattle.cat_graph.specs.Linked.{AreLinked, is_known};
-ghost use Rattle.cat_state.specs.Keeping.{AreKept};
+ghost use Rattle.cat_state.specs.Keeping.{AreKept, have_contents};
 
 use crate::copies::copy_map;
 use cat_codes::fault::NoMemory;
@@ -44,7 +46,7 @@ impl Model for Catalogue {
 
     ghost view = { λ c. record { place = c.place; references = c.references.list; commits = c.commits.list; present = c.contents.list; limits = c.limits } };
 
-    ghost invariant = { λ c. IsCatalogue c.limits c.references.list c.commits.list c.maps.list };
+    ghost invariant = { λ c. IsCatalogue c.limits c.references.list c.commits.list c.maps.list c.contents.list };
 }
 
 impl Catalogue {
@@ -107,6 +109,13 @@ impl Catalogue {
         let _ = self.maps();
     }
 
+    /// What holds of the map at each commit: the content of each entry is there.
+    pub fn contents_are_held(&self)
+        ensures { (hash : Hash) → IsTrue (list_all (λ x. is_some (content_at self.now.present x.1.hash)) (entries self.now.commits hash)) }
+    {
+        let _ = self.maps();
+    }
+
     /// The generation of a hash; 0 for the one that has no ancestor, and for one that isn't known.
     #[tactic(auto, using(cat_graph::specs::GraphLaws::generation_bound))]
     pub fn generation(&self, hash: &Hash) -> u64
@@ -132,7 +141,8 @@ impl Catalogue {
     }
 
     pub(crate) fn maps(&self) -> &Maps
-        ensures { AreKept result.now.list self.now.commits }
+        ensures kept { AreKept result.now.list self.now.commits }
+        ensures held { IsTrue (have_contents self.now.present result.now.list) }
     {
         &self.maps
     }

@@ -1,12 +1,13 @@
 //! Changes of the catalogue.
 
 ghost use Rattle.std.specs.Prelude.{◌≡◌, ◌<◌, None, IsTrue, OnOk, OnErr};
+ghost use Rattle.std.specs.List.{list_all};
 ghost use Rattle.sha2.specs.Sha256.{sha256};
 ghost use Rattle.cat_model.specs.Moves.{with_references};
 ghost use Rattle.cat_model.specs.State.{is_known, moved_reference, reference_of, with_reference, without_reference};
 ghost use Rattle.cat_state.specs.Adding.{AreHashesOf, IsRecordOf, with_all};
 ghost use Rattle.cat_state.specs.Giving.{GivesAs};
-ghost use Rattle.cat_state.specs.Keeping.{MayBeAdded};
+ghost use Rattle.cat_state.specs.Keeping.{MayBeAdded, is_held};
 
 use crate::adding::add_all;
 use crate::catalogue::Catalogue;
@@ -49,6 +50,7 @@ impl Catalogue {
         requires next { MayBeAdded self.old.commits made.commit made.map }
         requires written { IsRecordOf made.commit made.written }
         requires head { moved.now.head ≡ made.written.hash }
+        requires held { IsTrue (list_all (λ x. is_held self.old.present hashes.now x.1.hash) made.map) }
         ensures step { GivesAs (λ _. self.new) result (with_all self.old contents.now made.commit moved.now) }
         ensures err { OnErr result (self.new ≡ self.old) }
     {

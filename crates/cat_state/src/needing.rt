@@ -1,9 +1,10 @@
 //! What stands in the way of a reference.
 
-ghost use Rattle.std.specs.Prelude.{◌≡◌, None, IfOk, OnOk, is_none};
+ghost use Rattle.std.specs.Prelude.{◌≡◌, None, IfErr, IfOk, OnOk, is_none};
 ghost use Rattle.cat_model.specs.Moves.{needs_contents, needs_new_name};
 ghost use Rattle.cat_model.specs.Records.{expired_keys, needs_no_expired};
 ghost use Rattle.cat_model.specs.State.{content_at, reference_of};
+ghost use Rattle.cat_state.specs.declared.failure.Failure.TheVariants as failures;
 ghost use Rattle.cat_state.specs.Giving.{Gives};
 
 use crate::catalogue::Catalogue;
@@ -69,11 +70,13 @@ impl Catalogue {
     }
 
     /// The catalogue holds every content that is visible at the commit. It is refused with the keys
-    /// of those that it doesn't hold, ascending, and the place.
-    #[tactic(auto, unfolding(cat_model::specs::Moves::needs_contents))]
+    /// of those that it doesn't hold, ascending, and the place; so never, since none is removed.
+    #[tactic(auto, unfolding(cat_model::specs::Moves::needs_contents), using(crate::specs::HeldLaws::fails_by_memory))]
     pub fn needs_contents(&self, alloc: Global, hash: &Hash) -> Result<(), Failure>
-        ensures { Gives result (needs_contents self.now hash.now) }
+        ensures exact { Gives result (needs_contents self.now hash.now) }
+        ensures held { IfErr result (λ failure. failure ≡ failures.NoMemory) }
     {
+        self.contents_are_held();
         let map = self.map_at(hash)?;
         let keys = self.expired_keys(alloc, map.pairs())?;
         needs_none(keys, self.place())

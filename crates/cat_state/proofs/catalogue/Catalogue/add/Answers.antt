@@ -1,9 +1,15 @@
-use Rattle.std.proofs.Common.{subst, IsTrue}
+use Rattle.std.proofs.Common.{◌≡◌, List, true, sym, subst, IsTrue}
+use Rattle.std.specs.List.{list_all}
 use Rattle.std.proofs.lemmas.Result.{err_from_is_err_and}
 use Rattle.cat_model.specs.Chain.{Commits}
+use Rattle.cat_model.specs.Maps.{Map}
+use Rattle.cat_model.specs.State.{State}
 use Rattle.cat_names.specs.declared.hash.Hash.{Hash}
 use Rattle.cat_graph.specs.Linked.{is_known}
+use Rattle.cat_state.specs.Adding.{holding, keeping}
+use Rattle.cat_state.specs.Keeping.{have_contents, is_held}
 use Rattle.cat_state.proofs.Heads.{catalogue_after}
+use Rattle.cat_state.proofs.Held.{all_there, map_there, maps_stay}
 use Rattle.cat_state.proofs.Taken.{step_refused, step_taken}
 use Rattle.cat_state.proofs.catalogue.Catalogue.add.Goals as goal
 
@@ -15,8 +21,13 @@ returns-in_err-add_all-clause-step c =
 
 pub invariant_of-self-2 : goal.invariant_of-self-2
 invariant_of-self-2 c =
-    rw c.set.ensures.list (catalogue_after _ _ c.self.inside.commits.list _ _ _ _ c.args.made.written.hash c.self.invariant c.in_ok-add_all.ensures.kept
-    (subst (λ (l : Commits). (h : Hash) → IsTrue (is_known l h) → IsTrue (is_known c.add_all.new.commits.list h)) c.reserve.ensures.commits c.in_ok-add_all.ensures.grows) c.in_ok-add_all.ensures.known c.requires.head)
+    let added = c.in_ok-add_all.ensures.step c.args.self.now in
+    let there = all_there (keeping c.reserve.new.commits.list (holding c.self.inside.contents.list c.args.self.now)) (keeping c.add_all.new.commits.list (holding c.add_all.new.contents.list c.args.self.now)) c.args.contents.now c.args.hashes.now c.args.made.commit c.requires.hashes added in
+    let held = subst (λ (s : State). list_all (λ x. is_held s.present c.args.hashes.now x.1.hash) c.args.made.map ≡ true) (sym c.self.view_is) c.requires.held in
+    let before = subst (λ (l : List (Hash × Map)). IsTrue (have_contents c.self.inside.contents.list l)) (sym c.reserve.ensures.maps) c.self.invariant.held in
+    let after = c.in_ok-add_all.ensures.held c.add_all.new.contents.list (maps_stay c.self.inside.contents.list c.add_all.new.contents.list c.reserve.new.maps.list there.grows before) (map_there c.self.inside.contents.list c.add_all.new.contents.list c.args.hashes.now c.args.made.map there held) in
+    rw c.set.ensures.list (catalogue_after _ _ c.self.inside.commits.list _ _ _ _ _ _ c.args.made.written.hash c.self.invariant c.in_ok-add_all.ensures.kept
+    (subst (λ (l : Commits). (h : Hash) → IsTrue (is_known l h) → IsTrue (is_known c.add_all.new.commits.list h)) c.reserve.ensures.commits c.in_ok-add_all.ensures.grows) c.in_ok-add_all.ensures.known c.requires.head after)
 
 pub returns-clause-step : goal.returns-clause-step
 returns-clause-step c =

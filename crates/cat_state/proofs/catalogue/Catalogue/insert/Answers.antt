@@ -9,4 +9,4 @@ use Rattle.cat_state.proofs.catalogue.Catalogue.insert.Goals as goal
 pub invariant_of-self-2 : goal.invariant_of-self-2
 invariant_of-self-2 c =
     let known = subst (λ (s : State). IsTrue (is_known sha256 s (c.args.reference).head)) (sym c.self.view_is) c.requires.known in
-    rw (c.insert.ensures.list, c.reserve.ensures.list) (catalogue_with _ _ _ _ _ c.self.invariant (heads_kept_with (graph.is_known c.self.inside.commits.list) c.self.inside.references.list c.args.reference known c.self.invariant.heads))
+    rw (c.insert.ensures.list, c.reserve.ensures.list) (catalogue_with _ _ _ _ _ _ c.self.invariant (heads_kept_with (graph.is_known c.self.inside.commits.list) c.self.inside.references.list c.args.reference known c.self.invariant.heads))

@@ -5,9 +5,9 @@ use Rattle.cat_state.proofs.Kept.{map_found}
 use Rattle.cat_state.proofs.catalogue.Catalogue.map_at.Goals as goal
 
 pub returns-in-None : goal.returns-in-None
-returns-in-None c = c.empty.ensures ∙ map_found (λ (m : Bor Map). m.now) _ _ c.args.hash.now _ None c.maps.ensures c.get.ensures c.in-None.is
+returns-in-None c = c.empty.ensures ∙ map_found (λ (m : Bor Map). m.now) _ _ c.args.hash.now _ None c.maps.ensures.kept c.get.ensures c.in-None.is
 
 pub returns-in-Some : goal.returns-in-Some
 returns-in-Some c =
-    let e : (c.in-Some.map).now ≡ _ = map_found (λ (m : Bor Map). m.now) _ _ c.args.hash.now _ (Some c.in-Some.map) c.maps.ensures c.get.ensures c.in-Some.is in
+    let e : (c.in-Some.map).now ≡ _ = map_found (λ (m : Bor Map). m.now) _ _ c.args.hash.now _ (Some c.in-Some.map) c.maps.ensures.kept c.get.ensures c.in-Some.is in
     subst (λ (m : Map). IfOk c.copy_map.result (λ map. map ≡ m)) e c.copy_map.ensures

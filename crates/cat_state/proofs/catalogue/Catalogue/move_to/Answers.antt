@@ -9,4 +9,4 @@ use Rattle.cat_state.proofs.catalogue.Catalogue.move_to.Goals as goal
 pub invariant_of-self : goal.invariant_of-self
 invariant_of-self c =
     let known = subst (λ (s : State). IsTrue (is_known sha256 s (c.args.moved.now).head)) (sym c.self.view_is) c.requires.known in
-    rw c.set.ensures.list (catalogue_with _ _ _ _ _ c.self.invariant (heads_kept_moved (graph.is_known c.self.inside.commits.list) c.self.inside.references.list c.args.moved.now known c.self.invariant.heads))
+    rw c.set.ensures.list (catalogue_with _ _ _ _ _ _ c.self.invariant (heads_kept_moved (graph.is_known c.self.inside.commits.list) c.self.inside.references.list c.args.moved.now known c.self.invariant.heads))

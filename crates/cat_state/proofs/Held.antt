@@ -1,0 +1,152 @@
+-- Contents that are there after more are added, and at the maps that are kept.
+use Rattle.std.proofs.Common.{◌≡◌, ℕ, List, [], ◌∷◌, Option, Some, None, Ok, Err, Bool, true, false, cond, if◌then◌else◌, ◌||◌, is_some, map, find, refl, sym, ap, subst}
+use Rattle.std.specs.List.{list_all, list_any}
+use Rattle.std.specs.Option.{option_map}
+use Rattle.std.specs.Str.{bytes_eq}
+use Rattle.sha2.specs.Sha256.{sha256}
+use Rattle.cat_names.specs.declared.hash.Hash.{Hash}
+use Rattle.cat_graph.specs.GraphLaws.{same_is}
+use Rattle.cat_tables.specs.ReferenceLaws.{and_true, is_same}
+use Rattle.cat_keymap.specs.MapsAt.{map_at}
+use Rattle.cat_model.specs.declared.commit.Commit.{Commit}
+use Rattle.cat_model.specs.declared.content.Content.{Content}
+use Rattle.cat_model.specs.declared.refusal.Refusal.{Refusal}
+use Rattle.cat_model.specs.declared.refusal.Refusal.TheVariants.{Collision}
+use Rattle.cat_model.specs.Chain.{Commits, entries}
+use Rattle.cat_model.specs.Contents.{content_code}
+use Rattle.cat_model.specs.Formats.{commit_code}
+use Rattle.cat_model.specs.Maps.{Map}
+use Rattle.cat_model.specs.Records.{added, commit_bytes, content_bytes, with_commit, with_content, with_contents}
+use Rattle.cat_model.specs.Same.{same_hash}
+use Rattle.cat_model.specs.State.{State, commit_hash, content_at, content_hash}
+use Rattle.cat_state.specs.Adding.{with_both, AreHashesOf}
+use Rattle.cat_state.specs.GivingLaws.{passed_by}
+use Rattle.cat_state.specs.HeldLaws.{all_more}
+use Rattle.cat_state.specs.Keeping.{AreKept, found_map, has_contents, have_contents, is_held}
+use Rattle.cat_state.proofs.Kept.{map_is}
+
+abbrev pub Contents : Type 0
+Contents = List (Hash × Content)
+
+-- there is a content of the hash
+abbrev pub is_there : Contents → Hash → Bool
+is_there contents hash = is_some (content_at contents hash)
+
+-- whatever is there in the older ones is there
+abbrev pub Grows : Contents → Contents → Type 0
+Grows older newer = (hash : Hash) → is_there older hash ≡ true → is_there newer hash ≡ true
+
+-- ---- contents that are added
+
+more_by : (b : Bool) (x : Hash × Content) (found : Option (Hash × Content)) → is_some (option_map (λ y. y.1) found) ≡ true → is_some (option_map (λ y. y.1) (cond b (Some x) found)) ≡ true
+more_by true x found e = refl
+more_by false x found e = e
+
+there_more : (x : Hash × Content) (older : Contents) → Grows older (x ∷ older)
+there_more x older hash e = more_by (same_hash x.0 hash) x (find (λ y. same_hash y.0 hash) older) e
+
+first_by : (b : Bool) (x : Hash × Content) (found : Option (Hash × Content)) → b ≡ true → is_some (option_map (λ y. y.1) (cond b (Some x) found)) ≡ true
+first_by true x found e = refl
+first_by false x found e = absurd cc
+
+there_first : (hash : Hash) (c : Content) (older : Contents) → is_there ((hash, c) ∷ older) hash ≡ true
+there_first hash c older = first_by (same_hash hash hash) (hash, c) (find (λ y. same_hash y.0 hash) older) (is_same hash.bytes hash.bytes refl)
+
+-- what adding leaves: the older contents and those of the hashes
+pub record AreThere (older newer : Contents) (hashes : List Hash) : Type 0 where
+  pub grows : Grows older newer
+  pub hold : (hash : Hash) → list_any (λ other. same_hash other hash) hashes ≡ true → is_there newer hash ≡ true
+
+one_there : (hash : Hash) (newer : Contents) → is_there newer hash ≡ true → (other : Hash) → list_any (λ h. same_hash h other) (hash ∷ []) ≡ true → is_there newer other ≡ true
+one_there hash newer there other e = one_by (same_hash hash other) (λ same. subst (λ (h : Hash). is_there newer h ≡ true) (same_is hash other same) there) e
+  where
+    one_by : (b : Bool) → (b ≡ true → is_there newer other ≡ true) → (b || false) ≡ true → is_there newer other ≡ true
+    one_by true f e = f refl
+    one_by false f e = absurd cc
+
+kept_by : (b : Bool) (state after : State) (why : Refusal) → (if b then Ok state else Err why) ≡ Ok after → after.present ≡ state.present
+kept_by true state after why e = cc
+kept_by false state after why e = absurd cc
+
+added_there : (state after : State) (hash : Hash) (c : Content) (bytes : List ℕ) (kept : Option Content) → content_at state.present hash ≡ kept
+    → added state (record state { present = (hash, c) ∷ state.present }) hash (option_map (λ c. (content_code).spell c) kept) bytes ≡ Ok after → AreThere state.present after.present (hash ∷ [])
+added_there state after hash c bytes None found e =
+    let present : (hash, c) ∷ state.present ≡ after.present = cc in
+    subst (λ (l : Contents). AreThere state.present l (hash ∷ [])) present
+    (record { grows = there_more (hash, c) state.present; hold = one_there hash ((hash, c) ∷ state.present) (there_first hash c state.present) })
+added_there state after hash c bytes (Some k) found e =
+    let present = kept_by (bytes_eq ((content_code).spell k) bytes) state after (Collision hash ((content_code).spell k) bytes) e in
+    subst (λ (l : Contents). AreThere state.present l (hash ∷ [])) (sym present)
+    (record { grows = λ h there. there; hold = one_there hash state.present (ap is_some found) })
+
+content_there : (state after : State) (c : Content) → with_content sha256 state c ≡ Ok after → AreThere state.present after.present (content_hash sha256 c ∷ [])
+unfolding with_content content_bytes
+content_there state after c e = added_there state after (content_hash sha256 c) c ((content_code).spell c) (content_at state.present (content_hash sha256 c)) refl e
+
+both_there : (older middle newer : Contents) (hash : Hash) (hashes : List Hash) → AreThere older middle (hash ∷ []) → AreThere middle newer hashes → AreThere older newer (hash ∷ hashes)
+both_there older middle newer hash hashes first rest = record {
+  grows = λ h there. rest.grows h (first.grows h there);
+  hold = λ h among. by_first h (same_hash hash h) (λ e. rest.grows h (first.hold h (rw e refl))) among;
+}
+  where
+    by_first : (h : Hash) (b : Bool) → (b ≡ true → is_there newer h ≡ true) → (b || list_any (λ other. same_hash other h) hashes) ≡ true → is_there newer h ≡ true
+    by_first h true f e = f refl
+    by_first h false f e = rest.hold h e
+
+contents_there : (state after : State) (contents : List Content) → with_contents sha256 state contents ≡ Ok after → AreThere state.present after.present (map (content_hash sha256) contents)
+contents_there state after [] e =
+    let present : state.present ≡ after.present = cc in
+    subst (λ (l : Contents). AreThere state.present l []) present (record { grows = λ h there. there; hold = λ h among. absurd cc })
+contents_there state after (c ∷ contents) e =
+    passed_by (with_content sha256 state c) (λ more. with_contents sha256 more contents) after (AreThere state.present after.present (map (content_hash sha256) (c ∷ contents))) (λ more first rest.
+    both_there state.present more.present after.present (content_hash sha256 c) (map (content_hash sha256) contents) (content_there state more c first) (contents_there more after contents rest)) e
+
+commit_added : (state more after : State) (hash : Hash) (kept : Option (List ℕ)) (bytes : List ℕ) → more.present ≡ state.present → added state more hash kept bytes ≡ Ok after → after.present ≡ state.present
+commit_added state more after hash None bytes m e = cc
+commit_added state more after hash (Some kept) bytes m e = kept_by (bytes_eq kept bytes) state after (Collision hash kept bytes) e
+
+commit_keeps : (state after : State) (c : Commit) → with_commit sha256 state c ≡ Ok after → after.present ≡ state.present
+unfolding with_commit
+commit_keeps state after c e =
+    let hash = commit_hash sha256 c in
+    commit_added state (record state { commits = (hash, c) ∷ state.commits }) after hash (commit_bytes sha256 state hash) ((commit_code).spell c) refl e
+
+-- contents and a commit that were added
+pub all_there : (state after : State) (contents : List Content) (hashes : List Hash) (c : Commit) → AreHashesOf hashes contents → with_both state contents c ≡ Ok after → AreThere state.present after.present hashes
+all_there state after contents hashes c are e =
+    subst (λ (l : List Hash). AreThere state.present after.present l) (sym are)
+    (passed_by (with_contents sha256 state contents) (λ held. with_commit sha256 held c) after (AreThere state.present after.present (map (content_hash sha256) contents)) (λ middle first last.
+    subst (λ (l : Contents). AreThere state.present l (map (content_hash sha256) contents)) (sym (commit_keeps middle after c last)) (contents_there state middle contents first)) e)
+
+-- ---- maps
+
+either_there : (a b : Bool) (P : Type 0) → (a ≡ true → P) → (b ≡ true → P) → (a || b) ≡ true → P
+either_there true b P f g e = f refl
+either_there false b P f g e = g e
+
+-- the contents of maps stay there
+pub maps_stay : (older newer : Contents) (maps : List (Hash × Map)) → Grows older newer → have_contents older maps ≡ true → have_contents newer maps ≡ true
+maps_stay older newer maps grows are =
+    all_more (λ m. has_contents older m.1) (λ m. has_contents newer m.1) maps
+    (λ m there. all_more (λ x. is_there older x.1.hash) (λ x. is_there newer x.1.hash) m.1 (λ x e. grows x.1.hash e) there) are
+
+-- the contents of a map that was held are there
+pub map_there : (older newer : Contents) (hashes : List Hash) (map : Map) → AreThere older newer hashes → list_all (λ x. is_held older hashes x.1.hash) map ≡ true → has_contents newer map ≡ true
+map_there older newer hashes map are held =
+    all_more (λ x. is_held older hashes x.1.hash) (λ x. is_there newer x.1.hash) map
+    (λ x e. either_there (is_there older x.1.hash) (list_any (λ other. same_hash other x.1.hash) hashes) (is_there newer x.1.hash ≡ true) (are.grows x.1.hash) (are.hold x.1.hash) e) held
+
+found_by : (b : Bool) (contents : Contents) (m : Map) (found : Option Map) → has_contents contents m ≡ true → has_contents contents (found_map found) ≡ true → has_contents contents (found_map (cond b (Some m) found)) ≡ true
+found_by true contents m found h g = h
+found_by false contents m found h g = g
+
+found_there : (contents : Contents) (maps : List (Hash × Map)) (hash : Hash) → have_contents contents maps ≡ true → has_contents contents (found_map (map_at maps hash)) ≡ true
+found_there contents [] hash are = refl
+found_there contents (m ∷ maps) hash are =
+    let both = and_true (has_contents contents m.1) (have_contents contents maps) are in
+    found_by (same_hash m.0 hash) contents m.1 (map_at maps hash) both.0 (found_there contents maps hash both.1)
+
+-- the contents that are visible at each commit are there
+pub held_entries : (contents : Contents) (maps : List (Hash × Map)) (commits : Commits) (hash : Hash) → AreKept maps commits → have_contents contents maps ≡ true → has_contents contents (entries commits hash) ≡ true
+held_entries contents maps commits hash kept are =
+    subst (λ (m : Map). has_contents contents m ≡ true) (sym (map_is maps commits hash kept)) (found_there contents maps hash are)
