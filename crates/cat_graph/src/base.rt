@@ -39,7 +39,7 @@ impl Graph {
     {
         self.known();
         let Some(at) = front.take() else {
-            return Ok(());
+            unreachable!()
         };
         if front.nearest() == Some(at) {
             return Ok(());

@@ -2,7 +2,7 @@
 //! commits, the newest first, beside how many more can be pushed without memory. Each call answers
 //! what its definition says of that list. No hash comes twice, each commit stands above its parents,
 //! and its generation is one more than the greatest of theirs, so a chain is walked by one look-up
-//! a commit.
+//! a commit, and the merge base of two commits is found from the ancestors that are nearer than it.
 #![tactic(auto)]
 
 pub mod add_fault;
