@@ -1,5 +1,5 @@
 -- What holds of each entry of source and target holds of what a merge sets, and of the map after.
-use Rattle.std.proofs.Common.{◌≡◌, List, [], ◌∷◌, ◌++◌, Option, Some, None, Bool, true, false, refl, subst, sym}
+use Rattle.std.proofs.Common.{◌≡◌, List, [], ◌∷◌, ◌++◌, if◌then◌else◌, Option, Some, None, Bool, true, false, refl, subst, sym}
 use Rattle.std.specs.Prelude.{IfSome, is_none}
 use Rattle.std.specs.List.{list_all}
 use Rattle.cat_names.specs.Fields.{Key, key_cmp}
@@ -11,7 +11,7 @@ use Rattle.cat_model.specs.declared.merging.Modes.{Modes}
 use Rattle.cat_model.specs.Differs.{differs}
 use Rattle.cat_model.specs.Maps.{Map, Change, entry_of, present, after_change, after_changes}
 use Rattle.cat_model.specs.Merges.{entries_set}
-use Rattle.cat_model.specs.Plan.{Decision, sets, unless_changed, decision, behaviour_of, set_by, changes_set, Plan, plan_of}
+use Rattle.cat_model.specs.Plan.{Decision, keeps, sets, unless_changed, decision, behaviour_of, set_by, changes_set, Plan, plan_of}
 use Rattle.cat_keymap.specs.KeyOrder.{both_true, and_true, split3}
 
 module _ (passes : Entry → Bool) where
@@ -46,18 +46,14 @@ module _ (passes : Entry → Bool) where
   unless_passes source None p = source_passes source p
   unless_passes source (Some kind) p = λ key cs all. all
 
+  if_passes : (same : Bool) (d : Decision) → SetPasses d → SetPasses (if same then keeps else d)
+  if_passes true d p = λ key cs all. all
+  if_passes false d p = p
+
   decision_passes : (behaviour : Behaviour) (base source target : Option Entry) → Passes source → SetPasses (decision behaviour base source target)
   decision_passes Drop base source target p = λ key cs all. all
-  decision_passes Force base source target p = by (is_none (differs source target)) refl
-    where
-      by : (b : Bool) → is_none (differs source target) ≡ b → SetPasses (decision Force base source target)
-      by true e = rw e (λ key cs all. all)
-      by false e = rw e (source_passes source p)
-  decision_passes Normal base source target p = by (is_none (differs source target)) refl
-    where
-      by : (b : Bool) → is_none (differs source target) ≡ b → SetPasses (decision Normal base source target)
-      by true e = rw e (λ key cs all. all)
-      by false e = rw e (unless_passes source (differs base target) p)
+  decision_passes Force base source target p = if_passes (is_none (differs source target)) (sets source) (source_passes source p)
+  decision_passes Normal base source target p = if_passes (is_none (differs source target)) (unless_changed source (differs base target)) (unless_passes source (differs base target) p)
 
   changes_pass : (base source target : Map) (modes : Modes) (keys : List Key) → AllPass source → AllPass (entries_set (changes_set base source target modes keys))
   changes_pass base source target modes [] all = refl
