@@ -264,6 +264,10 @@ the_hash_of_the_other_branch : said three (merge_as false false main (Some (head
 unfolding u8_spelling u16_spelling u32_spelling u64_spelling i64_spelling i32_spelling list ascending text_code short_text_code hash_code id_code element_code key_code moment_code kind_code entry_code meta_code commit_code table_code namespace_code of_table of_namespace content_code emptied_fault changes_of op_fault judge entries commit_bytes content_bytes with_commit with_content expired_keys given_ops given_request request_commit commit_opening needs_commit_room step_commit needs_contents step_create step_assign step_delete common_ancestors is_nearer base plan needs_planned_room step_applied merge_opening merge_planned step_merge answer_reference answer_content entry_made call script
 the_hash_of_the_other_branch = refl
 
+a_known_hash_of_another_chain : said three (merge main main (head_of dev three) Normal ∷ []) ≡ not (Some 3) RefNotFound ∷ []
+unfolding u8_spelling u16_spelling u32_spelling u64_spelling i64_spelling i32_spelling list ascending text_code short_text_code hash_code id_code element_code key_code moment_code kind_code entry_code meta_code commit_code table_code namespace_code of_table of_namespace content_code emptied_fault changes_of op_fault judge entries commit_bytes content_bytes with_commit with_content expired_keys given_ops given_request request_commit commit_opening needs_commit_room step_commit needs_contents step_create step_assign step_delete common_ancestors is_nearer base plan needs_planned_room step_applied merge_opening merge_planned step_merge answer_reference answer_content entry_made call script
+a_known_hash_of_another_chain = refl
+
 a_tag_is_merged : said three (create (codes "v") Tag (from_branch dev) ∷ merge main (codes "v") (head_of dev three) Normal ∷ []) ≡ stands 4 (codes "v") Tag (head_of dev three) ∷ merged 5 true true ∷ []
 unfolding u8_spelling u16_spelling u32_spelling u64_spelling i64_spelling i32_spelling list ascending text_code short_text_code hash_code id_code element_code key_code moment_code kind_code entry_code meta_code commit_code table_code namespace_code of_table of_namespace content_code emptied_fault changes_of op_fault judge entries commit_bytes content_bytes with_commit with_content expired_keys given_ops given_request request_commit commit_opening needs_commit_room step_commit needs_contents step_create step_assign step_delete common_ancestors is_nearer base plan needs_planned_room step_applied merge_opening merge_planned step_merge answer_reference answer_content entry_made call script
 a_tag_is_merged = refl
@@ -278,6 +282,10 @@ with_limits limits s = record s { state = record s.state { limits = limits } }
 room_comes_before_conflicts : said (with_limits (record ample { log = 4 }) both_changed) (merge_as true true main None dev (head_of dev both_changed) Normal ∷ []) ≡ not (Some 4) (Limit quantities.Log 4) ∷ []
 unfolding u8_spelling u16_spelling u32_spelling u64_spelling i64_spelling i32_spelling list ascending text_code short_text_code hash_code id_code element_code key_code moment_code kind_code entry_code meta_code commit_code table_code namespace_code of_table of_namespace content_code emptied_fault changes_of op_fault judge entries commit_bytes content_bytes with_commit with_content expired_keys given_ops given_request request_commit commit_opening needs_commit_room step_commit needs_contents step_create step_assign step_delete common_ancestors is_nearer base plan needs_planned_room step_applied merge_opening merge_planned step_merge answer_reference answer_content entry_made call script
 room_comes_before_conflicts = refl
+
+room_comes_before_refused_conflicts : said (with_limits (record ample { log = 4 }) both_changed) (merge main dev (head_of dev both_changed) Normal ∷ []) ≡ not (Some 4) (Limit quantities.Log 4) ∷ []
+unfolding u8_spelling u16_spelling u32_spelling u64_spelling i64_spelling i32_spelling list ascending text_code short_text_code hash_code id_code element_code key_code moment_code kind_code entry_code meta_code commit_code table_code namespace_code of_table of_namespace content_code emptied_fault changes_of op_fault judge entries commit_bytes content_bytes with_commit with_content expired_keys given_ops given_request request_commit commit_opening needs_commit_room step_commit needs_contents step_create step_assign step_delete common_ancestors is_nearer base plan needs_planned_room step_applied merge_opening merge_planned step_merge answer_reference answer_content entry_made call script
+room_comes_before_refused_conflicts = refl
 
 room_for_a_commit : said (with_limits (record ample { commits = 2 }) three) (merge main dev (head_of dev three) Normal ∷ merge main dev (head_of dev three) Drop ∷ []) ≡ not (Some 3) (Limit quantities.Commits 2) ∷ merged 3 false true ∷ []
 unfolding u8_spelling u16_spelling u32_spelling u64_spelling i64_spelling i32_spelling list ascending text_code short_text_code hash_code id_code element_code key_code moment_code kind_code entry_code meta_code commit_code table_code namespace_code of_table of_namespace content_code emptied_fault changes_of op_fault judge entries commit_bytes content_bytes with_commit with_content expired_keys given_ops given_request request_commit commit_opening needs_commit_room step_commit needs_contents step_create step_assign step_delete common_ancestors is_nearer base plan needs_planned_room step_applied merge_opening merge_planned step_merge answer_reference answer_content entry_made call script
@@ -302,6 +310,14 @@ swept s = record s { state = record s.state { present = [] } }
 contents_that_expired : said (swept three) (merge main dev (head_of dev three) Normal ∷ merge_as true true main None dev (head_of dev three) Normal ∷ merge main dev (head_of dev three) Drop ∷ []) ≡ not (Some 3) (Expired (t2 ∷ []) 3) ∷ not (Some 3) (Expired (t2 ∷ []) 3) ∷ merged 3 false true ∷ []
 unfolding u8_spelling u16_spelling u32_spelling u64_spelling i64_spelling i32_spelling list ascending text_code short_text_code hash_code id_code element_code key_code moment_code kind_code entry_code meta_code commit_code table_code namespace_code of_table of_namespace content_code emptied_fault changes_of op_fault judge entries commit_bytes content_bytes with_commit with_content expired_keys given_ops given_request request_commit commit_opening needs_commit_room step_commit needs_contents step_create step_assign step_delete common_ancestors is_nearer base plan needs_planned_room step_applied merge_opening merge_planned step_merge answer_reference answer_content entry_made call script
 contents_that_expired = refl
+
+-- a branch that deletes a key before the one that it adds
+abbrev mixed : Session
+mixed = after begin (commit dev None (Delete t1 ∷ new t2 (table no_id (codes "x")) ∷ []) (table no_id (codes "x") ∷ []) ∷ [])
+
+what_is_set_after_a_delete : said (swept mixed) (merge main dev (head_of dev mixed) Normal ∷ []) ≡ not (Some 3) (Expired (t2 ∷ []) 3) ∷ []
+unfolding u8_spelling u16_spelling u32_spelling u64_spelling i64_spelling i32_spelling list ascending text_code short_text_code hash_code id_code element_code key_code moment_code kind_code entry_code meta_code commit_code table_code namespace_code of_table of_namespace content_code emptied_fault changes_of op_fault judge entries commit_bytes content_bytes with_commit with_content expired_keys given_ops given_request request_commit commit_opening needs_commit_room step_commit needs_contents step_create step_assign step_delete common_ancestors is_nearer base plan needs_planned_room step_applied merge_opening merge_planned step_merge answer_reference answer_content entry_made call script
+what_is_set_after_a_delete = refl
 
 conflicts_come_before_what_expired : said (swept both_changed) (merge main dev (head_of dev both_changed) Normal ∷ merge main dev (head_of dev both_changed) Force ∷ []) ≡ refused_at 4 t1 ValueDiffers ∷ not (Some 4) (Expired (t1 ∷ []) 4) ∷ []
 unfolding u8_spelling u16_spelling u32_spelling u64_spelling i64_spelling i32_spelling list ascending text_code short_text_code hash_code id_code element_code key_code moment_code kind_code entry_code meta_code commit_code table_code namespace_code of_table of_namespace content_code emptied_fault changes_of op_fault judge entries commit_bytes content_bytes with_commit with_content expired_keys given_ops given_request request_commit commit_opening needs_commit_room step_commit needs_contents step_create step_assign step_delete common_ancestors is_nearer base plan needs_planned_room step_applied merge_opening merge_planned step_merge answer_reference answer_content entry_made call script
