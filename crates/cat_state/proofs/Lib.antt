@@ -5,3 +5,5 @@ pub mod Taken
 pub mod Walks
 pub mod Turns
 pub mod Held
+pub mod Sets
+pub mod Tried

@@ -10,7 +10,7 @@ use Rattle.cat_model.specs.Chain.{Commits}
 use Rattle.cat_model.specs.Formats.{commit_code}
 use Rattle.cat_model.specs.Moves.{with_references}
 use Rattle.cat_model.specs.Records.{with_commit, with_contents}
-use Rattle.cat_model.specs.Refusing.{◌>>=◌}
+use Rattle.cat_model.specs.Refusing.{◌>>=◌, Tested}
 use Rattle.cat_model.specs.State.{State, commit_hash, content_hash, moved_reference}
 use Rattle.cat_state.specs.declared.records.Record.{Record}
 
@@ -49,3 +49,7 @@ with_all state contents c moved =
     with_contents sha256 state contents >>= λ held.
     with_commit sha256 held c >>= λ more.
     Ok (moved_state more moved)
+
+-- refused where one more commit would be
+abbrev pub needs_no_collision : State → Commit → Tested
+needs_no_collision state c = with_commit sha256 state c >>= λ _. Ok tt

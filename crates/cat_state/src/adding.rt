@@ -100,7 +100,7 @@ fn commit_bytes(alloc: Global, commits: &Graph, hash: &Hash) -> Result<Option<Ve
 }
 
 /// Whether a commit is not there. Other bytes of its hash refuse it.
-fn is_new_commit(
+pub(crate) fn is_new_commit(
     alloc: Global,
     commits: &Graph,
     commit: &Commit,

@@ -15,6 +15,7 @@ pub mod failure;
 mod histories;
 mod keyed;
 mod listing;
+mod merging;
 mod needing;
 mod pointing;
 pub mod records;

@@ -1,7 +1,8 @@
 //! Room for what a change adds.
 
-ghost use Rattle.std.specs.Prelude.{◌≡◌, ◌<◌, ◌+◌, length, OnOk};
+ghost use Rattle.std.specs.Prelude.{◌≡◌, ◌<◌, ◌≤◌, ◌+◌, List, length, OnOk};
 ghost use Rattle.cat_model.specs.Commits.{needs_commit_room};
+ghost use Rattle.cat_model.specs.Merges.{Planned, all_set, commits_made, needs_planned_room};
 ghost use Rattle.cat_model.specs.Moves.{needs_log};
 ghost use Rattle.cat_model.specs.Refusing as refusing;
 ghost use Rattle.cat_model.specs.declared.limits.Quantity.TheVariants as quantities;
@@ -29,7 +30,8 @@ fn needs_room(count: u64, limit: u64, which: Quantity) -> Result<(), Refusal>
 /// There is room for so many more.
 #[tactic(auto, using(std::proofs::lemmas::Bool::Decides::nat_tests))]
 fn needs_at_most(count: u64, more: u64, limit: u64, which: Quantity) -> Result<(), Refusal>
-    ensures { result ≡ refusing.needs_at_most (count + more) limit which }
+    ensures test { result ≡ refusing.needs_at_most (count + more) limit which }
+    ensures within { OnOk result (count + more ≤ limit) }
 {
     if count <= limit && more <= limit - count {
         Ok(())
@@ -96,5 +98,28 @@ impl Catalogue {
             limits.contents,
             Quantity::Contents,
         )
+    }
+    /// There is room for an entry, for so many commits, and for so many keys that they set on the
+    /// branch's map.
+    #[tactic(auto, unfolding(cat_model::specs::Merges::needs_planned_room))]
+    pub fn needs_planned_room(
+        &self,
+        head: &KeyMap,
+        commits: u64,
+        puts: u64,
+    ) -> Result<(), Refusal>
+        ensures test { (planned : List Planned) → length (commits_made planned) ≡ commits → length (all_set planned) ≡ puts → result ≡ needs_planned_room self.now head.now planned }
+        ensures place { OnOk result (self.now.place < 4294967295) }
+        ensures commits { OnOk result (length self.now.commits + commits ≤ 4294967295) }
+    {
+        let limits = self.limits();
+        needs_room(u64::from(self.place()), limits.log, Quantity::Log)?;
+        needs_at_most(
+            self.commit_count(),
+            commits,
+            limits.commits,
+            Quantity::Commits,
+        )?;
+        needs_at_most(head.len() as u64, puts, limits.keys, Quantity::Keys)
     }
 }
