@@ -71,7 +71,10 @@ fn in_order(
     let mut sorted = modes.into_vec();
     sorted.sort_unstable_by(|a, b| compare(a, b));
     match Ascending::from_seq(Seq::from_vec(sorted)?) {
-        Some(modes) => Ok(modes),
+        Some(modes) => {
+            modes.known();
+            Ok(modes)
+        }
         None => Err(JsonFault::Bad),
     }
 }
