@@ -81,8 +81,12 @@ impl ReadForm for GivenMetaForm {
         let none = Seq::new(alloc);
         let signed = defaulted::<Seq<Text>>(alloc, value, "allSignedOffBy", none)?;
         let none = Ascending::new(alloc);
-        let properties =
-            defaulted::<Ascending<Text, Seq<Text>>>(alloc, value, "allProperties", none)?;
+        let properties = defaulted::<Ascending<Text, Seq<Text>>>(
+            alloc,
+            value,
+            "allProperties",
+            none,
+        )?;
         let author_time = optional::<InstantForm>(alloc, value, "authorTime")?;
         Ok(GivenMeta {
             message,

@@ -59,8 +59,7 @@ impl ReadForm for MergeForm {
         let given = given(alloc, value)?;
         let modes = modes(alloc, value)?;
         let dry_run = defaulted::<bool>(alloc, value, "dryRun", false)?;
-        let conflicts_as_result =
-            defaulted::<bool>(alloc, value, "returnConflictAsResult", false)?;
+        let conflicts_as_result = defaulted::<bool>(alloc, value, "returnConflictAsResult", false)?;
         Ok(MergeBody {
             from,
             from_hash,

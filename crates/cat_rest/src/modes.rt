@@ -97,8 +97,12 @@ impl ReadForm for KeyModesForm {
 pub(crate) fn modes(alloc: Global, value: &Value) -> Result<Modes, JsonFault>
     ensures { Gives result (modes_as (view value.now)) }
 {
-    let default =
-        defaulted::<BehaviourForm>(alloc, value, "defaultKeyMergeMode", Behaviour::Normal)?;
+    let default = defaulted::<BehaviourForm>(
+        alloc,
+        value,
+        "defaultKeyMergeMode",
+        Behaviour::Normal,
+    )?;
     let none = Ascending::new(alloc);
     let keys = defaulted::<KeyModesForm>(alloc, value, "keyMergeModes", none)?;
     Ok(Modes { default, keys })
