@@ -1,7 +1,7 @@
 -- What is said of commits, as JSON.
 use Rattle.std.specs.Prelude.{◌≡◌, ◌≤◌, ℕ, IfSome, List, [], ◌∷◌, Option, Some, None, option_map, codes, false}
 use Rattle.serde_json.specs.Data.{Data, string, object, Members, no_members}
-use Rattle.serde_json.specs.Find.{as_str}
+use Rattle.serde_json.specs.Find.{as_object, as_str}
 use Rattle.serde_json.specs.Written.{has_float, members_have_float}
 use Rattle.cat_json.specs.Reading.{◌>>=◌, optional, defaulted, list_as, map_as, Ascends}
 use Rattle.cat_json.specs.Writing.{list_data, map_data, ◌+>◌, ◌+?>◌, floatless}
@@ -12,9 +12,10 @@ use Rattle.cat_model.specs.declared.commit.Commit.{Commit}
 use Rattle.cat_commit.specs.Instants.{moment_as, moment_data}
 use Rattle.cat_commit.specs.declared.meta.GivenMeta.{GivenMeta}
 
--- what is said of a commit, of which each member may be absent or null
+-- what is said of a commit: an object, of which each member may be absent or null
 unfoldable pub given_meta_as : Data → Option GivenMeta
 given_meta_as d =
+    as_object d >>= λ _.
     optional as_str (codes "message") d >>= λ message.
     defaulted (list_as as_str) [] (codes "authors") d >>= λ authors.
     defaulted (list_as as_str) [] (codes "allSignedOffBy") d >>= λ signed.

@@ -65,7 +65,8 @@ impl GivenMeta {
     }
 }
 
-/// The form of metas that may get their message elsewhere: each member may be absent or null.
+/// The form of metas that may get their message elsewhere: an object, each of whose members may be
+/// absent or null.
 pub struct GivenMetaForm;
 
 impl ReadForm for GivenMetaForm {
@@ -75,6 +76,9 @@ impl ReadForm for GivenMetaForm {
 
     #[tactic(auto, unfolding(crate::specs::Metas::given_meta_as))]
     fn from_json(alloc: Global, value: &Value) -> Result<GivenMeta, JsonFault> {
+        if value.as_object().is_none() {
+            return Err(JsonFault::Bad);
+        }
         let message = optional::<Text>(alloc, value, "message")?;
         let none = Seq::new(alloc);
         let authors = defaulted::<Seq<Text>>(alloc, value, "authors", none)?;
