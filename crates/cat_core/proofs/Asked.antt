@@ -14,3 +14,8 @@ ops_are_distinct c h =
     let asked = (and_true (may_be_asked c.ops) (have_contents sha256 c.ops c.contents) h).0 in
     let keys = (and_true (nat_lt 0 (length c.ops) && nat_le (length c.ops) most_ops && are_distinct c.ops) (ids_differ (given_ids c.ops)) asked).0 in
     (and_true (nat_lt 0 (length c.ops) && nat_le (length c.ops) most_ops) (are_distinct c.ops) keys).1
+
+-- each of its PUTs has its content
+pub have_theirs : (c : CommitRequest) → is_well_made sha256 (commands.Commit c) ≡ true → have_contents sha256 c.ops c.contents ≡ true
+unfolding is_well_made
+have_theirs c h = (and_true (may_be_asked c.ops) (have_contents sha256 c.ops c.contents) h).1

@@ -7,3 +7,5 @@ pub mod PlainCalls
 pub mod PlainMoves
 pub mod Called
 pub mod Undrafted
+pub mod Puts
+pub mod Unexpired

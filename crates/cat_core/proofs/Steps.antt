@@ -1,5 +1,6 @@
 -- The step of a commit, by how far it comes.
 use Rattle.std.proofs.Common.{◌≡◌, ℕ, List, [], ◌∷◌, Result, Ok, map, filter_map, refl, true, sym, ap, subst, ◌∙◌}
+use Rattle.std.specs.List.{list_all}
 use Rattle.sha2.specs.Sha256.{sha256}
 use Rattle.cat_names.specs.declared.hash.Hash.{Hash}
 use Rattle.cat_model.specs.declared.command.CommitRequest.{CommitRequest}
@@ -21,7 +22,7 @@ use Rattle.cat_state.specs.declared.failure.Failure.{Failure}
 use Rattle.cat_state.specs.declared.records.NewCommit.{NewCommit}
 use Rattle.cat_state.specs.Adding.{AreHashesOf}
 use Rattle.cat_state.specs.Giving.{Fails}
-use Rattle.cat_state.specs.Keeping.{MayBeAdded}
+use Rattle.cat_state.specs.Keeping.{MayBeAdded, is_held}
 use Rattle.cat_state.specs.KeepingLaws.{upon_may_be_added}
 use Rattle.cat_core.specs.declared.given.Given.{Given}
 use Rattle.cat_core.specs.declared.logging.Turn.{Turn}
@@ -136,5 +137,5 @@ step_added state turn c branch expected given made map g opened r j p =
 
 -- what was prepared is what its hashes say
 pub made_of : (state : State) (turn : Turn) (c : CommitRequest) (branch : Reference) (given : Given) (made : Prepared)
-    → IsPrepared state turn c branch given made → AreHashesOf (given.hashes).items given.contents → IsMade state made
-made_of state turn c branch given made p h = record { hashes = rw (p.hashes, p.request) h; written = p.written; next = p.next; head = rw p.moved refl }
+    → IsPrepared state turn c branch given made → AreHashesOf (given.hashes).items given.contents → list_all (λ x. is_held state.present (made.hashes).items x.1.hash) made.kept.map ≡ true → IsMade state made
+made_of state turn c branch given made p h held = record { hashes = rw (p.hashes, p.request) h; written = p.written; next = p.next; head = rw p.moved refl; held = held }

@@ -1,3 +1,4 @@
 pub mod Ops
 pub mod Making
 pub mod Putting
+pub mod Expiring

@@ -1,5 +1,6 @@
 -- What a commit adds to a book.
-use Rattle.std.specs.Prelude.{◌≡◌, ◌+◌, Some, Result, Ok, Err, flat_map}
+use Rattle.std.specs.Prelude.{◌≡◌, ◌+◌, Some, Result, Ok, Err, IsTrue, flat_map}
+use Rattle.std.specs.List.{list_all}
 use Rattle.sha2.specs.Sha256.{sha256}
 use Rattle.cat_model.specs.declared.command.Command.TheVariants as commands
 use Rattle.cat_model.specs.declared.command.CommitRequest.{CommitRequest}
@@ -14,7 +15,7 @@ use Rattle.cat_model.specs.State.{State}
 use Rattle.cat_state.specs.declared.failure.Failure.{Failure}
 use Rattle.cat_state.specs.Adding.{AreHashesOf, IsRecordOf, moved_state}
 use Rattle.cat_state.specs.Giving.{Fails}
-use Rattle.cat_state.specs.Keeping.{MayBeAdded}
+use Rattle.cat_state.specs.Keeping.{MayBeAdded, is_held}
 use Rattle.cat_core.specs.declared.given.Given.{Given}
 use Rattle.cat_core.specs.declared.logging.Turn.{Turn}
 use Rattle.cat_core.specs.declared.preparing.Prepared.{Prepared}
@@ -35,12 +36,13 @@ accepted_book book after turn made = with_entry (taking book turn.draft) after (
 abbrev pub accepted_told : Book → Prepared → Told
 accepted_told book made = record { place = book.state.place + 1; reply = replies.Committed (record { added = made.added; target = made.moved }) }
 
--- what is made is what its hashes say, and may be added to the state, where the branch points at its commit
+-- what is made is what its hashes say, and may be added to the state, where the branch points at its commit; each content that is visible at it is there or among those added
 pub record IsMade (state : State) (made : Prepared) : Type 0 where
   pub hashes : AreHashesOf made.hashes.items made.request.contents
   pub written : IsRecordOf made.kept.commit made.kept.written
   pub next : MayBeAdded state.commits made.kept.commit made.kept.map
   pub head : made.moved.head ≡ made.kept.written.hash
+  pub held : IsTrue (list_all (λ x. is_held state.present made.hashes.items x.1.hash) made.kept.map)
 
 -- a step adds what is made, or is refused, unless memory ran out
 abbrev pub LeadsTo : State → Result Prepared Failure → Outcome → Type 0

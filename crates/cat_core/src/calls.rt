@@ -1,15 +1,16 @@
 //! The calls of a store.
 
-ghost use Rattle.std.specs.Prelude.{◌≡◌, ◌<◌, true, IfOk, IsTrue, OnOk};
+ghost use Rattle.std.specs.Prelude.{◌≡◌, ◌<◌, true, false, IfErr, IfOk, IsTrue, OnOk};
 ghost use Rattle.sha2.specs.Sha256.{sha256};
 ghost use Rattle.cat_model.specs.Book.{Applies, Reads, call_on};
 ghost use Rattle.cat_model.specs.Calls.{needs_draft};
 ghost use Rattle.cat_model.specs.Commits.{commit_opening};
 ghost use Rattle.cat_model.specs.Distinct.{are_distinct};
 ghost use Rattle.cat_model.specs.State.{is_known};
-ghost use Rattle.cat_model.specs.WellMade.{is_well_made};
+ghost use Rattle.cat_model.specs.WellMade.{have_contents, is_well_made};
 ghost use Rattle.cat_model.specs.declared.command.Command.TheVariants as commands;
 ghost use Rattle.cat_state.specs.Giving.{SaysAs};
+ghost use Rattle.cat_core.specs.Expiring.{fails_expired};
 ghost use Rattle.cat_core.specs.Making.{Makes, refused_at, taking};
 
 use crate::logging::Turn;
@@ -106,8 +107,10 @@ impl Store {
         moment: Moment,
         request: &CommitRequest,
     ) -> Result<Told, Failure>
-        requires { IsTrue (are_distinct request.now.ops) }
-        ensures { Makes (call_on sha256 caller self.old (commands.Commit request.now) moment) self.old self.new result }
+        requires distinct { IsTrue (are_distinct request.now.ops) }
+        requires contents { IsTrue (have_contents sha256 request.now.ops request.now.contents) }
+        ensures call { Makes (call_on sha256 caller self.old (commands.Commit request.now) moment) self.old self.new result }
+        ensures there { IfErr result (λ failure. fails_expired failure ≡ false) }
     {
         let (branch, expected) = self.open(request)?;
         self.needs_draft()?;
@@ -126,7 +129,7 @@ impl Store {
     }
 
     /// Makes a call, by what it is.
-    #[tactic(auto, using(crate::proofs::Asked::ops_are_distinct))]
+    #[tactic(auto, using(crate::proofs::Asked::ops_are_distinct, crate::proofs::Asked::have_theirs))]
     fn make(
         &mut self,
         alloc: Global,

@@ -5,6 +5,7 @@ ghost use Rattle.sha2.specs.Sha256.{sha256};
 ghost use Rattle.cat_model.specs.Commits.{commit_opening, given_request, step_commit};
 ghost use Rattle.cat_model.specs.Distinct.{are_distinct};
 ghost use Rattle.cat_model.specs.State.{is_known};
+ghost use Rattle.cat_model.specs.WellMade.{have_contents};
 ghost use Rattle.cat_core.specs.Putting.{IsMade, LeadsTo};
 
 use crate::given::with_ids;
@@ -30,6 +31,7 @@ impl Store {
         expected: &Hash,
     ) -> Result<Prepared, Failure>
         requires distinct { IsTrue (are_distinct request.now.ops) }
+        requires contents { IsTrue (have_contents sha256 request.now.ops request.now.contents) }
         requires opened { commit_opening sha256 self.now.state request.now ≡ Ok (branch.now, expected.now) }
         requires known { IsTrue (is_known sha256 self.now.state branch.now.head) }
         ensures step { LeadsTo self.now.state result (step_commit sha256 self.now.state request.now turn.draft turn.moment) }
@@ -40,6 +42,7 @@ impl Store {
         let given = with_ids(alloc, turn.draft, request)?;
         let catalogue = self.catalogue();
         catalogue.map_is_well_formed(&branch.head);
+        catalogue.contents_are_held();
         let head = catalogue.map_at(&branch.head)?;
         catalogue.needs_commit_room(&head, puts(given.ops.as_slice()))?;
         let before = catalogue.map_at(expected)?;

@@ -1,11 +1,12 @@
 //! Calls that make, move and remove references. They open no draft.
 
-ghost use Rattle.std.specs.Prelude.{◌≡◌, ◌<◌, Some, None, IfOk, IsTrue, OnErr, OnOk};
+ghost use Rattle.std.specs.Prelude.{◌≡◌, ◌<◌, Some, None, false, IfErr, IfOk, IsTrue, OnErr, OnOk};
 ghost use Rattle.sha2.specs.Sha256.{sha256};
 ghost use Rattle.cat_model.specs.Book.{call_on};
 ghost use Rattle.cat_model.specs.Moves.{with_references};
 ghost use Rattle.cat_model.specs.State.{is_known, moved_reference, reference_of, with_reference, without_reference};
 ghost use Rattle.cat_model.specs.declared.command.Command.TheVariants as commands;
+ghost use Rattle.cat_core.specs.Expiring.{fails_expired};
 ghost use Rattle.cat_core.specs.Making.{Makes, entry_at, reference_told, with_entry};
 
 use crate::logging::{Turn, entry, push_entry, reserve_entry};
@@ -135,8 +136,10 @@ impl Store {
         moment: Moment,
         create: &Create,
     ) -> Result<Told, Failure>
-        ensures { Makes (call_on sha256 caller self.old (commands.Create create.now) moment) self.old self.new result }
+        ensures call { Makes (call_on sha256 caller self.old (commands.Create create.now) moment) self.old self.new result }
+        ensures there { IfErr result (λ failure. fails_expired failure ≡ false) }
     {
+        self.catalogue().contents_are_held();
         let made = self.created(alloc, create)?;
         let answer = copy_reference(&made)?;
         let command = logged_create(create)?;
@@ -152,8 +155,10 @@ impl Store {
         moment: Moment,
         assign: &Assign,
     ) -> Result<Told, Failure>
-        ensures { Makes (call_on sha256 caller self.old (commands.Assign assign.now) moment) self.old self.new result }
+        ensures call { Makes (call_on sha256 caller self.old (commands.Assign assign.now) moment) self.old self.new result }
+        ensures there { IfErr result (λ failure. fails_expired failure ≡ false) }
     {
+        self.catalogue().contents_are_held();
         let moved = self.assigned(alloc, assign)?;
         let command = logged_assign(assign)?;
         let told = self.move_to(undrafted(caller, moment), command, moved)?;
@@ -168,7 +173,8 @@ impl Store {
         moment: Moment,
         delete: &Delete,
     ) -> Result<Told, Failure>
-        ensures { Makes (call_on sha256 caller self.old (commands.Delete delete.now) moment) self.old self.new result }
+        ensures call { Makes (call_on sha256 caller self.old (commands.Delete delete.now) moment) self.old self.new result }
+        ensures there { IfErr result (λ failure. fails_expired failure ≡ false) }
     {
         let removed = self.deleted(alloc, delete)?;
         let command = logged_delete(delete)?;

@@ -1,21 +1,28 @@
 use Rattle.std.proofs.Common.{Some, refl}
 use Rattle.std.proofs.lemmas.Result.{err_from_is_err_and}
+use Rattle.sha2.specs.Sha256.{sha256}
 use Rattle.cat_model.specs.declared.command.Command.TheVariants as commands
-use Rattle.cat_model.specs.Moves.{with_references}
+use Rattle.cat_model.specs.Moves.{step_assign, with_references}
 use Rattle.cat_model.specs.State.{moved_reference}
 use Rattle.cat_core.proofs.PlainMoves.{plain_assign}
 use Rattle.cat_core.proofs.Undrafted.{undrafted_done, undrafted_fails}
+use Rattle.cat_core.proofs.Unexpired.{unexpired_fails, unexpired_assign}
 use Rattle.cat_core.proofs.store.Store.assign.Goals as goal
 
-pub returns-in_err-moved : goal.returns-in_err-moved
-returns-in_err-moved c =
+pub returns-in_err-moved-clause-call : goal.returns-in_err-moved-clause-call
+returns-in_err-moved-clause-call c =
     let p = err_from_is_err_and c.from_residual.result c.from_residual.ensures.1 in
     rw (p.1, p.2) (undrafted_fails c.args.caller c.args.self.now (commands.Assign c.args.assign.now) c.args.moment c.in_err-moved.field-0.0
     (record { opens = refl; passes = refl }) (plain_assign c.args.self.now.state c.args.assign.now) c.in_err-moved.ensures.step)
 
-pub returns : goal.returns
-returns c =
+pub returns-clause-call : goal.returns-clause-call
+returns-clause-call c =
     let state = c.args.self.now.state in
     let moved = c.in_ok-moved.moved in
     undrafted_done c.args.caller c.args.self.now c.move_to.new.self (commands.Assign c.args.assign.now) c.in_ok-command.command c.args.moment c.undrafted.result (with_references state (moved_reference state.references moved)) moved (Some moved.head) c.in_ok-told.told
     (record { opens = refl; passes = refl }) c.in_ok-moved.ensures.step refl c.undrafted.ensures c.in_ok-command.ensures refl c.in_ok-told.ensures.ok c.in_ok-told.ensures.told
+
+pub returns-in_err-moved-clause-there : goal.returns-in_err-moved-clause-there
+returns-in_err-moved-clause-there c =
+    let p = err_from_is_err_and c.from_residual.result c.from_residual.ensures.1 in
+    rw (p.1, p.2) (unexpired_fails c.in_err-moved.field-0.0 (step_assign sha256 c.args.self.now.state c.args.assign.now) (unexpired_assign c.args.self.now.state c.args.assign.now (λ hash. rw c.catalogue.ensures at c.contents_are_held.ensures hash)) c.in_err-moved.ensures.step)

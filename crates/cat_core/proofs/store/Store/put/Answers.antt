@@ -6,7 +6,8 @@ use Rattle.cat_model.specs.Namespaces.{is_well_formed}
 use Rattle.cat_state.specs.declared.failure.Failure.TheVariants.{Refused}
 use Rattle.cat_state.specs.Giving.{Fails}
 use Rattle.cat_core.proofs.Ids.{still_distinct}
-use Rattle.cat_core.proofs.Steps.{judge_at, logged_is, made_of, map_is_after, room_is, step_added, step_conflicts, step_no_room}
+use Rattle.cat_core.proofs.Puts.{map_held}
+use Rattle.cat_core.proofs.Steps.{AreGiven, judge_at, logged_is, made_of, map_is_after, room_is, step_added, step_conflicts, step_no_room}
 use Rattle.cat_core.proofs.store.Store.put.Goals as goal
 
 pub returns-in_err-needs_commit_room-clause-step : goal.returns-in_err-needs_commit_room-clause-step
@@ -53,4 +54,8 @@ returns-clause-logged c =
     c.in_ok-made.ensures.request ∙ given
 
 pub returns-clause-made : goal.returns-clause-made
-returns-clause-made c = made_of c.args.self.now.state c.args.turn c.args.request.now c.args.branch.now c.in_ok-given.given c.in_ok-made.made c.in_ok-made.ensures c.in_ok-given.ensures.hashes
+returns-clause-made c =
+    let given : AreGiven c.args.turn.draft c.args.request.now c.in_ok-given.given.ops c.in_ok-given.given.contents = record { ops_are = c.in_ok-given.ensures.ops; contents_are = c.in_ok-given.ensures.contents } in
+    let there = rw c.catalogue-catalogue.ensures at c.contents_are_held.ensures c.args.branch.now.head in
+    made_of c.args.self.now.state c.args.turn c.args.request.now c.args.branch.now c.in_ok-given.given c.in_ok-made.made c.in_ok-made.ensures c.in_ok-given.ensures.hashes
+    (map_held c.args.self.now.state c.args.turn c.args.request.now c.args.branch.now c.in_ok-given.given c.in_ok-made.made given c.requires.contents c.in_ok-given.ensures.hashes there c.in_ok-made.ensures)
