@@ -9,3 +9,4 @@ pub mod Called
 pub mod Undrafted
 pub mod Puts
 pub mod Unexpired
+pub mod Growing

@@ -3,6 +3,7 @@
 ghost use Rattle.std.specs.Prelude.{◌≡◌, ◌<◌, ◌+◌, IfOk, OnErr, OnOk};
 ghost use Rattle.cat_core.specs.Making.{taking};
 ghost use Rattle.cat_core.specs.Putting.{accepted_book, accepted_told, add_step, IsMade};
+ghost use Rattle.cat_state.specs.Adding.{IsAbove};
 ghost use Rattle.cat_state.specs.Giving.{GivesAs};
 
 use crate::logging::{Turn, entry, push_entry, reserve_entry};
@@ -26,6 +27,7 @@ impl Store {
         ensures step { GivesAs (λ told. (self.new.state, told.reply)) result (add_step self.old.state made) }
         ensures ok { OnOk result (self.new ≡ accepted_book self.old self.new.state turn made) }
         ensures place { OnOk result (self.new.state.place ≡ self.old.state.place + 1) }
+        ensures later { OnOk result (IsAbove self.old.state.commits self.new.state.commits) }
         ensures told { IfOk result (λ told. told ≡ accepted_told self.old made) }
         ensures err { OnErr result (self.new ≡ taking self.old turn.draft) }
     {

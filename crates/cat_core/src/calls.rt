@@ -9,8 +9,9 @@ ghost use Rattle.cat_model.specs.Distinct.{are_distinct};
 ghost use Rattle.cat_model.specs.State.{is_known};
 ghost use Rattle.cat_model.specs.WellMade.{have_contents, is_well_made};
 ghost use Rattle.cat_model.specs.declared.command.Command.TheVariants as commands;
+ghost use Rattle.cat_state.specs.Adding.{IsAbove};
 ghost use Rattle.cat_state.specs.Giving.{SaysAs};
-ghost use Rattle.cat_core.specs.Expiring.{fails_expired};
+ghost use Rattle.cat_core.specs.Expiring.{fails_expired, is_expired};
 ghost use Rattle.cat_core.specs.Making.{Makes, refused_at, taking};
 
 use crate::logging::Turn;
@@ -28,7 +29,8 @@ use std::alloc::Global;
 
 /// A call's refusal at a place; want of memory has none.
 fn refused(place: u32, failure: Failure) -> Refused
-    ensures { result ≡ refused_at place failure }
+    ensures value { result ≡ refused_at place failure }
+    ensures there { is_expired result.why ≡ fails_expired failure }
 {
     match failure {
         Failure::Refused(why) => Refused {
@@ -100,6 +102,7 @@ impl Store {
     }
 
     /// Commits the operations of a request on distinct keys.
+    #[tactic(auto, using(crate::proofs::Growing::above_same, crate::proofs::Growing::above_taking))]
     fn commit(
         &mut self,
         alloc: Global,
@@ -111,6 +114,7 @@ impl Store {
         requires contents { IsTrue (have_contents sha256 request.now.ops request.now.contents) }
         ensures call { Makes (call_on sha256 caller self.old (commands.Commit request.now) moment) self.old self.new result }
         ensures there { IfErr result (λ failure. fails_expired failure ≡ false) }
+        ensures later { IsAbove self.old.state.commits self.new.state.commits }
     {
         let (branch, expected) = self.open(request)?;
         self.needs_draft()?;
@@ -129,7 +133,7 @@ impl Store {
     }
 
     /// Makes a call, by what it is.
-    #[tactic(auto, using(crate::proofs::Asked::ops_are_distinct, crate::proofs::Asked::have_theirs))]
+    #[tactic(auto, using(crate::proofs::Asked::ops_are_distinct, crate::proofs::Asked::have_theirs, crate::proofs::Growing::above_same))]
     fn make(
         &mut self,
         alloc: Global,
@@ -138,7 +142,9 @@ impl Store {
         command: &Command,
     ) -> Result<Told, Failure>
         requires { IsTrue (is_well_made sha256 command.now) }
-        ensures { Makes (call_on sha256 caller self.old command.now moment) self.old self.new result }
+        ensures call { Makes (call_on sha256 caller self.old command.now moment) self.old self.new result }
+        ensures there { IfErr result (λ failure. fails_expired failure ≡ false) }
+        ensures later { IsAbove self.old.state.commits self.new.state.commits }
     {
         match command {
             Command::Create(create) => self.create(alloc, caller, moment, create),
@@ -157,7 +163,9 @@ impl Store {
         command: &Command,
     ) -> Result<Told, Refused>
         requires { IsTrue (is_well_made sha256 command.now) }
-        ensures { Applies (call_on sha256 caller self.old command.now moment) self.old self.new result }
+        ensures call { Applies (call_on sha256 caller self.old command.now moment) self.old self.new result }
+        ensures there { IfErr result (λ refused. is_expired refused.why ≡ false) }
+        ensures later { IsAbove self.old.state.commits self.new.state.commits }
     {
         let place = self.place();
         match self.make(alloc, caller, moment, command) {

@@ -6,6 +6,7 @@ ghost use Rattle.cat_model.specs.Book.{call_on};
 ghost use Rattle.cat_model.specs.Moves.{with_references};
 ghost use Rattle.cat_model.specs.State.{is_known, moved_reference, reference_of, with_reference, without_reference};
 ghost use Rattle.cat_model.specs.declared.command.Command.TheVariants as commands;
+ghost use Rattle.cat_state.specs.Adding.{IsAbove};
 ghost use Rattle.cat_core.specs.Expiring.{fails_expired};
 ghost use Rattle.cat_core.specs.Making.{Makes, entry_at, reference_told, with_entry};
 
@@ -129,6 +130,7 @@ impl Store {
     }
 
     /// Makes a reference at a source.
+    #[tactic(auto, using(crate::proofs::Growing::above_same, crate::proofs::Growing::above_entry))]
     pub(crate) fn create(
         &mut self,
         alloc: Global,
@@ -138,6 +140,7 @@ impl Store {
     ) -> Result<Told, Failure>
         ensures call { Makes (call_on sha256 caller self.old (commands.Create create.now) moment) self.old self.new result }
         ensures there { IfErr result (λ failure. fails_expired failure ≡ false) }
+        ensures later { IsAbove self.old.state.commits self.new.state.commits }
     {
         self.catalogue().contents_are_held();
         let made = self.created(alloc, create)?;
@@ -148,6 +151,7 @@ impl Store {
     }
 
     /// Moves a reference to a source.
+    #[tactic(auto, using(crate::proofs::Growing::above_same, crate::proofs::Growing::above_entry))]
     pub(crate) fn assign(
         &mut self,
         alloc: Global,
@@ -157,6 +161,7 @@ impl Store {
     ) -> Result<Told, Failure>
         ensures call { Makes (call_on sha256 caller self.old (commands.Assign assign.now) moment) self.old self.new result }
         ensures there { IfErr result (λ failure. fails_expired failure ≡ false) }
+        ensures later { IsAbove self.old.state.commits self.new.state.commits }
     {
         self.catalogue().contents_are_held();
         let moved = self.assigned(alloc, assign)?;
@@ -166,6 +171,7 @@ impl Store {
     }
 
     /// Removes a reference.
+    #[tactic(auto, using(crate::proofs::Growing::above_same, crate::proofs::Growing::above_entry))]
     pub(crate) fn delete(
         &mut self,
         alloc: Global,
@@ -175,6 +181,7 @@ impl Store {
     ) -> Result<Told, Failure>
         ensures call { Makes (call_on sha256 caller self.old (commands.Delete delete.now) moment) self.old self.new result }
         ensures there { IfErr result (λ failure. fails_expired failure ≡ false) }
+        ensures later { IsAbove self.old.state.commits self.new.state.commits }
     {
         let removed = self.deleted(alloc, delete)?;
         let command = logged_delete(delete)?;

@@ -1,0 +1,34 @@
+-- Commits that stay or are one more.
+use Rattle.std.proofs.Common.{◌≡◌, ℕ, suc, ◌-◌, List, ◌∷◌, length, drop, refl, sym, ap, subst, arith}
+use Rattle.cat_names.specs.declared.hash.Hash.{Hash}
+use Rattle.cat_model.specs.declared.commit.Commit.{Commit}
+use Rattle.cat_model.specs.declared.log_entry.LogEntry.{LogEntry}
+use Rattle.cat_model.specs.declared.reference.Reference.{Reference}
+use Rattle.cat_model.specs.Book.{Book}
+use Rattle.cat_model.specs.Chain.{Commits}
+use Rattle.cat_model.specs.Moves.{with_references}
+use Rattle.cat_state.specs.Adding.{IsAbove}
+use Rattle.cat_core.specs.Making.{taking, with_entry}
+
+none_more : (n : ℕ) → n - n ≡ 0
+none_more n = omega arith
+
+one_more : (n : ℕ) → suc n - n ≡ 1
+one_more n = omega arith
+
+pub above_itself : (commits : Commits) → IsAbove commits commits
+above_itself commits = ap (λ (k : ℕ). drop k commits) (none_more (length commits))
+
+pub above_one : (x : Hash × Commit) (commits : Commits) → IsAbove commits (x ∷ commits)
+above_one x commits = ap (λ (k : ℕ). drop k (x ∷ commits)) (one_more (length commits))
+
+-- a book that stays, or only takes a draft number
+pub above_same : (book after : Book) → after ≡ book → IsAbove book.state.commits after.state.commits
+above_same book after e = subst (λ (b : Book). IsAbove book.state.commits b.state.commits) (sym e) (above_itself book.state.commits)
+
+pub above_taking : (book after : Book) (draft : ℕ) → after ≡ taking book draft → IsAbove book.state.commits after.state.commits
+above_taking book after draft e = subst (λ (b : Book). IsAbove book.state.commits b.state.commits) (sym e) (above_itself book.state.commits)
+
+-- a book whose references alone change, with an entry more
+pub above_entry : (book after : Book) (references : List Reference) (entry : LogEntry) → after ≡ with_entry book (with_references book.state references) entry → IsAbove book.state.commits after.state.commits
+above_entry book after references entry e = subst (λ (b : Book). IsAbove book.state.commits b.state.commits) (sym e) (above_itself book.state.commits)
