@@ -1,5 +1,5 @@
 -- The place and the commits after what is accepted.
-use Rattle.std.proofs.Common.{◌≡◌, ℕ, ◌+◌, List, [], ◌∷◌, Option, Some, None, Result, Ok, Err, Bool, true, false, if◌then◌else◌, refl, sym, ap, subst, ◌∙◌}
+use Rattle.std.proofs.Common.{◌≡◌, ℕ, ◌+◌, List, [], ◌∷◌, Option, Some, None, Result, Ok, Err, Bool, true, false, if◌then◌else◌, refl, ap, subst, ◌∙◌}
 use Rattle.sha2.specs.Sha256.{sha256}
 use Rattle.cat_names.specs.declared.hash.Hash.{Hash}
 use Rattle.cat_model.specs.declared.commit.Commit.{Commit}
@@ -12,7 +12,6 @@ use Rattle.cat_model.specs.Chain.{Commits}
 use Rattle.cat_model.specs.Contents.{content_code}
 use Rattle.cat_model.specs.Formats.{commit_code}
 use Rattle.cat_model.specs.Records.{added, commit_bytes, content_bytes, with_commit, with_content, with_contents}
-use Rattle.cat_model.specs.Refusing.{◌>>=◌}
 use Rattle.cat_model.specs.State.{State, commit_hash, content_hash}
 use Rattle.cat_state.specs.Adding.{IsAbove, moved_state, with_all}
 use Rattle.cat_state.specs.GivingLaws.{passed_by}

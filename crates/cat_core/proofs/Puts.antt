@@ -1,5 +1,5 @@
 -- Contents of what the operations of a request set.
-use Rattle.std.proofs.Common.{◌≡◌, ℕ, ◌+◌, List, [], ◌∷◌, Option, Some, None, Bool, true, false, cond, ◌&&◌, nat_eq, length, is_some, map, filter_map, flat_map, refl, sym, ap, subst, ◌∙◌}
+use Rattle.std.proofs.Common.{◌≡◌, ℕ, ◌+◌, List, [], ◌∷◌, Option, Some, None, Bool, true, false, cond, nat_eq, length, map, filter_map, flat_map, refl, sym, ap, subst, ◌∙◌}
 use Rattle.std.specs.List.{cons_option, list_all, list_any}
 use Rattle.std.specs.Ordering.{is_lt}
 use Rattle.sha2.specs.Sha256.{sha256}
