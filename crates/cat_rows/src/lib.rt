@@ -9,6 +9,8 @@ mod content_texts;
 #[cfg(test)]
 mod contents;
 #[cfg(test)]
+mod crossings;
+#[cfg(test)]
 mod entries;
 #[cfg(test)]
 mod faults;
@@ -22,6 +24,10 @@ mod histories;
 mod judging;
 #[cfg(test)]
 mod limits;
+#[cfg(test)]
+mod merge_requests;
+#[cfg(test)]
+mod merges;
 #[cfg(test)]
 mod queries;
 #[cfg(test)]

@@ -10,7 +10,7 @@ pub returns-in-Ok-Change : goal.returns-in-Ok-Change
 returns-in-Ok-Change g c k s at =
     let wants = rw c.in-Ok-Change.field-0-is at c.in-Ok-Change.ensures.wanted in
     from_change k s c.args.request.now c.args.store.now _ _ _ c.in-Ok-Change.command _ _ c.apply-told.result _ at wants
-    c.now.ensures.ticks c.from_micros-moment.ensures c.apply-told.ensures c.is_ok-may_change.ensures.value
+    c.now.ensures.ticks c.from_micros-moment.ensures c.apply-told.ensures.call c.is_ok-may_change.ensures.value
 
 pub returns-in-Err : goal.returns-in-Err
 returns-in-Err g c k s at = from_refusal k s c.args.request.now c.args.store.now _ c.in-Err.refused at c.in-Err.ensures.wanted
