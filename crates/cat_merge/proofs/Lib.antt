@@ -1,4 +1,3 @@
 mod Searched
 mod Made
 mod Kept
-mod Passing

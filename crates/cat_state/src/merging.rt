@@ -1,39 +1,28 @@
 //! What a merge asks of the catalogue.
 
-ghost use Rattle.std.specs.Prelude.{◌≡◌, ◌∷◌, ◌++◌, [], IfOk, IsTrue, OnOk, is_none};
+ghost use Rattle.std.specs.Prelude.{◌≡◌, ◌∷◌, ◌++◌, [], IfOk, IsTrue, OnOk};
 ghost use Rattle.sha2.specs.Sha256.{sha256};
 ghost use Rattle.cat_model.specs.Base.{base};
 ghost use Rattle.cat_model.specs.KeySets.{key_set};
 ghost use Rattle.cat_model.specs.Merges.{entries_set};
 ghost use Rattle.cat_model.specs.Records.{expired_keys, needs_no_expired};
-ghost use Rattle.cat_model.specs.State.{content_at, is_known};
+ghost use Rattle.cat_model.specs.State.{is_known};
 ghost use Rattle.cat_state.specs.Adding.{IsRecordOf, needs_no_collision};
 ghost use Rattle.cat_state.specs.Giving.{Gives};
 
 use crate::adding::is_new_commit;
 use crate::catalogue::Catalogue;
-use crate::contents::find_content;
 use crate::failure::Failure;
+use crate::needing::needs_none;
 use crate::records::Record;
 use cat_codes::ascending::Ascending;
 use cat_codes::fault::NoMemory;
 use cat_codes::seq::Seq;
 use cat_model::commit::Commit;
 use cat_model::entry::Entry;
-use cat_model::refusal::Refusal;
 use cat_names::hash::Hash;
 use cat_names::key::ContentKey;
 use std::alloc::Global;
-
-/// Refused with keys, if there are any, and the place where the call began.
-fn needs_no_expired(keys: Seq<ContentKey>, opened: u32) -> Result<(), Failure>
-    ensures { Gives result (needs_no_expired keys opened) }
-{
-    if keys.len() == 0 {
-        return Ok(());
-    }
-    Err(Failure::Refused(Refusal::Expired { keys, opened }))
-}
 
 impl Catalogue {
     /// The merge base of two commits.
@@ -44,13 +33,6 @@ impl Catalogue {
         ensures known { IfOk result (λ h. IsTrue (is_known sha256 self.now h)) }
     {
         self.commits().base(alloc, left, right)
-    }
-
-    /// Whether the catalogue doesn't hold a content.
-    fn lacks_content(&self, hash: &Hash) -> bool
-        ensures { result ≡ is_none (content_at self.now.present hash.now) }
-    {
-        find_content(self.contents(), hash).is_none()
     }
 
     /// Adds the key of a change where it sets an entry whose content the catalogue doesn't hold.
@@ -66,7 +48,7 @@ impl Catalogue {
         match entry {
             None => Ok(()),
             Some(entry) => {
-                if self.lacks_content(&entry.hash) {
+                if self.is_expired(entry) {
                     out.push(key.clone()?)?;
                 }
                 Ok(())
@@ -102,7 +84,7 @@ impl Catalogue {
     {
         ops.known();
         let keys = self.expired_changes(alloc, ops.as_slice())?;
-        needs_no_expired(keys, opened)
+        needs_none(keys, opened)
     }
 
     /// The commit could be added: nothing else has its hash.

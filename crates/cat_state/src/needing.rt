@@ -20,7 +20,7 @@ use cat_names::ref_name::RefName;
 use std::alloc::Global;
 
 /// Refused with keys, if there are any, and the place.
-fn needs_none(keys: Seq<ContentKey>, place: u32) -> Result<(), Failure>
+pub(crate) fn needs_none(keys: Seq<ContentKey>, place: u32) -> Result<(), Failure>
     ensures { Gives result (needs_no_expired keys place) }
 {
     if keys.len() == 0 {
@@ -45,7 +45,7 @@ impl Catalogue {
     }
 
     /// Whether the catalogue doesn't hold the content of an entry.
-    fn is_expired(&self, entry: &Entry) -> bool
+    pub(crate) fn is_expired(&self, entry: &Entry) -> bool
         ensures { result ≡ is_none (content_at self.now.present entry.now.hash) }
     {
         find_content(self.contents(), &entry.hash).is_none()

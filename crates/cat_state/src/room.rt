@@ -102,12 +102,7 @@ impl Catalogue {
     /// There is room for an entry, for so many commits, and for so many keys that they set on the
     /// branch's map.
     #[tactic(auto, unfolding(cat_model::specs::Merges::needs_planned_room))]
-    pub fn needs_planned_room(
-        &self,
-        head: &KeyMap,
-        commits: u64,
-        puts: u64,
-    ) -> Result<(), Refusal>
+    pub fn needs_planned_room(&self, head: &KeyMap, commits: u64, puts: u64) -> Result<(), Refusal>
         ensures test { (planned : List Planned) → length (commits_made planned) ≡ commits → length (all_set planned) ≡ puts → result ≡ needs_planned_room self.now head.now planned }
         ensures place { OnOk result (self.now.place < 4294967295) }
         ensures commits { OnOk result (length self.now.commits + commits ≤ 4294967295) }

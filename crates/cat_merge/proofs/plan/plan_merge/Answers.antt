@@ -2,7 +2,7 @@ use Rattle.std.proofs.Common.{◌∙◌, ap}
 use Rattle.cat_model.specs.Plan.{plan, plan_of}
 use Rattle.cat_merge.specs.Planned.{planned}
 use Rattle.cat_merge.proofs.Kept.{stays}
-use Rattle.cat_merge.proofs.Passing.{set_passes, map_passes}
+use Rattle.cat_merge.specs.PassingLaws.{set_passes, map_passes}
 use Rattle.std.proofs.lemmas.Result.{IfOk-weaker}
 use Rattle.cat_merge.proofs.plan.plan_merge.Goals as goal
 

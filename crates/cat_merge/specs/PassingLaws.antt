@@ -11,7 +11,8 @@ use Rattle.cat_model.specs.declared.merging.Modes.{Modes}
 use Rattle.cat_model.specs.Differs.{differs}
 use Rattle.cat_model.specs.Maps.{Map, Change, entry_of, present, after_change, after_changes}
 use Rattle.cat_model.specs.Merges.{entries_set}
-use Rattle.cat_model.specs.Plan.{Decision, keeps, sets, unless_changed, decision, behaviour_of, set_by, changes_set, Plan, plan_of}
+use Rattle.cat_model.specs.Changed.{changed_keys}
+use Rattle.cat_model.specs.Plan.{Decision, keeps, sets, unless_changed, decision, behaviour_of, set_by, changes_set, Plan, plan_of, plan}
 use Rattle.cat_keymap.specs.KeyOrder.{both_true, and_true, split3}
 
 module _ (passes : Entry → Bool) where
@@ -95,3 +96,8 @@ module _ (passes : Entry → Bool) where
   pub map_passes : (base source target : Map) (modes : Modes) (keys : List Key) (p : Plan) → p ≡ plan_of base source target modes keys → AllPass source → AllPass target → AllPass p.map
   map_passes base source target modes keys p made all others =
       subst (λ (q : Plan). AllPass q.map) (sym made) (after_passes (changes_set base source target modes keys) target (changes_pass base source target modes keys all) others)
+
+  -- so it is of what each merge sets
+  pub plan_sets : (base source target : Map) (modes : Modes) → AllPass source → AllPass (entries_set (plan base source target modes).ops)
+  unfolding plan
+  plan_sets base source target modes all = changes_pass base source target modes (changed_keys base source) all
