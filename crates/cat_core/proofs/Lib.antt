@@ -5,8 +5,14 @@ pub mod Accepts
 pub mod Plain
 pub mod PlainCalls
 pub mod PlainMoves
+pub mod PlainMerges
+pub mod MergeSteps
+pub mod MergeMade
 pub mod Called
+pub mod Opened
+pub mod OpenedMerge
 pub mod Undrafted
 pub mod Puts
 pub mod Unexpired
 pub mod Growing
+pub mod UnexpiredMerges

@@ -61,7 +61,7 @@ plain_contents : (state : State) (contents : List Content) → IsPlain (with_con
 plain_contents state [] = tt
 plain_contents state (c ∷ contents) = plain_bind (with_content sha256 state c) _ (plain_content state c) (λ more. plain_contents more contents)
 
-plain_commit : (state : State) (c : Commit) → IsPlain (with_commit sha256 state c)
+pub plain_commit : (state : State) (c : Commit) → IsPlain (with_commit sha256 state c)
 unfolding with_commit
 plain_commit state c = plain_added state (record state { commits = (commit_hash sha256 c, c) ∷ state.commits }) (commit_hash sha256 c) (commit_bytes sha256 state (commit_hash sha256 c)) ((commit_code).spell c)
 

@@ -26,7 +26,7 @@ plain_source_kind : (kind : Option Kind) (source : Option Reference) → IsPlain
 plain_source_kind kind None = tt
 plain_source_kind kind (Some reference) = plain_kind kind reference
 
-plain_held : (keys : List Key) (place : ℕ) → IsPlain (needs_no_expired keys place)
+pub plain_held : (keys : List Key) (place : ℕ) → IsPlain (needs_no_expired keys place)
 plain_held [] place = tt
 plain_held (key ∷ keys) place = λ e. cc
 

@@ -87,7 +87,7 @@ unexpired_source kind (Some reference) = unexpired_kind kind reference
 unexpired_head : (expected : Option Hash) (head : Hash) → IsUnexpired (needs_head expected head)
 unexpired_head expected head = unexpired_needs _ (Conflicts _) refl
 
-unexpired_log : (state : State) → IsUnexpired (needs_log state)
+pub unexpired_log : (state : State) → IsUnexpired (needs_log state)
 unexpired_log state = unexpired_needs _ (Limit quantities.Log state.limits.log) refl
 
 unexpired_visible : (state : State) (hash : Hash) → HoldsAll state → IsUnexpired (needs_contents state hash)
@@ -162,7 +162,7 @@ unexpired_contents state (c ∷ contents) =
     let hash = content_hash sha256 c in
     unexpired_bind (with_content sha256 state c) _ (unexpired_added state (record state { present = (hash, c) ∷ state.present }) hash (content_bytes state hash) ((content_code).spell c)) (λ more. unexpired_contents more contents)
 
-unexpired_commit : (state : State) (c : Commit) → IsUnexpired (with_commit sha256 state c)
+pub unexpired_commit : (state : State) (c : Commit) → IsUnexpired (with_commit sha256 state c)
 unfolding with_commit
 unexpired_commit state c =
     let hash = commit_hash sha256 c in

@@ -9,20 +9,22 @@ ghost use Rattle.cat_model.specs.Distinct.{are_distinct};
 ghost use Rattle.cat_model.specs.State.{is_known};
 ghost use Rattle.cat_model.specs.WellMade.{have_contents, is_well_made};
 ghost use Rattle.cat_model.specs.declared.command.Command.TheVariants as commands;
+ghost use Rattle.cat_model.specs.declared.reply.Reply.TheVariants as replies;
 ghost use Rattle.cat_state.specs.Adding.{IsAbove};
 ghost use Rattle.cat_state.specs.Giving.{SaysAs};
 ghost use Rattle.cat_core.specs.Expiring.{fails_expired, is_expired};
 ghost use Rattle.cat_core.specs.Making.{Makes, refused_at, taking};
 
 use crate::logging::Turn;
+use crate::merging::Planned;
 use crate::store::Store;
 use cat_model::ask::Ask;
-use cat_model::command::{Command, CommitRequest};
+use cat_model::command::{Command, CommitRequest, Merge};
 use cat_model::limits::Quantity;
 use cat_model::moment::Moment;
 use cat_model::reference::{Kind, Reference};
 use cat_model::refusal::{Reason, Refusal, Refused};
-use cat_model::reply::Told;
+use cat_model::reply::{Merged, Reply, Told};
 use cat_names::hash::Hash;
 use cat_state::failure::Failure;
 use std::alloc::Global;
@@ -132,6 +134,49 @@ impl Store {
         }
     }
 
+    /// Takes the draft number of a merge that changes nothing, and tells its reply.
+    fn reply(&mut self, draft: u64, merged: Merged) -> Told
+        ensures book { self.new ≡ taking self.old draft }
+        ensures told { result ≡ record { place = self.old.state.place; reply = replies.Merged merged } }
+    {
+        self.take(draft);
+        Told {
+            place: self.place(),
+            reply: Reply::Merged(merged),
+        }
+    }
+
+    /// Merges a commit of a reference into a branch.
+    #[tactic(auto, using(crate::proofs::Growing::above_same, crate::proofs::Growing::above_taking))]
+    fn merge(
+        &mut self,
+        alloc: Global,
+        caller: u32,
+        moment: Moment,
+        merge: &Merge,
+    ) -> Result<Told, Failure>
+        ensures call { Makes (call_on sha256 caller self.old (commands.Merge merge.now) moment) self.old self.new result }
+        ensures there { IfErr result (λ failure. fails_expired failure ≡ false) }
+        ensures later { IsAbove self.old.state.commits self.new.state.commits }
+    {
+        self.catalogue().contents_are_held();
+        let (branch, source) = self.open_merge(merge)?;
+        self.needs_draft()?;
+        let turn = Turn {
+            caller,
+            draft: self.draft() + 1,
+            moment,
+        };
+        match self.plan(alloc, moment, merge, branch, &source) {
+            Ok(Planned::Made(made)) => Ok(self.accept_merge(alloc, turn, made)?),
+            Ok(Planned::Replied(merged)) => Ok(self.reply(turn.draft, merged)),
+            Err(failure) => {
+                self.take(turn.draft);
+                Err(failure)
+            }
+        }
+    }
+
     /// Makes a call, by what it is.
     #[tactic(auto, using(crate::proofs::Asked::ops_are_distinct, crate::proofs::Asked::have_theirs, crate::proofs::Growing::above_same))]
     fn make(
@@ -151,6 +196,7 @@ impl Store {
             Command::Assign(assign) => self.assign(alloc, caller, moment, assign),
             Command::Delete(delete) => self.delete(alloc, caller, moment, delete),
             Command::Commit(request) => self.commit(alloc, caller, moment, request),
+            Command::Merge(merge) => self.merge(alloc, caller, moment, merge),
         }
     }
 

@@ -45,7 +45,7 @@ pub(crate) struct Prepared {
 }
 
 /// The commit with the map at it and its record.
-fn keep(alloc: Global, commit: Commit, map: KeyMap) -> Result<NewCommit, NoMemory>
+pub(crate) fn keep(alloc: Global, commit: Commit, map: KeyMap) -> Result<NewCommit, NoMemory>
     ensures commit { IfOk result (λ kept. kept.commit ≡ commit) }
     ensures map { IfOk result (λ kept. kept.map ≡ map) }
     ensures written { IfOk result (λ kept. IsRecordOf commit kept.written) }
