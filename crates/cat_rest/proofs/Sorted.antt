@@ -13,7 +13,8 @@ use Rattle.cat_names.specs.Fields.{Key, key_cmp}
 use Rattle.cat_model.specs.Same.{same_key}
 use Rattle.cat_keymap.specs.KeyOrder.{key_total, less_is, both_true, and_true, head_tail, ascends_any, all_above}
 use Rattle.cat_keymap.specs.Unlike.{unlike}
-use Rattle.cat_keymap.proofs.Twice.{no_fall, climbs, climbing, neighbours}
+use Rattle.cat_keymap.specs.Ordered.{no_fall, climbs}
+use Rattle.cat_keymap.proofs.Twice.{climbing, neighbours}
 use Rattle.cat_rest.specs.Modes.{Mode, with_mode, by_key, in_order}
 
 same_is : (a b : Key) → same_key a b ≡ is_eq (key_cmp a b)
