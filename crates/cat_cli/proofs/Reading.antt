@@ -10,7 +10,7 @@ use Rattle.cat_http.specs.Writing.{AppendsFront}
 use Rattle.cat_http.specs.declared.buffer.Incoming.{Incoming}
 use Rattle.cat_http.specs.declared.buffer.Incoming.TheVariants as incoming
 use Rattle.cat_cli.specs.declared.ending.Session.{Session as End}
-use Rattle.cat_cli.specs.Sessions.{Readings, Point, Turn, Answered, Stands, IsAt, IsDue, EndsAt}
+use Rattle.cat_cli.specs.Sessions.{Readings, Point, Turn, Answered, Stands, IsAt, IsCutOff, IsDue, IsRefused, EndsAt}
 use Rattle.cat_cli.specs.Answers.{IsAsked, IsAnswered, GoesTo}
 use Rattle.cat_cli.proofs.Told.{appended, some_is, not_none}
 
@@ -61,6 +61,14 @@ goes_to k c left rest t store ahead bytes held a e = record {
 
 pub some_left : (left n : ℕ) → n ≡ left + 1 → 0 < n
 some_left left n e = omega arith
+
+-- a refusal by the bytes was written whole
+pub told_refused : (c : Point) (left : ℕ) (cause : Type 0) (bytes : List ℕ) (held after : Option (List ℕ)) → c.left ≡ left + 1 → cause → held ≡ Some c.written → Appends held after bytes → (h : List ℕ) × (after ≡ Some h) × IsRefused c cause bytes h
+told_refused c left cause bytes held after one is at written = (c.written ++ bytes, appended held after c.written bytes at written, record { some_left = some_left left c.left one; is_so = is; all = refl })
+
+-- or a front of what was due
+pub told_front : (k : Readings) (c : Point) (bytes : List ℕ) (held after : Option (List ℕ)) → IsDue k c bytes → held ≡ Some c.written → AppendsFront held after bytes → (h : List ℕ) × (after ≡ Some h) × IsCutOff k c h
+told_front k c bytes held after due at front = (c.written ++ take front.0 bytes, appended held after c.written (take front.0 bytes) at front.1, (bytes, due, front.0, refl))
 
 pub map_none : {P Q : Type 0} (r : Option End) → IfNone r P → (P → Q) → IfNone r Q
 map_none None p f = f p

@@ -1,5 +1,6 @@
-use Rattle.std.proofs.Common.{refl, inl, inr}
-use Rattle.cat_cli.proofs.Reading.{read_is, asked, goes_to, map_none, map_some}
+use Rattle.std.proofs.Common.{Err, refl, ap, inl, inr}
+use Rattle.cat_http.specs.declared.buffer.Incoming.TheVariants as incoming
+use Rattle.cat_cli.proofs.Reading.{read_is, asked, goes_to, map_none, map_some, told_front, told_refused}
 use Rattle.cat_cli.proofs.session.turn.Goals as goal
 
 pub returns-in-Request-clause-on : goal.returns-in-Request-clause-on
@@ -12,3 +13,23 @@ pub returns-in-Request-clause-ends : goal.returns-in-Request-clause-ends
 returns-in-Request-clause-ends g c = map_some _ _ c.answer.result c.answer.ensures.ends (λ end ends k p one stands.
     let r = read_is _ _ _ c.args.buffer.now c.read_request.new.buffer p.bytes c.in-Request.ensures.is stands.bytes_are in
     ends k p r.0 (asked k p c.args.left c.request.result _ c.read_request.new.buffer _ r.0 _ _ _ _ c.request.ensures r.1 one stands))
+
+pub returns-in-Ok-clause-ends : goal.returns-in-Ok-clause-ends
+returns-in-Ok-clause-ends g c k p one stands =
+    let r = read_is incoming.BadHead (g.S.Source.left c.args.source.now) (g.S.Source.left c.read_request.new.source) c.args.buffer.now c.read_request.new.buffer p.bytes c.in-BadHead.ensures.is stands.bytes_are in
+    told_refused p c.args.left _ _ _ _ one r.1.is_so stands.held_is c.in-Ok.ensures.written
+
+pub returns-in-Err-WriteFault-clause-ends : goal.returns-in-Err-WriteFault-clause-ends
+returns-in-Err-WriteFault-clause-ends g c k p one stands =
+    let r = read_is incoming.BadHead (g.S.Source.left c.args.source.now) (g.S.Source.left c.read_request.new.source) c.args.buffer.now c.read_request.new.buffer p.bytes c.in-BadHead.ensures.is stands.bytes_are in
+    told_front k p _ _ _ (inr (inl (r.1.is_so, refl))) stands.held_is (c.in-Err-WriteFault.ensures.cut (ap Err c.in-Err-WriteFault.field-0-is))
+
+pub returns-in-Ok-refuse-clause-ends : goal.returns-in-Ok-refuse-clause-ends
+returns-in-Ok-refuse-clause-ends g c k p one stands =
+    let r = read_is incoming.TooLarge (g.S.Source.left c.args.source.now) (g.S.Source.left c.read_request.new.source) c.args.buffer.now c.read_request.new.buffer p.bytes c.in-TooLarge.ensures.is stands.bytes_are in
+    told_refused p c.args.left _ _ _ _ one r.1.is_so stands.held_is c.in-Ok-refuse.ensures.written
+
+pub returns-in-Err-WriteFault-refuse-clause-ends : goal.returns-in-Err-WriteFault-refuse-clause-ends
+returns-in-Err-WriteFault-refuse-clause-ends g c k p one stands =
+    let r = read_is incoming.TooLarge (g.S.Source.left c.args.source.now) (g.S.Source.left c.read_request.new.source) c.args.buffer.now c.read_request.new.buffer p.bytes c.in-TooLarge.ensures.is stands.bytes_are in
+    told_front k p _ _ _ (inr (inr (r.1.is_so, refl))) stands.held_is (c.in-Err-WriteFault-refuse.ensures.cut (ap Err c.in-Err-WriteFault-refuse.field-0-is))
