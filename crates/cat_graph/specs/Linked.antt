@@ -54,18 +54,3 @@ IsOther (Some kept) c = kept ≡ c → ⊥
 -- the commits that references point at, under their hashes
 abbrev pub values : List (Bor Hash × Bor Commit) → Commits
 values pairs = map (λ x. (x.0.now, x.1.now)) pairs
-
--- there is a commit, and the hash is its parent's
-abbrev pub has_parent : Hash → Option Commit → Bool
-has_parent hash None = false
-has_parent hash (Some c) = same_hash c.parent hash
-
--- each is the hash of a commit, and its parent's is the one before
-abbrev pub are_children : Commits → Hash → List Hash → Bool
-are_children commits parent [] = true
-are_children commits parent (hash ∷ hashes) = has_parent parent (commit_of commits hash) && are_children commits hash hashes
-
--- each is the hash of a commit, and each but the first has the one before for its parent
-abbrev pub are_consecutive : Commits → List Hash → Bool
-are_consecutive commits [] = true
-are_consecutive commits (hash ∷ hashes) = is_some (commit_of commits hash) && are_children commits hash hashes

@@ -4,7 +4,8 @@ ghost use Rattle.std.specs.Prelude.{◌≡◌, ◌≢◌, ◌≤◌, ◌<◌, �
 ghost use Rattle.std.specs.Option.{is_some, option_map};
 ghost use Rattle.cat_model.specs.Chain.{commit_of, generation, on_chain};
 ghost use Rattle.cat_model.specs.Chain;
-ghost use Rattle.cat_graph.specs.Linked.{AreLinked, IsNext, IsOther, are_children, are_consecutive, has_parent, is_known, is_merge_known, is_next, merge_generation, next_generation, values, with_commit};
+ghost use Rattle.cat_model.specs.Transplants.{are_children, are_consecutive, has_parent};
+ghost use Rattle.cat_graph.specs.Linked.{AreLinked, IsNext, IsOther, is_known, is_merge_known, is_next, merge_generation, next_generation, values, with_commit};
 
 use crate::add_fault::AddFault;
 use cat_codes::fault::NoMemory;

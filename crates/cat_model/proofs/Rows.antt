@@ -9,4 +9,6 @@ pub mod Listings
 pub mod Moves
 pub mod Pages
 pub mod Planning
+pub mod MergeWords
 pub mod Merging
+pub mod Transplanting

@@ -1,5 +1,5 @@
 -- What reading calls answer.
-use Rattle.std.specs.Prelude.{List, [], take, drop, Option, Some, None, Result, Ok, Bool, true, false, map, filter_map}
+use Rattle.std.specs.Prelude.{List, take, drop, Option, Some, None, Result, Ok, Bool, true, false, map, filter_map}
 use Rattle.std.specs.Option.{option_map, option_and_then}
 use Rattle.cat_names.specs.Fields.{Key}
 use Rattle.cat_names.specs.declared.hash.Hash.{Hash}
@@ -12,7 +12,6 @@ use Rattle.cat_model.specs.declared.ask.HistoryAsk.{HistoryAsk}
 use Rattle.cat_model.specs.declared.ask.ReferencesAsk.{ReferencesAsk}
 use Rattle.cat_model.specs.declared.commit.Commit.{Commit}
 use Rattle.cat_model.specs.declared.content.Content.{Content}
-use Rattle.cat_model.specs.declared.entry.Entry.{Entry}
 use Rattle.cat_model.specs.declared.reference.Effective.{Effective}
 use Rattle.cat_model.specs.declared.reference.Effective.TheVariants.{Named, Detached}
 use Rattle.cat_model.specs.declared.reference.Pointer.{Pointer}

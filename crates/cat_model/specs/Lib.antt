@@ -20,6 +20,7 @@ pub mod Changed
 pub mod Plan
 pub mod Moves
 pub mod Merges
+pub mod Transplants
 pub mod Step
 pub mod Answer
 pub mod Calls

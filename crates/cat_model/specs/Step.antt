@@ -10,6 +10,7 @@ use Rattle.cat_model.specs.Refusing.{◌>>=◌, Tested, Outcome}
 use Rattle.cat_model.specs.Commits.{commit_opening, step_commit, given_request}
 use Rattle.cat_model.specs.Moves.{step_create, step_assign, step_delete}
 use Rattle.cat_model.specs.Merges.{merge_opening, step_merge}
+use Rattle.cat_model.specs.Transplants.{transplant_opening, step_transplant}
 
 -- when a call is made: the number of its draft, 0 where it opens none, the place at which it began, and the moment
 pub record Turn : Type 0 where
@@ -24,6 +25,7 @@ opens_draft (commands.Assign c) = false
 opens_draft (commands.Delete c) = false
 opens_draft (commands.Commit c) = true
 opens_draft (commands.Merge m) = true
+opens_draft (commands.Transplant t) = true
 
 -- the tests before a draft is opened
 abbrev pub opening : Digest → State → Command → Tested
@@ -32,6 +34,7 @@ opening digest state (commands.Assign c) = Ok tt
 opening digest state (commands.Delete c) = Ok tt
 opening digest state (commands.Commit c) = commit_opening digest state c >>= λ _. Ok tt
 opening digest state (commands.Merge m) = merge_opening digest state m >>= λ _. Ok tt
+opening digest state (commands.Transplant t) = transplant_opening digest state t >>= λ _. Ok tt
 
 -- the step of a call on a state
 abbrev pub step : Digest → State → Command → Turn → Outcome
@@ -40,6 +43,7 @@ step digest state (commands.Assign c) turn = step_assign digest state c
 step digest state (commands.Delete c) turn = step_delete state c
 step digest state (commands.Commit c) turn = step_commit digest state c turn.draft turn.moment
 step digest state (commands.Merge m) turn = step_merge digest state m turn.opened turn.moment
+step digest state (commands.Transplant t) turn = step_transplant digest state t turn.opened turn.moment
 
 -- the call as it is logged: with what its draft gives, without what it says of its source's kind, and without what it asks beside
 abbrev pub logged_command : Digest → ℕ → Command → Command
@@ -48,6 +52,7 @@ logged_command digest draft (commands.Assign c) = commands.Assign (record c { so
 logged_command digest draft (commands.Delete c) = commands.Delete c
 logged_command digest draft (commands.Commit c) = commands.Commit (given_request digest draft c)
 logged_command digest draft (commands.Merge m) = commands.Merge (record m { dry_run = false; conflicts_as_result = false })
+logged_command digest draft (commands.Transplant t) = commands.Transplant (record t { dry_run = false; conflicts_as_result = false })
 
 -- the head of the reference that a call answers
 abbrev pub head_told : Reply → Option Hash
@@ -63,3 +68,4 @@ head_left (commands.Assign c) reply = head_told reply
 head_left (commands.Delete c) reply = None
 head_left (commands.Commit c) reply = head_told reply
 head_left (commands.Merge m) reply = head_told reply
+head_left (commands.Transplant t) reply = head_told reply

@@ -1,9 +1,9 @@
 -- Laws of marks, of what is open, and of turns: nothing done is a turn, and two turns of a caller are one.
-use Rattle.std.proofs.Common.{◌≡◌, ◌≢◌, ℕ, ◌≤◌, List, [], ◌∷◌, ◌++◌, refl, sym, ap, ◌∙◌, subst, inl, inr, ⊎_elim, ◌⊎◌, arith, le_refl, Option, Some, None}
+use Rattle.std.proofs.Common.{◌≡◌, ℕ, ◌≤◌, List, [], ◌∷◌, ◌++◌, refl, sym, ap, ◌∙◌, subst, inl, inr, ⊎_elim, arith, le_refl, Option, Some, None}
 use Rattle.std.proofs.lemmas.List.{append_assoc, append-nil}
 use Rattle.cat_model.specs.declared.log_entry.LogEntry.{LogEntry}
-use Rattle.cat_model.specs.Drafts.{Open, OpenSweep, nothing_open, open_of, Awaits, SweepAwaits, StaysOpen, LeavesOthers}
-use Rattle.cat_model.specs.Mark.{FailedAppend, Mark, Grows, Later, last_sweep}
+use Rattle.cat_model.specs.Drafts.{Open, OpenSweep, nothing_open, open_of, SweepAwaits, StaysOpen, LeavesOthers}
+use Rattle.cat_model.specs.Mark.{Mark, Grows, Later, last_sweep}
 use Rattle.cat_model.specs.Turns.{Opened, Snapshot, Own, Adds, Acts}
 
 pub grows_self : (a : Mark) → Grows a a

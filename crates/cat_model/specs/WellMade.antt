@@ -24,6 +24,10 @@ use Rattle.cat_model.specs.State.{Digest, entry_for}
 abbrev pub most_ops : ℕ
 most_ops = 10_000
 
+-- the most commits of a transplant
+abbrev pub most_hashes : ℕ
+most_hashes = 100
+
 -- the ids that the request itself gave to contents
 abbrev pub given_ids : List Op → List ContentId
 given_ids [] = []
@@ -75,3 +79,4 @@ is_well_made digest (commands.Assign c) = points c.source
 is_well_made digest (commands.Delete c) = true
 is_well_made digest (commands.Commit c) = may_be_asked c.ops && have_contents digest c.ops c.contents
 is_well_made digest (commands.Merge m) = true
+is_well_made digest (commands.Transplant t) = nat_lt 0 (length t.hashes) && nat_le (length t.hashes) most_hashes

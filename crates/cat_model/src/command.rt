@@ -75,6 +75,22 @@ pub struct Merge {
     pub conflicts_as_result: bool,
 }
 
+/// Applies commits of a reference to a branch, one after another.
+#[derive(Clone, Debug, PartialEq, Eq, Drop)]
+pub struct Transplant {
+    pub branch: RefName,
+    /// A commit that has to be on the branch's chain; it has no other effect.
+    pub hash: Option<Hash>,
+    pub from: RefName,
+    /// The commits to apply, the oldest first: at least one and at most 100.
+    pub hashes: Seq<Hash>,
+    pub modes: Modes,
+    /// Whether the call is only tried. It isn't logged.
+    pub dry_run: bool,
+    /// Whether conflicts are a reply and no refusal. It isn't logged.
+    pub conflicts_as_result: bool,
+}
+
 /// A call that may add an entry to the log.
 #[derive(Clone, Debug, PartialEq, Eq, Drop)]
 pub enum Command {
@@ -83,4 +99,5 @@ pub enum Command {
     Delete(Delete),
     Commit(CommitRequest),
     Merge(Merge),
+    Transplant(Transplant),
 }

@@ -1,4 +1,4 @@
-//! How a merge treats each key that its source changed.
+//! How a merge or a transplant treats each key that its source changed.
 
 use crate::conflict::ConflictKind;
 use cat_codes::ascending::Ascending;

@@ -82,12 +82,13 @@ pub struct Committed {
     pub target: Reference,
 }
 
-/// What a merge did or found.
+/// What a merge or a transplant did or found.
 #[derive(Clone, Debug, PartialEq, Eq, Drop)]
 pub struct Merged {
     /// The commit that changes were reckoned from, for a merge.
     pub common_ancestor: Option<Hash>,
-    /// Of each key that the source changed, ascending.
+    /// Of each key that the source changed, ascending; of a transplant those of one commit after the
+    /// other.
     pub details: Seq<Detail>,
     /// The head that was merged into.
     pub effective_target: Hash,

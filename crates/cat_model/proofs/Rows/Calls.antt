@@ -1,5 +1,5 @@
 -- Worked cases of commits.
-use Rattle.std.specs.Prelude.{◌≡◌, refl, ℕ, List, [], ◌∷◌, Option, Some, None, true, false, codes, map, if◌then◌else◌, Err}
+use Rattle.std.specs.Prelude.{◌≡◌, refl, ℕ, List, [], ◌∷◌, Option, Some, None, codes, map, Err}
 use Rattle.std.specs.Option.{option_map}
 use Rattle.cat_codes.specs.Code.{u8_spelling, u16_spelling, u32_spelling, u64_spelling, i64_spelling, i32_spelling, list, ascending}
 use Rattle.cat_codes.specs.Texts.{text_code, short_text_code}
@@ -7,10 +7,7 @@ use Rattle.cat_names.specs.Fields.{Key, hash_code, id_code, element_code, key_co
 use Rattle.cat_names.specs.declared.hash.Hash.{Hash}
 use Rattle.cat_model.specs.declared.conflict.ConflictKind.TheVariants.{KeyExists, KeyDoesNotExist, ValueDiffers, NamespaceAbsent, NamespaceNotEmpty}
 use Rattle.cat_model.specs.declared.commit.Commit.{Commit}
-use Rattle.cat_model.specs.declared.op.Op.{Op}
 use Rattle.cat_model.specs.declared.op.Op.TheVariants.{Delete, Unchanged}
-use Rattle.cat_model.specs.declared.command.Command.{Command}
-use Rattle.cat_model.specs.declared.command.Command.TheVariants as commands
 use Rattle.cat_model.specs.declared.reference.Kind.TheVariants.{Branch, Tag}
 use Rattle.cat_model.specs.declared.refusal.Refusal.TheVariants.{BadRequest, RefNotFound, ContentNotFound, NoRoute}
 use Rattle.cat_model.specs.declared.refusal.Reason.TheVariants.{NotABranch}
@@ -26,8 +23,7 @@ use Rattle.cat_model.specs.Commits.{given_ops, given_request, request_commit, co
 use Rattle.cat_model.specs.Answer.{answer_reference, answer_content}
 use Rattle.cat_model.specs.Calls.{entry_made, call}
 use Rattle.cat_model.specs.Script.{Session, script}
-use Rattle.cat_model.specs.declared.content.Content.{Content}
-use Rattle.cat_model.proofs.Rows.Words.{main, H0, note, table, namespace, no_id, new, again, commit, put_new, put, both, read, after, said, head, done, gives, not, refused_at, t1, t2, t9, a, a-t, m1, empty, ids, head_commit, parent_of_head, one}
+use Rattle.cat_model.proofs.Rows.Words.{main, H0, table, no_id, new, again, commit, put_new, put, both, read, after, said, head, done, gives, not, refused_at, t1, t2, t9, a, a-t, m1, empty, ids, head_commit, parent_of_head, one}
 
 the_first_commit : said empty (put_new (Some H0) t1 m1 ∷ read (Some main) None t1 ∷ read (Some main) None t2 ∷ [])
     ≡ done 1 ∷ gives 1 m1 ∷ not (Some 1) (ContentNotFound Absent) ∷ []

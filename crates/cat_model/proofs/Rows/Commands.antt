@@ -1,5 +1,5 @@
 -- Worked cases of commands that are well made, and others.
-use Rattle.std.specs.Prelude.{◌≡◌, refl, ℕ, List, [], ◌∷◌, Some, None, Bool, true, false, codes, map, replicate, pos}
+use Rattle.std.specs.Prelude.{◌≡◌, refl, List, [], ◌∷◌, Some, None, Bool, true, false, codes, map}
 use Rattle.cat_codes.specs.Code.{u8_spelling, u16_spelling, u32_spelling, u64_spelling, i64_spelling, i32_spelling, list, ascending}
 use Rattle.cat_codes.specs.Texts.{text_code}
 use Rattle.cat_names.specs.Fields.{id_code}
@@ -11,7 +11,7 @@ use Rattle.cat_model.specs.declared.reference.Kind.TheVariants.{Branch}
 use Rattle.cat_model.specs.declared.op.Op.TheVariants.{Put, Delete, Unchanged}
 use Rattle.cat_model.specs.Contents.{table_code, namespace_code, of_table, of_namespace, content_code}
 use Rattle.cat_model.specs.State.{entry_for}
-use Rattle.cat_model.specs.WellMade.{may_be_asked, have_contents, is_well_made, given_ids}
+use Rattle.cat_model.specs.WellMade.{may_be_asked, have_contents, is_well_made}
 use Rattle.cat_model.proofs.Rows.Words.{main, H0, note, table, namespace, no_id, new, again, quick, t1, t2, t9, a, a-t, m1}
 
 abbrev asked : List Op → List Content → Bool

@@ -22,7 +22,7 @@ use Rattle.cat_model.specs.Commits.{given_ops, given_request, request_commit, co
 use Rattle.cat_model.specs.Answer.{answer_reference, answer_content}
 use Rattle.cat_model.specs.Calls.{entry_made, call}
 use Rattle.cat_model.specs.Script.{Session, first_session, Outcomes, script}
-use Rattle.cat_model.proofs.Rows.Words.{quick, clock, Request, short, main, H0, table, no_id, new, again, commit, put_new, put, after, said, head, done, not, refused_at, t1, t2, t9, m1, empty, limited, ample, one}
+use Rattle.cat_model.proofs.Rows.Words.{quick, clock, Request, short, main, H0, table, no_id, new, again, commit, put_new, put, after, said, done, not, refused_at, t1, t2, t9, m1, empty, limited, ample, one}
 
 limits_of_each_quantity : (said (limited (record ample { log = 1 })) (put_new None t1 m1 ∷ put_new None t1 m1 ∷ []) ≡ done 1 ∷ not (Some 1) (Limit Log 1) ∷ [])
     × (said (limited (record ample { commits = 1 })) (put_new None t1 m1 ∷ put_new None t1 m1 ∷ []) ≡ done 1 ∷ not (Some 1) (Limit Commits 1) ∷ [])

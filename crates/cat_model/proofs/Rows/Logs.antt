@@ -1,11 +1,10 @@
 -- Worked cases of what calls leave in the log and tell.
-use Rattle.std.specs.Prelude.{◌≡◌, refl, ℕ, List, [], ◌∷◌, Option, Some, None, Bool, true, codes, map, if◌then◌else◌, Result, Ok, Err}
+use Rattle.std.specs.Prelude.{◌≡◌, refl, ℕ, List, [], ◌∷◌, Option, Some, None, Bool, true, codes, map, Result, Ok, Err}
 use Rattle.cat_codes.specs.Code.{u8_spelling, u16_spelling, u32_spelling, u64_spelling, i64_spelling, i32_spelling, list, ascending}
 use Rattle.cat_codes.specs.Texts.{text_code, short_text_code}
 use Rattle.cat_names.specs.Fields.{Key, hash_code, id_code, element_code, key_code}
 use Rattle.cat_names.specs.declared.hash.Hash.{Hash}
 use Rattle.cat_names.specs.declared.hash.ContentId.{ContentId}
-use Rattle.cat_model.specs.declared.commit.Commit.{Commit}
 use Rattle.cat_model.specs.declared.log_entry.LogEntry.{LogEntry}
 use Rattle.cat_model.specs.declared.op.Op.{Op}
 use Rattle.cat_model.specs.declared.op.Op.TheVariants.{Put, Delete, Unchanged}
@@ -28,7 +27,7 @@ use Rattle.cat_model.specs.Answer.{answer_reference, answer_content}
 use Rattle.cat_model.specs.Calls.{entry_made, call}
 use Rattle.cat_model.specs.Script.{script}
 use Rattle.cat_model.specs.Book.{Book, first_book, after_call, call_on}
-use Rattle.cat_model.proofs.Rows.Words.{quick, clock, Request, main, note, table, no_id, new, again, commit, put_new, both, after, said, head, t1, t2, t9, a, a-t, m1, empty, one}
+use Rattle.cat_model.proofs.Rows.Words.{quick, clock, Request, main, note, table, no_id, new, again, commit, put_new, both, after, head, t1, t2, t9, a, a-t, m1, empty, one}
 
 -- an operation's key, id and whether it is fresh
 abbrev logged_op : Op → Key × (Option ContentId × Option Bool)
@@ -42,6 +41,7 @@ logged_by (commands.Assign c) = ([], [])
 logged_by (commands.Delete c) = ([], [])
 logged_by (commands.Commit c) = (map logged_op c.ops, map (λ x. x.id) c.contents)
 logged_by (commands.Merge m) = ([], [])
+logged_by (commands.Transplant t) = ([], [])
 
 abbrev entry_shape : LogEntry → ℕ × (ℕ × (ℕ × (ℕ × Option Hash)))
 entry_shape e = (e.place, (e.caller, (e.draft, (e.moment, e.head))))

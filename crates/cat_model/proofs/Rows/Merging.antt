@@ -1,5 +1,5 @@
 -- Worked cases of merges.
-use Rattle.std.specs.Prelude.{◌≡◌, refl, ℕ, List, [], ◌∷◌, Option, Some, None, Result, Ok, Err, codes, Bool, true, false, map, if◌then◌else◌}
+use Rattle.std.specs.Prelude.{◌≡◌, refl, ℕ, List, [], ◌∷◌, Option, Some, None, codes, Bool, true, false, map, if◌then◌else◌}
 use Rattle.std.specs.Option.{option_map}
 use Rattle.cat_codes.specs.Code.{u8_spelling, u16_spelling, u32_spelling, u64_spelling, i64_spelling, i32_spelling, list, ascending}
 use Rattle.cat_codes.specs.Texts.{text_code, short_text_code}
@@ -22,48 +22,20 @@ use Rattle.cat_model.specs.Calls.{entry_made, call}
 use Rattle.cat_model.specs.Script.{Session, script}
 use Rattle.cat_model.specs.declared.command.Command.{Command}
 use Rattle.cat_model.specs.declared.command.Command.TheVariants as commands
-use Rattle.cat_model.specs.declared.commit.Commit.{Commit}
-use Rattle.cat_model.specs.declared.conflict.ConflictKind.{ConflictKind}
-use Rattle.cat_model.specs.declared.conflict.ConflictKind.TheVariants.{KeyDoesNotExist, NamespaceNotEmpty, ValueDiffers}
-use Rattle.cat_model.specs.declared.content.Content.{Content}
-use Rattle.cat_model.specs.declared.limits.Limits.{Limits}
+use Rattle.cat_model.specs.declared.conflict.ConflictKind.TheVariants.{NamespaceNotEmpty, ValueDiffers}
 use Rattle.cat_model.specs.declared.limits.Quantity.TheVariants as quantities
 use Rattle.cat_model.specs.declared.log_entry.LogEntry.{LogEntry}
 use Rattle.cat_model.specs.declared.merging.Behaviour.TheVariants.{Normal, Force, Drop}
 use Rattle.cat_model.specs.declared.op.Op.TheVariants.{Delete}
 use Rattle.cat_model.specs.declared.reference.Kind.TheVariants.{Branch, Tag}
-use Rattle.cat_model.specs.declared.refusal.Refusal.TheVariants.{BadRequest, Collision, ContentNotFound, Expired, Limit, RefNotFound}
+use Rattle.cat_model.specs.declared.refusal.Refusal.TheVariants.{BadRequest, ContentNotFound, Expired, Limit, RefNotFound}
 use Rattle.cat_model.specs.declared.refusal.Reason.TheVariants.{NotABranch}
 use Rattle.cat_model.specs.declared.refusal.Missing.TheVariants.{Absent}
-use Rattle.cat_model.specs.declared.refusal.Refused.{Refused}
-use Rattle.cat_model.specs.declared.reply.Merged.{Merged}
-use Rattle.cat_model.specs.declared.reply.Reply.{Reply}
-use Rattle.cat_model.specs.declared.reply.Reply.TheVariants as replies
-use Rattle.cat_model.specs.declared.reply.Told.{Told}
 use Rattle.cat_model.specs.Maps.{Change}
-use Rattle.cat_model.proofs.Rows.Words.{quick, clock, main, dev, H0, Request, no_id, table, namespace, new, again, commit, read, create, from_branch, merge, merge_as, after, said, head, head_of, done, gives, stands, merged, not, refused_at, t1, t2, a, a-t, m1, empty, limited, ample, one}
+use Rattle.cat_model.proofs.Rows.Words.{quick, clock, main, dev, H0, no_id, table, namespace, new, again, commit, read, create, from_branch, merge, merge_as, after, said, head, head_of, done, gives, stands, merged, not, refused_at, t1, t2, a, a-t, m1, empty, ample, one}
+use Rattle.cat_model.proofs.Rows.MergeWords.{new_on, t3, a1, b1, other, at_head, told_of, heads, found, begin, both_changed, three, with_limits, swept}
 
 -- ---- words
-
--- a new table on a branch, and a new location of the first one
-abbrev new_on : List ℕ → Key → List ℕ → Request
-new_on branch key location = commit branch None (new key (table no_id location) ∷ []) (table no_id location ∷ [])
-
-abbrev put_on : List ℕ → List ℕ → Request
-put_on branch location = commit branch None (again t1 (table (fresh_id 1 0) location) ∷ []) (table (fresh_id 1 0) location ∷ [])
-
-abbrev t3 : Key
-t3 = codes "t3" ∷ []
-
-abbrev a1 : Key
-a1 = codes "a1" ∷ []
-
-abbrev b1 : Key
-b1 = codes "b1" ∷ []
-
--- a hash that is nothing's
-abbrev other : Hash
-other = record { bytes = 1 ∷ [] }
 
 -- keys that were set, and that were deleted
 abbrev is_set : List Change → List (Key × Bool)
@@ -75,45 +47,7 @@ is_set ((key, Some entry) ∷ changes) = (key, true) ∷ is_set changes
 abbrev changed : List ℕ → Session → Option (List (Key × Bool))
 changed branch s = option_map (λ c. is_set c.ops) (commit_of s.state.commits (head_of branch s))
 
--- the parents, the generation, the time and the message of the commit at the head of main
-abbrev Shape : Type 0
-Shape = Hash × (Option Hash × (ℕ × (ℕ × List ℕ)))
-
-abbrev shape : Commit → Shape
-shape c = (c.parent, (c.merge_parent, (c.generation, (c.time, c.meta.message))))
-
-abbrev at_head : Session → Option Shape
-at_head s = option_map shape (commit_of s.state.commits (head s))
-
-abbrev merge_told : Reply → Option Merged
-merge_told (replies.Merged m) = Some m
-merge_told _ = None
-
--- the reply of a merge that was asked first
-abbrev merged_in : List (Result Told Refused) → Option Merged
-merged_in [] = None
-merged_in (Ok t ∷ said) = merge_told t.reply
-merged_in (Err e ∷ said) = None
-
-abbrev told_of : Session → Request → Option Merged
-told_of s request = merged_in (script quick 1 clock s (request ∷ [])).said
-
--- the heads that a reply tells
-abbrev heads : Merged → Hash × (List ℕ × Hash)
-heads m = (m.effective_target, (m.target.name, m.target.head))
-
--- the base that it tells, and its keys with their conflicts
-abbrev found : Merged → Option Hash × List (Key × Option ConflictKind)
-found m = (m.common_ancestor, map (λ d. (d.key, d.conflict)) m.details)
-
--- a table at main, and a branch from it
-abbrev begin : Session
-begin = after one (create dev Branch (from_branch main) ∷ [])
-
 -- ---- both sides changed
-
-abbrev both_changed : Session
-both_changed = after begin (put_on main (codes "m2") ∷ put_on dev (codes "m3") ∷ [])
 
 both_changed_refuses : said both_changed (merge main dev (head_of dev both_changed) Normal ∷ read (Some main) None t1 ∷ []) ≡ refused_at 4 t1 ValueDiffers ∷ gives 4 (codes "m2") ∷ []
 unfolding u8_spelling u16_spelling u32_spelling u64_spelling i64_spelling i32_spelling list ascending text_code short_text_code hash_code id_code element_code key_code moment_code kind_code entry_code meta_code commit_code table_code namespace_code of_table of_namespace content_code emptied_fault changes_of op_fault judge entries commit_bytes content_bytes with_commit with_content expired_keys given_ops given_request request_commit commit_opening needs_commit_room step_commit needs_contents step_create step_assign step_delete common_ancestors is_nearer base plan needs_planned_room step_applied merge_opening merge_planned step_merge answer_reference answer_content entry_made call script
@@ -152,9 +86,6 @@ unfolding u8_spelling u16_spelling u32_spelling u64_spelling i64_spelling i32_sp
 what_is_asked_beside_has_no_effect_without_conflicts = refl
 
 -- ---- merging again
-
-abbrev three : Session
-three = after begin (new_on dev t2 (codes "x") ∷ [])
 
 abbrev merged_once : Session
 merged_once = after three (merge main dev (head_of dev three) Normal ∷ [])
@@ -276,9 +207,6 @@ a_branch_is_merged_into_itself : said three (merge dev dev (head_of dev three) N
 unfolding u8_spelling u16_spelling u32_spelling u64_spelling i64_spelling i32_spelling list ascending text_code short_text_code hash_code id_code element_code key_code moment_code kind_code entry_code meta_code commit_code table_code namespace_code of_table of_namespace content_code emptied_fault changes_of op_fault judge entries commit_bytes content_bytes with_commit with_content expired_keys given_ops given_request request_commit commit_opening needs_commit_room step_commit needs_contents step_create step_assign step_delete common_ancestors is_nearer base plan needs_planned_room step_applied merge_opening merge_planned step_merge answer_reference answer_content entry_made call script
 a_branch_is_merged_into_itself = refl
 
-abbrev with_limits : Limits → Session → Session
-with_limits limits s = record s { state = record s.state { limits = limits } }
-
 room_comes_before_conflicts : said (with_limits (record ample { log = 4 }) both_changed) (merge_as true true main None dev (head_of dev both_changed) Normal ∷ []) ≡ not (Some 4) (Limit quantities.Log 4) ∷ []
 unfolding u8_spelling u16_spelling u32_spelling u64_spelling i64_spelling i32_spelling list ascending text_code short_text_code hash_code id_code element_code key_code moment_code kind_code entry_code meta_code commit_code table_code namespace_code of_table of_namespace content_code emptied_fault changes_of op_fault judge entries commit_bytes content_bytes with_commit with_content expired_keys given_ops given_request request_commit commit_opening needs_commit_room step_commit needs_contents step_create step_assign step_delete common_ancestors is_nearer base plan needs_planned_room step_applied merge_opening merge_planned step_merge answer_reference answer_content entry_made call script
 room_comes_before_conflicts = refl
@@ -302,10 +230,6 @@ room_that_is_just_enough = refl
 a_delete_needs_no_key : said (with_limits (record ample { keys = 1 }) (after begin (commit dev None (Delete t1 ∷ []) [] ∷ []))) (merge main dev (head_of dev (after begin (commit dev None (Delete t1 ∷ []) [] ∷ []))) Normal ∷ []) ≡ merged 4 true true ∷ []
 unfolding u8_spelling u16_spelling u32_spelling u64_spelling i64_spelling i32_spelling list ascending text_code short_text_code hash_code id_code element_code key_code moment_code kind_code entry_code meta_code commit_code table_code namespace_code of_table of_namespace content_code emptied_fault changes_of op_fault judge entries commit_bytes content_bytes with_commit with_content expired_keys given_ops given_request request_commit commit_opening needs_commit_room step_commit needs_contents step_create step_assign step_delete common_ancestors is_nearer base plan needs_planned_room step_applied merge_opening merge_planned step_merge answer_reference answer_content entry_made call script
 a_delete_needs_no_key = refl
-
--- a state that holds no contents
-abbrev swept : Session → Session
-swept s = record s { state = record s.state { present = [] } }
 
 contents_that_expired : said (swept three) (merge main dev (head_of dev three) Normal ∷ merge_as true true main None dev (head_of dev three) Normal ∷ merge main dev (head_of dev three) Drop ∷ []) ≡ not (Some 3) (Expired (t2 ∷ []) 3) ∷ not (Some 3) (Expired (t2 ∷ []) 3) ∷ merged 3 false true ∷ []
 unfolding u8_spelling u16_spelling u32_spelling u64_spelling i64_spelling i32_spelling list ascending text_code short_text_code hash_code id_code element_code key_code moment_code kind_code entry_code meta_code commit_code table_code namespace_code of_table of_namespace content_code emptied_fault changes_of op_fault judge entries commit_bytes content_bytes with_commit with_content expired_keys given_ops given_request request_commit commit_opening needs_commit_room step_commit needs_contents step_create step_assign step_delete common_ancestors is_nearer base plan needs_planned_room step_applied merge_opening merge_planned step_merge answer_reference answer_content entry_made call script
@@ -331,6 +255,7 @@ asked_beside (commands.Assign c) = []
 asked_beside (commands.Delete c) = []
 asked_beside (commands.Commit c) = []
 asked_beside (commands.Merge m) = (m.dry_run, m.conflicts_as_result) ∷ []
+asked_beside (commands.Transplant t) = (t.dry_run, t.conflicts_as_result) ∷ []
 
 abbrev entry_shape : LogEntry → ℕ × (ℕ × (ℕ × (ℕ × Option Hash)))
 entry_shape e = (e.place, (e.caller, (e.draft, (e.moment, e.head))))

@@ -2,14 +2,13 @@
 use Rattle.std.specs.Prelude.{◌≡◌, refl, ℕ, List, [], ◌∷◌, Option, Some, None, codes, map}
 use Rattle.cat_codes.specs.Code.{u8_spelling, u16_spelling, u32_spelling, u64_spelling, i64_spelling, i32_spelling, list, ascending}
 use Rattle.cat_codes.specs.Texts.{text_code, short_text_code}
-use Rattle.cat_names.specs.Fields.{Key, hash_code, id_code, element_code, key_code}
+use Rattle.cat_names.specs.Fields.{hash_code, id_code, element_code, key_code}
 use Rattle.cat_names.specs.declared.hash.Hash.{Hash}
 use Rattle.cat_model.specs.Formats.{moment_code, kind_code, entry_code, meta_code, commit_code}
 use Rattle.cat_model.specs.Contents.{table_code, namespace_code, of_table, of_namespace, content_code}
 use Rattle.cat_model.specs.Namespaces.{emptied_fault}
 use Rattle.cat_model.specs.Judge.{changes_of, op_fault, judge}
 use Rattle.cat_model.specs.Chain.{entries}
-use Rattle.cat_model.specs.State.{fresh_id}
 use Rattle.cat_model.specs.Records.{commit_bytes, content_bytes, with_commit, with_content, expired_keys}
 use Rattle.cat_model.specs.Commits.{given_ops, given_request, request_commit, commit_opening, needs_commit_room, step_commit}
 use Rattle.cat_model.specs.Moves.{needs_contents, step_create, step_assign, step_delete}
@@ -27,7 +26,7 @@ use Rattle.cat_model.specs.declared.reference.Kind.TheVariants.{Branch, Tag}
 use Rattle.cat_model.specs.declared.refusal.Refusal.TheVariants.{BadRequest, RefNotFound, RefExists, ContentNotFound, Conflicts, Expired, Limit}
 use Rattle.cat_model.specs.declared.refusal.Reason.TheVariants.{NotABranch, DefaultBranch, OtherType}
 use Rattle.cat_model.specs.declared.refusal.Missing.TheVariants.{Absent}
-use Rattle.cat_model.proofs.Rows.Words.{Short, quick, clock, main, dev, H0, note, table, no_id, new, commit, put_new, read, look, create, assign, delete, from_branch, from_hash, after, said, head, done, gives, points, stands, not, t1, t2, m1, empty, limited, ample, one, head_commit}
+use Rattle.cat_model.proofs.Rows.Words.{Short, quick, clock, main, dev, H0, table, no_id, new, commit, put_new, read, look, create, assign, delete, from_branch, from_hash, after, said, head, gives, points, stands, not, t1, t2, m1, empty, limited, ample, one}
 
 -- a hash that is nothing's
 abbrev other : Hash
@@ -115,6 +114,7 @@ source_kind (commands.Assign c) = c.source_kind
 source_kind (commands.Delete c) = None
 source_kind (commands.Commit c) = None
 source_kind (commands.Merge m) = None
+source_kind (commands.Transplant t) = None
 
 abbrev logged : List LogEntry
 logged = (script quick 7 clock one (create dev Branch (from_branch main) ∷ create dev Branch (from_branch main) ∷ assign dev None None (from_branch main) ∷ delete dev None None ∷ put_new None t2 m1 ∷ [])).logged

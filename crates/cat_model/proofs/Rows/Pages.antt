@@ -1,6 +1,6 @@
 -- Worked cases of pages and contents.
 use Rattle.std.specs.Prelude.{◌≡◌, refl, ℕ, List, [], ◌∷◌, Option, Some, None, Bool, true, false, Result, Ok, Err, codes, map}
-use Rattle.std.specs.Option.{option_map, option_map_or}
+use Rattle.std.specs.Option.{option_map}
 use Rattle.cat_codes.specs.Code.{u8_spelling, u16_spelling, u32_spelling, u64_spelling, i64_spelling, i32_spelling, list, ascending}
 use Rattle.cat_codes.specs.Texts.{text_code, short_text_code}
 use Rattle.cat_names.specs.Fields.{Key, hash_code, id_code, element_code, key_code}
@@ -10,7 +10,6 @@ use Rattle.cat_model.specs.Contents.{table_code, namespace_code, of_table, of_na
 use Rattle.cat_model.specs.Namespaces.{emptied_fault}
 use Rattle.cat_model.specs.Judge.{changes_of, op_fault, judge}
 use Rattle.cat_model.specs.Chain.{entries}
-use Rattle.cat_model.specs.State.{fresh_id}
 use Rattle.cat_model.specs.Records.{commit_bytes, content_bytes, with_commit, with_content, expired_keys}
 use Rattle.cat_model.specs.Commits.{given_ops, given_request, request_commit, commit_opening, needs_commit_room, step_commit}
 use Rattle.cat_model.specs.Moves.{needs_contents, step_create, step_assign, step_delete}
@@ -19,9 +18,7 @@ use Rattle.cat_model.specs.Answer.{references_page, answer_reference, answer_ent
 use Rattle.cat_model.specs.Calls.{entry_made, call}
 use Rattle.cat_model.specs.Script.{Session, script}
 use Rattle.cat_model.specs.declared.ask.Ask.TheVariants as asks
-use Rattle.cat_model.specs.declared.commit.Meta.{Meta}
 use Rattle.cat_model.specs.declared.content.Content.{Content}
-use Rattle.cat_model.specs.declared.entry.Entry.{Entry}
 use Rattle.cat_model.specs.declared.filter.Filter.{Filter}
 use Rattle.cat_model.specs.declared.op.Op.TheVariants.{Delete}
 use Rattle.cat_model.specs.declared.reference.Effective.TheVariants.{Named, Detached}
@@ -37,7 +34,7 @@ use Rattle.cat_model.specs.declared.reply.Reply.{Reply}
 use Rattle.cat_model.specs.declared.reply.Reply.TheVariants as replies
 use Rattle.cat_model.specs.declared.reply.Told.{Told}
 use Rattle.cat_model.specs.declared.wanted.Wanted.TheVariants.{Read}
-use Rattle.cat_model.proofs.Rows.Words.{Request, quick, clock, main, dev, H0, note, table, no_id, new, commit, put, put_new, create, assign, delete, from_branch, from_hash, after, head, t1, t2, t9, a, a-t, m1, empty, one, both}
+use Rattle.cat_model.proofs.Rows.Words.{Request, quick, clock, main, dev, H0, note, table, no_id, new, commit, put_new, create, from_branch, from_hash, after, head, t1, t2, t9, a, a-t, m1, empty, one, both}
 
 abbrev t0 : Key
 t0 = codes "t0" ∷ []

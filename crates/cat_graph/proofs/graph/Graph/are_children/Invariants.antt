@@ -1,5 +1,5 @@
 use Rattle.std.proofs.Common.{◌≡◌, drop}
-use Rattle.cat_graph.specs.Linked.{are_children}
+use Rattle.cat_model.specs.Transplants.{are_children}
 use Rattle.cat_graph.proofs.graph.Graph.are_children.Given as goal
 
 abbrev pub invariant-loop-hash : goal.invariant-loop-hash
