@@ -1,3 +1,4 @@
 mod Searched
 mod Made
 mod Kept
+mod InTurn

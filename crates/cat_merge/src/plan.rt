@@ -15,9 +15,11 @@ use cat_codes::ascending::Ascending;
 use cat_codes::fault::NoMemory;
 use cat_codes::seq::Seq;
 use cat_keymap::key_map::KeyMap;
+use cat_model::commit::Meta;
 use cat_model::conflict::Conflict;
 use cat_model::entry::Entry;
 use cat_model::merging::{Detail, Modes};
+use cat_names::hash::Hash;
 use cat_names::key::ContentKey;
 use std::alloc::Global;
 
@@ -32,6 +34,15 @@ pub struct Plan {
     pub ops: Ascending<ContentKey, Option<Entry>>,
     /// The target's map after them.
     pub map: KeyMap,
+}
+
+/// A plan, and what is said of the commit that it makes.
+#[derive(Debug, Drop)]
+pub struct Planned {
+    /// The other parent, where a commit is merged.
+    pub merge_parent: Option<Hash>,
+    pub meta: Meta,
+    pub plan: Plan,
 }
 
 /// The plan for these keys.
