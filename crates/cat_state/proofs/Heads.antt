@@ -77,9 +77,16 @@ heads_more older commits (r ∷ references) more are =
 pub catalogue_with : (limits : Limits) (references others : List Reference) (commits : Commits) (maps : List (Hash × Map)) (contents : List (Hash × Content)) → IsCatalogue limits references commits maps contents → IsTrue (heads_pass (is_known commits) others) → IsCatalogue limits others commits maps contents
 catalogue_with limits references others commits maps contents is heads = record { log_bound = is.log_bound; commits_bound = is.commits_bound; kept = is.kept; heads = heads; held = is.held }
 
+-- more commits, the maps at them, and contents
+pub catalogue_grown : (limits : Limits) (references : List Reference) (older commits : Commits) (maps more : List (Hash × Map)) (present contents : List (Hash × Content)) → IsCatalogue limits references older maps present → AreKept more commits
+    → ((h : Hash) → IsTrue (is_known older h) → IsTrue (is_known commits h)) → IsTrue (have_contents contents more) → IsCatalogue limits references commits more contents
+catalogue_grown limits references older commits maps more present contents is kept grows held =
+    record { log_bound = is.log_bound; commits_bound = is.commits_bound; kept = kept; heads = heads_more older commits references grows is.heads; held = held }
+
 -- more commits and contents, and a reference that is moved to one of the commits
 pub catalogue_after : (limits : Limits) (references : List Reference) (older commits : Commits) (maps more : List (Hash × Map)) (present contents : List (Hash × Content)) (moved : Reference) (hash : Hash) → IsCatalogue limits references older maps present → AreKept more commits
     → ((h : Hash) → IsTrue (is_known older h) → IsTrue (is_known commits h)) → IsTrue (is_known commits hash) → moved.head ≡ hash → IsTrue (have_contents contents more) → IsCatalogue limits (moved_reference references moved) commits more contents
 catalogue_after limits references older commits maps more present contents moved hash is kept grows known e held =
     let head = subst (λ (h : Hash). IsTrue (is_known commits h)) (sym e) known in
-    record { log_bound = is.log_bound; commits_bound = is.commits_bound; kept = kept; heads = heads_kept_moved (is_known commits) references moved head (heads_more older commits references grows is.heads); held = held }
+    let grown = catalogue_grown limits references older commits maps more present contents is kept grows held in
+    catalogue_with limits references (moved_reference references moved) commits more contents grown (heads_kept_moved (is_known commits) references moved head grown.heads)

@@ -6,4 +6,4 @@ pub mod Walks
 pub mod Turns
 pub mod Held
 pub mod Sets
-pub mod Tried
+pub mod Upon

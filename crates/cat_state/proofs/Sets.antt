@@ -1,53 +1,35 @@
--- Keys that changes set, in the order of their changes.
-use Rattle.std.proofs.Common.{◌≡◌, ℕ, ◌+◌, ◌<◌, List, [], ◌∷◌, ◌++◌, length, get_or, take, map, filter, Option, Some, None, Bool, true, false, ◌&&◌, is_none, cond, fold, refl, sym, ap, ◌∙◌, append_assoc}
-use Rattle.std.specs.Ordering.{ordering_reverse}
-use Rattle.std.specs.declared.cmp.Ordering.TheVariants.{Less, Greater}
-use Rattle.std.proofs.lemmas.List.{append-nil, map-append, take_more}
+-- The keys that plans set and whose contents aren't held, as a set.
+use Rattle.std.proofs.Common.{◌≡◌, ℕ, ◌+◌, ◌<◌, ◌≤◌, List, [], ◌∷◌, ◌++◌, length, get_or, drop, map, filter, None, Some, Bool, is_none, fold, refl, sym, ap, ◌∙◌}
+use Rattle.std.specs.BTreeSet.{insert_key}
+use Rattle.std.specs.Ordering.{match_ordering}
+use Rattle.std.specs.declared.cmp.Ordering.{Ordering}
+use Rattle.std.specs.declared.cmp.Ordering.TheVariants.{Less, Equal, Greater}
+use Rattle.std.proofs.lemmas.List.{drop_all, drop_more, map-append}
 use Rattle.std.proofs.lemmas.List.Elements.{filter-append}
-use Rattle.cat_codes.specs.Code.{follows, ascends}
+use Rattle.std.proofs.lemmas.List.Sums.{fold-append}
+use Rattle.cat_merge.specs.declared.plan.Planned.{Planned}
+use Rattle.cat_merge.specs.Planned.{as_planned}
 use Rattle.cat_names.specs.Fields.{Key, key_cmp}
-use Rattle.cat_keymap.specs.KeyOrder.{key_total, less_is, and_true, head_tail, ascends_lower}
 use Rattle.cat_model.specs.declared.entry.Entry.{Entry}
-use Rattle.cat_model.specs.KeySets.{key_set, with_one}
+use Rattle.cat_model.specs.KeySets.{one_placed, with_one}
 use Rattle.cat_model.specs.Maps.{Map, Change}
-use Rattle.cat_model.specs.Merges.{entries_set}
+use Rattle.cat_model.specs.Merges.{all_set, entries_set}
 use Rattle.cat_model.specs.Records.{expired_keys}
 use Rattle.cat_model.specs.State.{State, content_at}
 
--- ---- a set of keys that ascend
+-- ---- one key more
 
-abbrev AreBelow : List Key → Key → Type 0
-AreBelow [] key = Unit {0}
-AreBelow (k ∷ keys) key = (key_cmp k key ≡ Less) × AreBelow keys key
+placed_is : (o : Ordering) (x first : Key) (keys one other : List Key) → one ≡ other → match_ordering o (x ∷ first ∷ keys) (first ∷ keys) (first ∷ one) ≡ one_placed o x first keys other
+placed_is Less x first keys one other e = refl
+placed_is Equal x first keys one other e = refl
+placed_is Greater x first keys one other e = ap (λ (l : List Key). first ∷ l) e
 
--- one more that is above all goes to the end
-one_above : (keys : List Key) (key : Key) → AreBelow keys key → with_one key_cmp keys key ≡ keys ++ key ∷ []
-one_above [] key below = refl
-one_above (k ∷ keys) key below =
-    let above : key_cmp key k ≡ Greater = key_total.antisymm key k ∙ ap ordering_reverse below.0 in
-    rw above (ap (λ (l : List Key). k ∷ l) (one_above keys key below.1))
+-- a set of keys with one inserted
+pub insert_is : (keys : List Key) (x : Key) → insert_key key_cmp keys x ≡ with_one key_cmp keys x
+insert_is [] x = refl
+insert_is (first ∷ keys) x = placed_is (key_cmp x first) x first keys (insert_key key_cmp keys x) (with_one key_cmp keys x) (insert_is keys x)
 
-below_more : (keys : List Key) (last key : Key) → AreBelow keys last → key_cmp last key ≡ Less → AreBelow (keys ++ last ∷ []) key
-below_more [] last key below less = (less, tt)
-below_more (k ∷ keys) last key below less = (key_total.trans k last key below.0 less, below_more keys last key below.1 less)
-
-abbrev rises : Option Key → List Key → Bool
-rises last [] = true
-rises last (key ∷ keys) = follows key_cmp last key && rises (Some key) keys
-
-set_on : (before : List Key) (last : Key) (keys : List Key) → AreBelow before last → rises (Some last) keys ≡ true → fold (with_one key_cmp) (before ++ last ∷ []) keys ≡ (before ++ last ∷ []) ++ keys
-set_on before last [] below up = sym (append-nil (before ++ last ∷ []))
-set_on before last (key ∷ keys) below up =
-    let both = and_true (follows key_cmp (Some last) key) (rises (Some key) keys) up in
-    let more = below_more before last key below (less_is _ both.0) in
-    ap (λ (l : List Key). fold (with_one key_cmp) l keys) (one_above (before ++ last ∷ []) key more)
-    ∙ set_on (before ++ last ∷ []) key keys more both.1 ∙ append_assoc (before ++ last ∷ []) (key ∷ []) keys
-
-set_is : (keys : List Key) → rises None keys ≡ true → key_set keys ≡ keys
-set_is [] up = refl
-set_is (key ∷ keys) up = set_on [] key keys tt (and_true (follows key_cmp None key) (rises (Some key) keys) up).1
-
--- ---- what is expired among changes
+-- ---- the keys of one part after those of another
 
 abbrev is_lacking : State → Key × Entry → Bool
 is_lacking state x = is_none (content_at state.present x.1.hash)
@@ -55,39 +37,46 @@ is_lacking state x = is_none (content_at state.present x.1.hash)
 abbrev lacking : State → Map → List Key
 lacking state set = map (λ x. x.0) (filter (is_lacking state) set)
 
-rise_by : (b : Bool) (last : Option Key) (x : Key × Entry) (set : Map) → follows key_cmp last x.0 ≡ true → rises (Some x.0) (map (λ x. x.0) set) ≡ true → rises last (map (λ x. x.0) set) ≡ true
-    → rises last (map (λ x. x.0) (cond b (x ∷ set) set)) ≡ true
-rise_by true last x set after up over = rw (after, up) refl
-rise_by false last x set after up over = over
+lacking_append : (state : State) (xs ys : Map) → lacking state (xs ++ ys) ≡ lacking state xs ++ lacking state ys
+lacking_append state xs ys = ap (map (λ (x : Key × Entry). x.0)) (filter-append (is_lacking state) xs ys) ∙ map-append (λ (x : Key × Entry). x.0) (filter (is_lacking state) xs) (filter (is_lacking state) ys)
 
-lacking_rise : (state : State) (last : Option Key) (ops : List Change) → ascends key_cmp last ops ≡ true → rises last (lacking state (entries_set ops)) ≡ true
-lacking_rise state last [] up = refl
-lacking_rise state last ((key, None) ∷ ops) up =
-    let both = head_tail last (key, None) ops up in
-    lacking_rise state last ops (ascends_lower key last ops both.0 both.1)
-lacking_rise state last ((key, Some entry) ∷ ops) up =
-    let both = head_tail last (key, Some entry) ops up in
-    rise_by (is_lacking state (key, entry)) last (key, entry) (filter (is_lacking state) (entries_set ops)) both.0
-    (lacking_rise state (Some key) ops both.1) (lacking_rise state last ops (ascends_lower key last ops both.0 both.1))
+-- keys with the expired ones of a map
+abbrev pub WithExpired : State → List Key → Map → List Key
+WithExpired state keys set = fold (with_one key_cmp) keys (expired_keys state set)
 
--- those of ascending changes are a set
-pub expired_set : (state : State) (ops : List Change) → ascends key_cmp None ops ≡ true → key_set (expired_keys state (entries_set ops)) ≡ expired_keys state (entries_set ops)
+with_both : (state : State) (before after : List Key) (xs ys : Map) → after ≡ WithExpired state before xs → WithExpired state after ys ≡ WithExpired state before (xs ++ ys)
 unfolding expired_keys
-expired_set state ops up = set_is (lacking state (entries_set ops)) (lacking_rise state None ops up)
-
--- ---- one change more
+with_both state before after xs ys e =
+    ap (λ (l : List Key). fold (with_one key_cmp) l (lacking state ys)) e
+    ∙ sym (fold-append (with_one key_cmp) before (lacking state xs) (lacking state ys)) ∙ ap (fold (with_one key_cmp) before) (sym (lacking_append state xs ys))
 
 set_append : (xs ys : List Change) → entries_set (xs ++ ys) ≡ entries_set xs ++ entries_set ys
 set_append [] ys = refl
 set_append ((key, None) ∷ xs) ys = set_append xs ys
 set_append ((key, Some entry) ∷ xs) ys = ap (λ (l : Map). (key, entry) ∷ l) (set_append xs ys)
 
-lacking_append : (state : State) (xs ys : Map) → lacking state (xs ++ ys) ≡ lacking state xs ++ lacking state ys
-lacking_append state xs ys = ap (map (λ (x : Key × Entry). x.0)) (filter-append (is_lacking state) xs ys) ∙ map-append (λ (x : Key × Entry). x.0) (filter (is_lacking state) xs) (filter (is_lacking state) ys)
+-- the next change's key is added
+pub next_change : (state : State) (ops : List Change) (x : Change) (i : ℕ) (before after all : List Key) → i < length ops → x ≡ get_or ops i x → after ≡ WithExpired state before (entries_set (x ∷ []))
+    → WithExpired state before (entries_set (drop i ops)) ≡ all → WithExpired state after (entries_set (drop (i + 1) ops)) ≡ all
+next_change state ops x i before after all lt is added left =
+    let d : drop i ops ≡ x ∷ drop (i + 1) ops = drop_more ops i x lt ∙ ap (λ (y : Change). y ∷ drop (i + 1) ops) (sym is) in
+    with_both state before after (entries_set (x ∷ [])) (entries_set (drop (i + 1) ops)) added
+    ∙ ap (WithExpired state before) (sym (set_append (x ∷ []) (drop (i + 1) ops)) ∙ ap entries_set (sym d)) ∙ left
 
-pub expired_more : (state : State) (ops : List Change) (x : Change) (i : ℕ) (before after : List Key) → before ≡ expired_keys state (entries_set (take i ops)) → after ≡ before ++ expired_keys state (entries_set (x ∷ []))
-    → i < length ops → x ≡ get_or ops i x → after ≡ expired_keys state (entries_set (take (i + 1) ops))
+-- the next plan's keys are added
+pub next_plan : (state : State) (planned : List Planned) (p : Planned) (i : ℕ) (before after all : List Key) → i < length planned → p ≡ get_or planned i p → after ≡ WithExpired state before (entries_set (p.plan).ops)
+    → WithExpired state before (all_set (map as_planned (drop i planned))) ≡ all → WithExpired state after (all_set (map as_planned (drop (i + 1) planned))) ≡ all
+next_plan state planned p i before after all lt is added left =
+    let d : drop i planned ≡ p ∷ drop (i + 1) planned = drop_more planned i p lt ∙ ap (λ (q : Planned). q ∷ drop (i + 1) planned) (sym is) in
+    with_both state before after (entries_set (p.plan).ops) (all_set (map as_planned (drop (i + 1) planned))) added
+    ∙ ap (λ (l : List Planned). WithExpired state before (all_set (map as_planned l))) (sym d) ∙ left
+
+-- ---- none is left
+
+pub none_left : (state : State) (ops : List Change) (i : ℕ) (keys all : List Key) → length ops ≤ i → WithExpired state keys (entries_set (drop i ops)) ≡ all → keys ≡ all
 unfolding expired_keys
-expired_more state ops x i before after was added lt is =
-    added ∙ ap (λ (l : List Key). l ++ lacking state (entries_set (x ∷ []))) was ∙ sym (lacking_append state (entries_set (take i ops)) (entries_set (x ∷ [])))
-    ∙ ap (lacking state) (sym (set_append (take i ops) (x ∷ []))) ∙ ap (λ (y : Change). lacking state (entries_set (take i ops ++ y ∷ []))) is ∙ ap (λ (l : List Change). lacking state (entries_set l)) (sym (take_more ops i x lt))
+none_left state ops i keys all past left = sym (ap (λ (l : List Change). WithExpired state keys (entries_set l)) (drop_all i ops past)) ∙ left
+
+pub no_plan_left : (state : State) (planned : List Planned) (i : ℕ) (keys all : List Key) → length planned ≤ i → WithExpired state keys (all_set (map as_planned (drop i planned))) ≡ all → keys ≡ all
+unfolding expired_keys
+no_plan_left state planned i keys all past left = sym (ap (λ (l : List Planned). WithExpired state keys (all_set (map as_planned l))) (drop_all i planned past)) ∙ left

@@ -10,7 +10,7 @@ use Rattle.cat_model.specs.Chain.{Commits}
 use Rattle.cat_model.specs.Formats.{commit_code}
 use Rattle.cat_model.specs.Moves.{with_references}
 use Rattle.cat_model.specs.Records.{with_commit, with_contents}
-use Rattle.cat_model.specs.Refusing.{◌>>=◌, Tested}
+use Rattle.cat_model.specs.Refusing.{◌>>=◌}
 use Rattle.cat_model.specs.State.{State, commit_hash, content_hash, moved_reference}
 use Rattle.cat_state.specs.declared.records.Record.{Record}
 
@@ -22,6 +22,7 @@ AreHashesOf hashes contents = hashes ≡ map (content_hash sha256) contents
 pub record IsRecordOf (c : Commit) (r : Record) : Type 0 where
   pub hash : r.hash ≡ commit_hash sha256 c
   pub bytes : r.bytes.items ≡ (commit_code).spell c
+  pub fits : (commit_code).Fits c
 
 -- a state with these contents, the newest first
 abbrev pub holding : List (Hash × Content) → State → State
@@ -49,7 +50,3 @@ with_all state contents c moved =
     with_contents sha256 state contents >>= λ held.
     with_commit sha256 held c >>= λ more.
     Ok (moved_state more moved)
-
--- refused where one more commit would be
-abbrev pub needs_no_collision : State → Commit → Tested
-needs_no_collision state c = with_commit sha256 state c >>= λ _. Ok tt

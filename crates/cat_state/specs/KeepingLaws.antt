@@ -8,7 +8,8 @@ use Rattle.cat_model.specs.Maps.{Map, after_changes}
 use Rattle.cat_model.specs.Namespaces.{is_well_formed}
 use Rattle.cat_state.specs.Keeping.{MayBeAdded}
 
-next_of_one : (own before : ℕ) → own ≡ before + 1 → own ≡ max before 0 + 1
+-- the next of one generation
+pub next_of_one : (own before : ℕ) → own ≡ before + 1 → own ≡ max before 0 + 1
 next_of_one own before e = omega (arith, e)
 
 -- a commit upon a known one, which merges nothing, with the next generation

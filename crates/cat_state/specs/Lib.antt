@@ -6,3 +6,5 @@ pub mod Adding
 pub mod PlainLaws
 pub mod Turning
 pub mod HeldLaws
+pub mod Planning
+pub mod Counting

@@ -1,13 +1,15 @@
 //! Contents and commits that are added, each under the hash of its bytes.
 
-ghost use Rattle.std.specs.Prelude.{◌≡◌, ◌<◌, ◌∷◌, List, None, false, IsTrue, is_none, IfOk, OnOk, OnErr, if◌then◌else◌};
+ghost use Rattle.std.specs.Prelude.{◌≡◌, ◌<◌, ◌≤◌, ◌+◌, ◌∷◌, List, None, Some, false, IsTrue, is_none, IfOk, OnOk, OnErr, length, if◌then◌else◌};
 ghost use Rattle.std.specs.Option.{option_map};
 ghost use Rattle.sha2.specs.Sha256.{sha256};
 ghost use Rattle.cat_names.specs.declared.hash.Hash.{Hash};
 ghost use Rattle.cat_tables.specs.Tables.{value_of};
 ghost use Rattle.cat_graph.specs.Linked.{is_known};
 ghost use Rattle.cat_model.specs.declared.content.Content.{Content};
-ghost use Rattle.cat_model.specs.Chain.{commit_of};
+ghost use Rattle.cat_model.specs.declared.commit.Commit.{Commit};
+ghost use Rattle.cat_model.specs.Chain.{Commits, commit_of, entries};
+ghost use Rattle.cat_model.specs.Formats.{commit_code};
 ghost use Rattle.cat_model.specs.Records.{commit_bytes, with_commit, with_content, with_contents};
 ghost use Rattle.cat_model.specs.Same.{same_hash};
 ghost use Rattle.cat_model.specs.State.{State, content_hash, no_ancestor};
@@ -89,6 +91,7 @@ fn commit_bytes(alloc: Global, commits: &Graph, hash: &Hash) -> Result<Option<Ve
     ensures absent { IfOk result (λ b. IsTrue (is_none b) → commit_of commits.now.list hash.now ≡ None) }
     ensures below { IfOk result (λ b. IsTrue (is_none b) → same_hash (no_ancestor sha256) hash.now ≡ false) }
     ensures known { IfOk result (λ b. is_none b ≡ false → IsTrue (is_known commits.now.list hash.now)) }
+    ensures there { IfOk result (λ b. (c : Commit) → (commit_code).Fits c → option_map (λ v. v.items) b ≡ Some ((commit_code).spell c) → commit_of commits.now.list hash.now ≡ Some c) }
 {
     if let Some(commit) = commits.get(hash) {
         return Ok(Some(to_bytes(alloc, commit)?));
@@ -100,7 +103,7 @@ fn commit_bytes(alloc: Global, commits: &Graph, hash: &Hash) -> Result<Option<Ve
 }
 
 /// Whether a commit is not there. Other bytes of its hash refuse it.
-pub(crate) fn is_new_commit(
+fn is_new_commit(
     alloc: Global,
     commits: &Graph,
     commit: &Commit,
@@ -111,6 +114,7 @@ pub(crate) fn is_new_commit(
     ensures absent { IfOk result (λ b. IsTrue b → commit_of commits.now.list written.now.hash ≡ None) }
     ensures below { IfOk result (λ b. IsTrue b → same_hash (no_ancestor sha256) written.now.hash ≡ false) }
     ensures known { IfOk result (λ b. b ≡ false → IsTrue (is_known commits.now.list written.now.hash)) }
+    ensures there { IfOk result (λ b. b ≡ false → commit_of commits.now.list written.now.hash ≡ Some commit.now) }
 {
     let _ = commit;
     let earlier = commit_bytes(alloc, commits, &written.hash)?;
@@ -139,7 +143,7 @@ fn push_commit(commits: &mut Graph, maps: &mut Maps, made: NewCommit)
 }
 
 /// Adds a commit and the map at it, unless it is there, into room that was made before.
-fn add_commit(
+pub(crate) fn add_commit(
     alloc: Global,
     commits: &mut Graph,
     maps: &mut Maps,
@@ -155,12 +159,17 @@ fn add_commit(
     ensures grows { (hash : Hash) → IsTrue (is_known commits.old.list hash) → IsTrue (is_known commits.new.list hash) }
     ensures held { HoldsMore made.map maps.old.list maps.new.list }
     ensures known { OnOk result (IsTrue (is_known commits.new.list made.written.hash)) }
+    ensures entries { OnOk result (entries commits.new.list made.written.hash ≡ made.map) }
+    ensures above { (older : Commits) → IsAbove older commits.old.list → IsAbove older commits.new.list }
+    ensures more { length commits.new.list ≤ length commits.old.list + 1 }
     ensures stay { OnErr result (commits.new.list ≡ commits.old.list) }
     ensures maps_stay { OnErr result (maps.new.list ≡ maps.old.list) }
 {
-    if is_new_commit(alloc, commits, &made.commit, &made.written)? {
-        push_commit(commits, maps, made);
+    commits.known();
+    if !is_new_commit(alloc, commits, &made.commit, &made.written)? {
+        return Ok(());
     }
+    push_commit(commits, maps, made);
     Ok(())
 }
 

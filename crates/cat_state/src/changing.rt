@@ -23,7 +23,7 @@ use cat_names::ref_name::RefName;
 use std::alloc::Global;
 
 /// Takes memory for a commit and the map at it.
-fn reserve(commits: &mut Graph, maps: &mut Maps) -> Result<(), NoMemory>
+pub(crate) fn reserve(commits: &mut Graph, maps: &mut Maps) -> Result<(), NoMemory>
     ensures commits { commits.new.list ≡ commits.old.list }
     ensures maps { maps.new.list ≡ maps.old.list }
     ensures commit_room { OnOk result (0 < commits.new.spare) }

@@ -1,28 +1,47 @@
-//! What a merge asks of the catalogue.
+//! What merges and transplants ask of the catalogue.
 
-ghost use Rattle.std.specs.Prelude.{◌≡◌, ◌∷◌, ◌++◌, [], IfOk, IsTrue, OnOk};
+ghost use Rattle.std.specs.Prelude.{◌≡◌, ◌∷◌, [], IfOk, IsTrue, OnOk, fold, map};
 ghost use Rattle.sha2.specs.Sha256.{sha256};
+ghost use Rattle.cat_names.specs.Fields.{key_cmp};
+ghost use Rattle.cat_merge.specs.Planned.{as_planned};
 ghost use Rattle.cat_model.specs.Base.{base};
-ghost use Rattle.cat_model.specs.KeySets.{key_set};
-ghost use Rattle.cat_model.specs.Merges.{entries_set};
-ghost use Rattle.cat_model.specs.Records.{expired_keys, needs_no_expired};
+ghost use Rattle.cat_model.specs.KeySets.{key_set, with_one};
+ghost use Rattle.cat_model.specs.Merges.{all_set, entries_set};
+ghost use Rattle.cat_model.specs.Merges as merges;
+ghost use Rattle.cat_model.specs.Records.{expired_keys};
 ghost use Rattle.cat_model.specs.State.{is_known};
-ghost use Rattle.cat_state.specs.Adding.{IsRecordOf, needs_no_collision};
 ghost use Rattle.cat_state.specs.Giving.{Gives};
 
-use crate::adding::is_new_commit;
 use crate::catalogue::Catalogue;
 use crate::failure::Failure;
 use crate::needing::needs_none;
-use crate::records::Record;
-use cat_codes::ascending::Ascending;
 use cat_codes::fault::NoMemory;
 use cat_codes::seq::Seq;
-use cat_model::commit::Commit;
+use cat_merge::plan::Planned;
 use cat_model::entry::Entry;
 use cat_names::hash::Hash;
 use cat_names::key::ContentKey;
 use std::alloc::Global;
+use std::collections::BTreeSet;
+
+/// The keys of a set, ascending.
+fn listed(alloc: Global, keys: BTreeSet<ContentKey>) -> Result<Seq<ContentKey>, NoMemory>
+    ensures { IfOk result (λ list. list ≡ keys.keys) }
+{
+    let mut list = Seq::new(alloc);
+    for key in keys {
+        list.push(key)?;
+    }
+    Ok(list)
+}
+
+/// Adds a key to a set.
+fn add_key(keys: &mut BTreeSet<ContentKey>, key: &ContentKey) -> Result<(), NoMemory>
+    ensures { OnOk result (keys.new.keys ≡ with_one key_cmp keys.old.keys key.now) }
+{
+    keys.insert(key.clone()?)?;
+    Ok(())
+}
 
 impl Catalogue {
     /// The merge base of two commits.
@@ -39,65 +58,65 @@ impl Catalogue {
     #[tactic(auto, unfolding(cat_model::specs::Records::expired_keys))]
     fn note_expired(
         &self,
-        out: &mut Seq<ContentKey>,
+        keys: &mut BTreeSet<ContentKey>,
         key: &ContentKey,
         entry: &Option<Entry>,
     ) -> Result<(), NoMemory>
-        ensures { OnOk result (out.new ≡ out.old ++ expired_keys self.now (entries_set ((key.now, entry.now) ∷ []))) }
+        ensures { OnOk result (keys.new.keys ≡ fold (with_one key_cmp) keys.old.keys (expired_keys self.now (entries_set ((key.now, entry.now) ∷ [])))) }
     {
         match entry {
             None => Ok(()),
             Some(entry) => {
                 if self.is_expired(entry) {
-                    out.push(key.clone()?)?;
+                    add_key(keys, key)?;
                 }
                 Ok(())
             }
         }
     }
 
-    /// The keys that changes set whose contents the catalogue doesn't hold.
-    fn expired_changes(
+    /// Adds the keys that changes set whose contents the catalogue doesn't hold.
+    fn note_changes(
+        &self,
+        keys: &mut BTreeSet<ContentKey>,
+        ops: &[(ContentKey, Option<Entry>)],
+    ) -> Result<(), NoMemory>
+        ensures { OnOk result (keys.new.keys ≡ fold (with_one key_cmp) keys.old.keys (expired_keys self.now (entries_set ops.now))) }
+    {
+        for (key, entry) in ops {
+            self.note_expired(keys, key, entry)?;
+        }
+        Ok(())
+    }
+
+    /// The keys that plans set whose contents the catalogue doesn't hold.
+    fn expired_set(
         &self,
         alloc: Global,
-        ops: &[(ContentKey, Option<Entry>)],
-    ) -> Result<Seq<ContentKey>, NoMemory>
-        ensures { IfOk result (λ keys. keys ≡ expired_keys self.now (entries_set ops.now)) }
+        planned: &[Planned],
+    ) -> Result<BTreeSet<ContentKey>, NoMemory>
+        ensures { IfOk result (λ keys. keys.keys ≡ key_set (expired_keys self.now (all_set (map as_planned planned.now)))) }
     {
-        let mut keys = Seq::new(alloc);
-        for (key, entry) in ops {
-            self.note_expired(&mut keys, key, entry)?;
+        let mut keys = BTreeSet::new(alloc);
+        for one in planned {
+            self.note_changes(&mut keys, one.plan.ops.as_slice())?;
         }
         Ok(keys)
     }
 
-    /// The catalogue holds every content that changes set. It is refused with the keys of those that
-    /// it doesn't hold, ascending, and the place where the call began.
-    #[tactic(auto, using(crate::proofs::Sets::expired_set))]
+    /// The catalogue holds every content that plans set. It is refused with the keys of those that
+    /// it doesn't hold, each once, ascending, and the place where the call began.
+    #[tactic(auto, unfolding(cat_model::specs::Merges::needs_set_contents))]
     pub fn needs_set_contents(
         &self,
         alloc: Global,
-        ops: &Ascending<ContentKey, Option<Entry>>,
+        planned: &[Planned],
         opened: u32,
     ) -> Result<(), Failure>
-        ensures { Gives result (needs_no_expired (key_set (expired_keys self.now (entries_set ops.now))) opened) }
+        ensures { Gives result (merges.needs_set_contents self.now (map as_planned planned.now) opened) }
     {
-        ops.known();
-        let keys = self.expired_changes(alloc, ops.as_slice())?;
+        let expired = self.expired_set(alloc, planned)?;
+        let keys = listed(alloc, expired)?;
         needs_none(keys, opened)
-    }
-
-    /// The commit could be added: nothing else has its hash.
-    pub fn needs_commit(
-        &self,
-        alloc: Global,
-        commit: &Commit,
-        written: &Record,
-    ) -> Result<(), Failure>
-        requires { IsRecordOf commit.now written.now }
-        ensures { Gives result (needs_no_collision self.now commit.now) }
-    {
-        let _ = is_new_commit(alloc, self.commits(), commit, written)?;
-        Ok(())
     }
 }

@@ -1,15 +1,18 @@
 //! The commits that requests point at.
 
 ghost use Rattle.std.specs.Prelude.{◌≡◌, IfOk, IsTrue};
-ghost use Rattle.std.specs.Option.{option_copied};
+ghost use Rattle.std.specs.List.{list_all};
+ghost use Rattle.std.specs.Option.{option_copied, option_map};
 ghost use Rattle.sha2.specs.Sha256.{sha256};
-ghost use Rattle.cat_model.specs.Chain.{on_chain};
+ghost use Rattle.cat_model.specs.Chain.{commit_of, on_chain};
 ghost use Rattle.cat_model.specs.State.{is_known};
 ghost use Rattle.cat_model.specs.Refusing as refusing;
+ghost use Rattle.cat_model.specs.Transplants.{are_consecutive};
 ghost use Rattle.cat_state.specs.Giving.{SaysAs};
 ghost use Rattle.cat_state.specs.Keeping.{IsAtCommit};
 
 use crate::catalogue::Catalogue;
+use cat_model::commit::Commit;
 use cat_model::reference::Reference;
 use cat_model::refusal::Refusal;
 use cat_names::hash::Hash;
@@ -30,6 +33,33 @@ impl Catalogue {
         ensures known { IsTrue result → IsTrue (is_known sha256 self.now head.now) → IsTrue (is_known sha256 self.now hash.now) }
     {
         self.commits().on_chain(head, hash)
+    }
+
+    /// Whether each of the hashes is on the chain of the head.
+    pub fn are_on_chain(&self, head: &Hash, hashes: &[Hash]) -> bool
+        ensures { result ≡ list_all (on_chain self.now.commits head.now) hashes.now }
+    {
+        for hash in hashes {
+            if !self.is_on_chain(head, hash) {
+                return false;
+            }
+        }
+        true
+    }
+
+    /// Whether each is the hash of a commit, and each but the first has the one before for its
+    /// parent.
+    pub fn are_consecutive(&self, hashes: &[Hash]) -> bool
+        ensures { result ≡ are_consecutive self.now.commits hashes.now }
+    {
+        self.commits().consecutive(hashes)
+    }
+
+    /// The commit of a hash.
+    pub fn commit(&self, hash: &Hash) -> Option<&Commit>
+        ensures { option_map (λ c. c.now) result ≡ commit_of self.now.commits hash.now }
+    {
+        self.commits().get(hash)
     }
 
     /// The reference of a name. It points at what is known.

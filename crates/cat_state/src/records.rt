@@ -1,6 +1,6 @@
 //! The bytes of commits and contents, and their hashes.
 
-ghost use Rattle.std.specs.Prelude.{◌≡◌, IfOk, is_none, if◌then◌else◌};
+ghost use Rattle.std.specs.Prelude.{◌≡◌, Some, false, IfOk, is_none, if◌then◌else◌};
 ghost use Rattle.std.specs.Option.{option_map};
 ghost use Rattle.sha2.specs.Sha256.{sha256};
 ghost use Rattle.cat_model.specs.State.{State, content_hash};
@@ -60,6 +60,7 @@ pub(crate) fn is_new(
     written: &Record,
 ) -> Result<bool, Failure>
     ensures nothing { IfOk result (λ b. b ≡ is_none kept.now) }
+    ensures same { IfOk result (λ b. b ≡ false → option_map (λ v. v.items) kept.now ≡ Some written.now.bytes.items) }
     ensures added { (state more : State) → GivesAs (λ b. if b then more else state) result (added state more written.now.hash (option_map (λ v. v.items) kept.now) written.now.bytes.items) }
 {
     let Some(kept) = kept else {
