@@ -61,6 +61,9 @@ commit_grows state after c e =
     let hash = commit_hash sha256 c in
     added_leaves (Grows state) state (record state { commits = (hash, c) ∷ state.commits }) after hash (commit_bytes sha256 state hash) ((commit_code).spell c) (refl, above_itself state.commits) (refl, above_one (hash, c) state.commits) e
 
+pub commit_place : (state after : State) (c : Commit) → with_commit sha256 state c ≡ Ok after → after.place ≡ state.place
+commit_place state after c e = (commit_grows state after c e).0
+
 -- a state with an entry more and a reference moved
 abbrev moved_ok : Reference → State → Result State Refusal
 moved_ok r state = Ok (moved_state state r)

@@ -9,14 +9,14 @@ use Rattle.cat_model.specs.declared.reply.Reply.{Reply}
 use Rattle.cat_model.specs.declared.reply.Told.{Told}
 use Rattle.cat_model.specs.Book.{Book, IsCalled, CallRefuses, call_on}
 use Rattle.cat_model.specs.Calls.{call, needs_draft, entry_made}
-use Rattle.cat_model.specs.Refusing.{Outcome}
 use Rattle.cat_model.specs.State.{State}
-use Rattle.cat_model.specs.Step.{opens_draft, opening, step, logged_command, head_left}
+use Rattle.cat_model.specs.Step.{opens_draft, opening, logged_command, head_left}
 use Rattle.cat_state.specs.declared.failure.Failure.{Failure}
 use Rattle.cat_state.specs.declared.failure.Failure.TheVariants as failures
 use Rattle.cat_state.specs.Giving.{Fails}
 use Rattle.cat_state.specs.PlainLaws.{IsOther, IsPlain}
 use Rattle.cat_core.specs.declared.logging.Turn.{Turn}
+use Rattle.cat_core.specs.Drafting.{IsDrafted, drafted_step, drafted_turn}
 use Rattle.cat_core.specs.Making.{Makes, entry_at, taking, with_entry}
 use Rattle.cat_core.proofs.PlainCalls.{call_refused, plain_limit}
 
@@ -47,20 +47,6 @@ draft_refused caller book command moment why o e d =
 
 -- ---- in the draft
 
--- the call opens a draft, and nothing refuses it before that
-pub record IsDrafted (book : Book) (command : Command) : Type 0 where
-  pub opens : opens_draft command ≡ true
-  pub passes : opening sha256 book.state command ≡ Ok tt
-  pub left : needs_draft book.state book.draft true ≡ Ok tt
-
--- its step on a book
-abbrev pub drafted_step : Book → Command → ℕ → Outcome
-drafted_step book command moment = step sha256 book.state command (record { draft = book.draft + 1; opened = book.state.place; moment = moment })
-
--- who calls, the draft number that the call takes, and when
-abbrev pub turn_of : ℕ → Book → ℕ → Turn
-turn_of caller book moment = record { caller = caller; draft = book.draft + 1; moment = moment }
-
 -- the step refuses; its draft number is taken
 step_refused : (caller : ℕ) (book : Book) (command : Command) (moment : ℕ) (why : Refusal) → IsDrafted book command → IsPlain (drafted_step book command moment) → drafted_step book command moment ≡ Err why
     → CallRefuses (call_on sha256 caller book command moment) book (taking book (book.draft + 1)) why (record { place = Some book.state.place; why = why })
@@ -81,7 +67,7 @@ step_fails caller book after command moment draft failure d p n t s =
     (failed caller book command moment failure d p s)
 
 accepted : (caller : ℕ) (book : Book) (command : Command) (moment : ℕ) (after : State) (reply : Reply) → IsDrafted book command → drafted_step book command moment ≡ Ok (after, reply) → after.place ≡ book.state.place + 1
-    → IsCalled (call_on sha256 caller book command moment) book (with_entry (taking book (book.draft + 1)) after (entry_at book (turn_of caller book moment) (logged_command sha256 (book.draft + 1) command) (head_left command reply))) (Ok (record { place = book.state.place + 1; reply = reply }))
+    → IsCalled (call_on sha256 caller book command moment) book (with_entry (taking book (book.draft + 1)) after (entry_at book (drafted_turn caller book moment) (logged_command sha256 (book.draft + 1) command) (head_left command reply))) (Ok (record { place = book.state.place + 1; reply = reply }))
 unfolding call entry_made
 accepted caller book command moment after reply d s p = record {
   said = rw (d.passes, d.opens, d.left, d.opens, s, p, more_is book.state.place) refl;
@@ -90,7 +76,7 @@ accepted caller book command moment after reply d s p = record {
 
 -- the step is accepted
 pub step_done : (caller : ℕ) (book after : Book) (command logged : Command) (moment : ℕ) (turn : Turn) (head : Option Hash) (told : Told) → IsDrafted book command → drafted_step book command moment ≡ Ok (after.state, told.reply) → after.state.place ≡ book.state.place + 1
-    → turn ≡ turn_of caller book moment → logged ≡ logged_command sha256 (book.draft + 1) command → head ≡ head_left command told.reply
+    → turn ≡ drafted_turn caller book moment → logged ≡ logged_command sha256 (book.draft + 1) command → head ≡ head_left command told.reply
     → after ≡ with_entry (taking book turn.draft) after.state (entry_at book turn logged head) → told.place ≡ book.state.place + 1 → Makes (call_on sha256 caller book command moment) book after (Ok told)
 step_done caller book after command logged moment turn head told d s p t l h a n =
     let called = accepted caller book command moment after.state told.reply d s p in

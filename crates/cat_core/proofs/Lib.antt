@@ -6,13 +6,11 @@ pub mod Plain
 pub mod PlainCalls
 pub mod PlainMoves
 pub mod PlainMerges
-pub mod MergeSteps
-pub mod MergeMade
+pub mod OpenedPlans
+pub mod PlannedCalls
 pub mod Called
 pub mod Opened
-pub mod OpenedMerge
 pub mod Undrafted
 pub mod Puts
 pub mod Unexpired
 pub mod Growing
-pub mod UnexpiredMerges

@@ -16,7 +16,8 @@ use Rattle.cat_state.specs.PlainLaws.{IsPlain, plain_bind}
 use Rattle.cat_core.specs.declared.preparing.Prepared.{Prepared}
 use Rattle.cat_core.specs.Making.{Makes}
 use Rattle.cat_core.specs.Putting.{accepted_book, accepted_told, add_step}
-use Rattle.cat_core.proofs.Called.{IsDrafted, step_done, turn_of}
+use Rattle.cat_core.specs.Drafting.{IsDrafted, drafted_turn}
+use Rattle.cat_core.proofs.Called.{step_done}
 use Rattle.cat_core.proofs.PlainCalls.{plain_opening}
 
 pub plain_commit_opening : (state : State) (c : CommitRequest) → IsPlain (opening sha256 state (commands.Commit c))
@@ -34,8 +35,8 @@ commit_drafted book c o e d = record { opens = refl; passes = commit_passes book
 -- the step adds what was made
 pub commit_done : (caller : ℕ) (book after : Book) (c : CommitRequest) (moment : ℕ) (made : Prepared) (told : Told) → IsDrafted book (commands.Commit c)
     → step_commit sha256 book.state c (book.draft + 1) moment ≡ add_step book.state made → add_step book.state made ≡ Ok (after.state, told.reply)
-    → after ≡ accepted_book book after.state (turn_of caller book moment) made → after.state.place ≡ book.state.place + 1 → told ≡ accepted_told book made → made.request ≡ given_request sha256 (book.draft + 1) c
+    → after ≡ accepted_book book after.state (drafted_turn caller book moment) made → after.state.place ≡ book.state.place + 1 → told ≡ accepted_told book made → made.request ≡ given_request sha256 (book.draft + 1) c
     → Makes (call_on sha256 caller book (commands.Commit c) moment) book after (Ok told)
 commit_done caller book after c moment made told d s a b p t r =
-    step_done caller book after (commands.Commit c) (commands.Commit made.request) moment (turn_of caller book moment) (Some made.moved.head) told d (s ∙ a) p refl (ap (λ (x : CommitRequest). commands.Commit x) r)
+    step_done caller book after (commands.Commit c) (commands.Commit made.request) moment (drafted_turn caller book moment) (Some made.moved.head) told d (s ∙ a) p refl (ap (λ (x : CommitRequest). commands.Commit x) r)
     (sym (ap (λ (x : Told). head_left (commands.Commit c) x.reply) t)) b (ap (λ (x : Told). x.place) t)

@@ -1,13 +1,15 @@
--- No step of a merge refuses for want of memory.
-use Rattle.std.proofs.Common.{ℕ, List, [], ◌∷◌, Option, Some, Ok, Err, Bool, true, false, cond}
+-- No step of a merge or a transplant refuses for want of memory.
+use Rattle.std.proofs.Common.{ℕ, List, [], ◌∷◌, Option, Some, None, Ok, Err, Bool, true, false, cond}
 use Rattle.sha2.specs.Sha256.{sha256}
 use Rattle.cat_names.specs.declared.hash.Hash.{Hash}
 use Rattle.cat_model.specs.declared.command.Command.TheVariants as commands
 use Rattle.cat_model.specs.declared.command.Merge.{Merge}
+use Rattle.cat_model.specs.declared.command.Transplant.{Transplant}
 use Rattle.cat_model.specs.declared.conflict.Conflict.{Conflict}
 use Rattle.cat_model.specs.declared.limits.Quantity.TheVariants as quantities
 use Rattle.cat_model.specs.declared.reference.Reference.{Reference}
-use Rattle.cat_model.specs.declared.refusal.Refusal.TheVariants.{BadRequest, Conflicts}
+use Rattle.cat_model.specs.declared.refusal.Reason.TheVariants.{NotConsecutive}
+use Rattle.cat_model.specs.declared.refusal.Refusal.TheVariants.{BadRequest, Conflicts, RefNotFound}
 use Rattle.cat_model.specs.declared.reply.Reply.{Reply}
 use Rattle.cat_model.specs.Base.{base}
 use Rattle.cat_model.specs.Chain.{entries}
@@ -16,7 +18,8 @@ use Rattle.cat_model.specs.Merges.{Asked, Planned, all_conflicts, all_set, commi
 use Rattle.cat_model.specs.Moves.{needs_log}
 use Rattle.cat_model.specs.Records.{expired_keys, with_commit}
 use Rattle.cat_model.specs.KeySets.{key_set}
-use Rattle.cat_model.specs.Refusing.{named, needs_at_most, needs_branch, pointed}
+use Rattle.cat_model.specs.Transplants.{are_consecutive, needs_on_chain, step_transplant, transplant_opening, transplant_planned}
+use Rattle.cat_model.specs.Refusing.{named, needs, needs_at_most, needs_branch, pointed}
 use Rattle.cat_model.specs.State.{State, commit_hash}
 use Rattle.cat_model.specs.Step.{opening}
 use Rattle.cat_state.specs.PlainLaws.{IsPlain, plain_bind, plain_named, plain_needs, plain_pointed}
@@ -71,3 +74,24 @@ plain_merge state m opened moment =
 
 pub plain_opening_merge : (state : State) (m : Merge) → IsPlain (opening sha256 state (commands.Merge m))
 plain_opening_merge state m = plain_bind (merge_opening sha256 state m) (λ _. Ok tt) (plain_merge_opening state m) (λ o. tt)
+
+-- ---- transplants
+
+pub plain_transplant_opening : (state : State) (t : Transplant) → IsPlain (transplant_opening sha256 state t)
+unfolding transplant_opening
+plain_transplant_opening state t =
+    plain_bind {B = Reference} (named state t.branch) _ (plain_named state t.branch) (λ branch.
+    plain_bind {B = Reference} (named state t.from) _ (plain_named state t.from) (λ from.
+    plain_bind {B = Reference} (needs_branch branch) _ (plain_needs _ (BadRequest _) (λ e. cc)) (λ u.
+    plain_bind {B = Reference} (pointed sha256 state (Some branch) t.hash) _ (plain_pointed state (Some branch) t.hash) (λ h.
+    plain_bind {B = Reference} (needs_on_chain state from t.hashes) _ (plain_needs _ RefNotFound (λ e. cc)) (λ u.
+    plain_bind {B = Reference} (needs (are_consecutive state.commits t.hashes) (BadRequest NotConsecutive)) (λ _. Ok branch) (plain_needs (are_consecutive state.commits t.hashes) (BadRequest NotConsecutive) (λ e. cc)) (λ u. tt))))))
+
+pub plain_transplant : (state : State) (t : Transplant) (opened moment : ℕ) → IsPlain (step_transplant sha256 state t opened moment)
+unfolding step_transplant
+plain_transplant state t opened moment =
+    plain_bind (transplant_opening sha256 state t) _ (plain_transplant_opening state t) (λ branch.
+    plain_step_planned state None branch (transplant_planned state t branch.head) (record { dry_run = t.dry_run; conflicts_as_result = t.conflicts_as_result }) opened moment)
+
+pub plain_opening_transplant : (state : State) (t : Transplant) → IsPlain (opening sha256 state (commands.Transplant t))
+plain_opening_transplant state t = plain_bind (transplant_opening sha256 state t) (λ _. Ok tt) (plain_transplant_opening state t) (λ o. tt)

@@ -1,5 +1,5 @@
 -- No step on a catalogue whose contents are there refuses for contents that are gone.
-use Rattle.std.proofs.Common.{◌≡◌, ℕ, ◌+◌, nat_lt, nat_le, length, List, [], ◌∷◌, Option, Some, None, Result, Ok, Err, Bool, true, false, if◌then◌else◌, map, filter_map, refl, sym, ap, ◌∙◌}
+use Rattle.std.proofs.Common.{◌≡◌, ℕ, ◌+◌, nat_lt, nat_le, length, List, [], ◌∷◌, Option, Some, None, Result, Ok, Err, true, map, filter_map, refl, ap}
 use Rattle.sha2.specs.Sha256.{sha256}
 use Rattle.cat_names.specs.declared.hash.Hash.{Hash}
 use Rattle.cat_model.specs.declared.command.Assign.{Assign}
@@ -13,69 +13,32 @@ use Rattle.cat_model.specs.declared.limits.Quantity.TheVariants as quantities
 use Rattle.cat_model.specs.declared.op.Op.{Op}
 use Rattle.cat_model.specs.declared.reference.Kind.{Kind}
 use Rattle.cat_model.specs.declared.reference.Reference.{Reference}
-use Rattle.cat_model.specs.declared.refusal.Refusal.{Refusal}
-use Rattle.cat_model.specs.declared.refusal.Refusal.TheVariants.{BadRequest, RefNotFound, RefExists, Conflicts, Collision, Limit}
+use Rattle.cat_model.specs.declared.refusal.Refusal.TheVariants.{BadRequest, RefExists, Conflicts, Limit}
 use Rattle.cat_model.specs.declared.reply.Reply.{Reply}
 use Rattle.cat_model.specs.Calls.{needs_draft}
 use Rattle.cat_model.specs.Chain.{entries}
 use Rattle.cat_model.specs.Commits.{commit_opening, committed, given_ops, needs_commit_room, or_conflicts, puts, request_commit, step_commit}
 use Rattle.cat_model.specs.Contents.{content_code}
-use Rattle.cat_model.specs.Formats.{commit_code}
 use Rattle.cat_model.specs.Judge.{judge}
 use Rattle.cat_model.specs.Maps.{Map}
 use Rattle.cat_model.specs.Moves.{needs_contents, needs_head, needs_log, needs_new_name, needs_other_than_default, step_assign, step_create, step_delete}
-use Rattle.cat_model.specs.Records.{added, commit_bytes, content_bytes, with_commit, with_content, with_contents}
-use Rattle.cat_model.specs.Refusing.{◌>>=◌, found, named, needs, needs_at_most, needs_branch, needs_kind, needs_room, needs_source_kind, perhaps_named, pointed}
+use Rattle.cat_model.specs.Records.{content_bytes, with_commit, with_content, with_contents}
+use Rattle.cat_model.specs.Refusing.{◌>>=◌, named, needs_at_most, needs_branch, needs_kind, needs_room, needs_source_kind, perhaps_named, pointed}
 use Rattle.cat_model.specs.State.{State, commit_hash, content_hash}
-use Rattle.cat_state.specs.declared.failure.Failure.{Failure}
-use Rattle.cat_state.specs.declared.failure.Failure.TheVariants as failures
-use Rattle.cat_state.specs.Giving.{Fails}
 use Rattle.cat_state.specs.HeldLaws.{contents_pass}
 use Rattle.cat_state.specs.Keeping.{has_contents}
-use Rattle.cat_core.specs.Expiring.{answers_expired, fails_expired, is_expired}
-
--- it isn't refused so
-abbrev pub IsUnexpired : {A : Type 0} → Result A Refusal → Type 0
-IsUnexpired r = answers_expired r ≡ false
+use Rattle.cat_plans.specs.Expiring.{answers_expired}
+use Rattle.cat_plans.specs.ExpiringLaws.{IsUnexpired, unexpired_added, unexpired_bind, unexpired_commit, unexpired_log, unexpired_named, unexpired_needs, unexpired_pointed}
 
 -- the content of each entry is there, at each commit
 abbrev pub HoldsAll : State → Type 0
 HoldsAll state = (hash : Hash) → has_contents state.present (entries state.commits hash) ≡ true
 
--- a failure by such an answer isn't so either
-pub unexpired_fails : {A : Type 0} (failure : Failure) (r : Result A Refusal) → IsUnexpired r → Fails failure r → fails_expired failure ≡ false
-unexpired_fails failures.NoMemory r h e = refl
-unexpired_fails (failures.Refused why) r h e = sym (ap answers_expired e) ∙ h
-
 -- ---- tests
-
-pub unexpired_bind : {A B : Type 0} (r : Result A Refusal) (f : A → Result B Refusal) → IsUnexpired r → ((x : A) → IsUnexpired (f x)) → IsUnexpired (r >>= f)
-unexpired_bind (Ok x) f p q = q x
-unexpired_bind (Err why) f p q = p
-
-unexpired_choice : {A : Type 0} (b : Bool) (x : A) (why : Refusal) → is_expired why ≡ false → IsUnexpired (if b then Ok x else Err why)
-unexpired_choice true x why p = refl
-unexpired_choice false x why p = p
-
-pub unexpired_needs : (b : Bool) (why : Refusal) → is_expired why ≡ false → IsUnexpired (needs b why)
-unexpired_needs b why p = unexpired_choice b (tt {0}) why p
-
-unexpired_found : {A : Type 0} (o : Option A) (why : Refusal) → is_expired why ≡ false → IsUnexpired (found o why)
-unexpired_found None why p = p
-unexpired_found (Some x) why p = refl
-
-pub unexpired_named : (state : State) (name : List ℕ) → IsUnexpired (named state name)
-unexpired_named state name = unexpired_found _ RefNotFound refl
 
 unexpired_perhaps : (state : State) (name : Option (List ℕ)) → IsUnexpired (perhaps_named state name)
 unexpired_perhaps state None = refl
 unexpired_perhaps state (Some name) = unexpired_bind (named state name) (λ r. Ok (Some r)) (unexpired_named state name) (λ r. refl)
-
-pub unexpired_pointed : (state : State) (reference : Option Reference) (hash : Option Hash) → IsUnexpired (pointed sha256 state reference hash)
-unexpired_pointed state (Some reference) None = refl
-unexpired_pointed state (Some reference) (Some hash) = unexpired_choice _ hash RefNotFound refl
-unexpired_pointed state None (Some hash) = unexpired_choice _ hash RefNotFound refl
-unexpired_pointed state None None = refl
 
 unexpired_kind : (kind : Option Kind) (reference : Reference) → IsUnexpired (needs_kind kind reference)
 unexpired_kind kind reference = unexpired_needs _ (BadRequest _) refl
@@ -86,9 +49,6 @@ unexpired_source kind (Some reference) = unexpired_kind kind reference
 
 unexpired_head : (expected : Option Hash) (head : Hash) → IsUnexpired (needs_head expected head)
 unexpired_head expected head = unexpired_needs _ (Conflicts _) refl
-
-pub unexpired_log : (state : State) → IsUnexpired (needs_log state)
-unexpired_log state = unexpired_needs _ (Limit quantities.Log state.limits.log) refl
 
 unexpired_visible : (state : State) (hash : Hash) → HoldsAll state → IsUnexpired (needs_contents state hash)
 unexpired_visible state hash holds = ap answers_expired (contents_pass state hash (holds hash))
@@ -151,22 +111,12 @@ unexpired_conflicts : (judged : Result Map (List Conflict)) → IsUnexpired (or_
 unexpired_conflicts (Ok map) = refl
 unexpired_conflicts (Err conflicts) = refl
 
-unexpired_added : (state more : State) (hash : Hash) (kept : Option (List ℕ)) (bytes : List ℕ) → IsUnexpired (added state more hash kept bytes)
-unexpired_added state more hash None bytes = refl
-unexpired_added state more hash (Some kept) bytes = unexpired_choice _ state (Collision hash kept bytes) refl
-
 unexpired_contents : (state : State) (contents : List Content) → IsUnexpired (with_contents sha256 state contents)
 unfolding with_content
 unexpired_contents state [] = refl
 unexpired_contents state (c ∷ contents) =
     let hash = content_hash sha256 c in
     unexpired_bind (with_content sha256 state c) _ (unexpired_added state (record state { present = (hash, c) ∷ state.present }) hash (content_bytes state hash) ((content_code).spell c)) (λ more. unexpired_contents more contents)
-
-pub unexpired_commit : (state : State) (c : Commit) → IsUnexpired (with_commit sha256 state c)
-unfolding with_commit
-unexpired_commit state c =
-    let hash = commit_hash sha256 c in
-    unexpired_added state (record state { commits = (hash, c) ∷ state.commits }) hash (commit_bytes sha256 state hash) ((commit_code).spell c)
 
 unexpired_rest : (state : State) (judged : Result Map (List Conflict)) (contents : List Content) (commit : Commit) (last : State → State × Reply)
     → IsUnexpired (or_conflicts judged >>= λ _. with_contents sha256 state contents >>= λ held. with_commit sha256 held commit >>= λ more. Ok (last more))

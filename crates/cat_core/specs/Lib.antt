@@ -1,5 +1,4 @@
 pub mod Ops
 pub mod Making
 pub mod Putting
-pub mod Expiring
-pub mod Merging
+pub mod Drafting

@@ -9,23 +9,25 @@ ghost use Rattle.cat_model.specs.Distinct.{are_distinct};
 ghost use Rattle.cat_model.specs.State.{is_known};
 ghost use Rattle.cat_model.specs.WellMade.{have_contents, is_well_made};
 ghost use Rattle.cat_model.specs.declared.command.Command.TheVariants as commands;
-ghost use Rattle.cat_model.specs.declared.reply.Reply.TheVariants as replies;
 ghost use Rattle.cat_state.specs.Adding.{IsAbove};
 ghost use Rattle.cat_state.specs.Giving.{SaysAs};
-ghost use Rattle.cat_core.specs.Expiring.{fails_expired, is_expired};
+ghost use Rattle.cat_plans.specs.Expiring.{fails_expired, is_expired};
+ghost use Rattle.cat_core.specs.Drafting.{drafted_turn};
 ghost use Rattle.cat_core.specs.Making.{Makes, refused_at, taking};
 
 use crate::logging::Turn;
-use crate::merging::Planned;
 use crate::store::Store;
 use cat_model::ask::Ask;
-use cat_model::command::{Command, CommitRequest, Merge};
+use cat_model::command::{Command, CommitRequest, Merge, Transplant};
 use cat_model::limits::Quantity;
 use cat_model::moment::Moment;
 use cat_model::reference::{Kind, Reference};
 use cat_model::refusal::{Reason, Refusal, Refused};
-use cat_model::reply::{Merged, Reply, Told};
+use cat_model::reply::Told;
 use cat_names::hash::Hash;
+use cat_plans::merging::merge_outcome;
+use cat_plans::opening::{open_merge, open_transplant};
+use cat_plans::transplanting::transplant_outcome;
 use cat_state::failure::Failure;
 use std::alloc::Global;
 
@@ -47,7 +49,7 @@ fn refused(place: u32, failure: Failure) -> Refused
 }
 
 impl Store {
-    fn place(&self) -> u32
+    pub(crate) fn place(&self) -> u32
         ensures { result ≡ self.now.state.place }
     {
         self.catalogue().place()
@@ -97,7 +99,7 @@ impl Store {
     }
 
     /// Takes the draft number of a call that is refused after its draft was opened.
-    fn take(&mut self, draft: u64)
+    pub(crate) fn take(&mut self, draft: u64)
         ensures { self.new ≡ taking self.old draft }
     {
         self.draft = draft;
@@ -134,20 +136,19 @@ impl Store {
         }
     }
 
-    /// Takes the draft number of a merge that changes nothing, and tells its reply.
-    fn reply(&mut self, draft: u64, merged: Merged) -> Told
-        ensures book { self.new ≡ taking self.old draft }
-        ensures told { result ≡ record { place = self.old.state.place; reply = replies.Merged merged } }
+    /// The turn of a call that opens a draft.
+    fn drafted(&self, caller: u32, moment: Moment) -> Turn
+        requires { self.now.draft < 18446744073709551615 }
+        ensures { result ≡ drafted_turn caller self.now moment }
     {
-        self.take(draft);
-        Told {
-            place: self.place(),
-            reply: Reply::Merged(merged),
+        Turn {
+            caller,
+            draft: self.draft() + 1,
+            moment,
         }
     }
 
     /// Merges a commit of a reference into a branch.
-    #[tactic(auto, using(crate::proofs::Growing::above_same, crate::proofs::Growing::above_taking))]
     fn merge(
         &mut self,
         alloc: Global,
@@ -159,22 +160,30 @@ impl Store {
         ensures there { IfErr result (λ failure. fails_expired failure ≡ false) }
         ensures later { IsAbove self.old.state.commits self.new.state.commits }
     {
-        self.catalogue().contents_are_held();
-        let (branch, source) = self.open_merge(merge)?;
+        let (branch, source) = open_merge(self.catalogue(), merge)?;
         self.needs_draft()?;
-        let turn = Turn {
-            caller,
-            draft: self.draft() + 1,
-            moment,
-        };
-        match self.plan(alloc, moment, merge, branch, &source) {
-            Ok(Planned::Made(made)) => Ok(self.accept_merge(alloc, turn, made)?),
-            Ok(Planned::Replied(merged)) => Ok(self.reply(turn.draft, merged)),
-            Err(failure) => {
-                self.take(turn.draft);
-                Err(failure)
-            }
-        }
+        let turn = self.drafted(caller, moment);
+        let planned = merge_outcome(alloc, self.catalogue(), merge, branch, &source);
+        self.make_planned(alloc, turn, planned)
+    }
+
+    /// Applies commits of a reference to a branch.
+    fn transplant(
+        &mut self,
+        alloc: Global,
+        caller: u32,
+        moment: Moment,
+        transplant: &Transplant,
+    ) -> Result<Told, Failure>
+        ensures call { Makes (call_on sha256 caller self.old (commands.Transplant transplant.now) moment) self.old self.new result }
+        ensures there { IfErr result (λ failure. fails_expired failure ≡ false) }
+        ensures later { IsAbove self.old.state.commits self.new.state.commits }
+    {
+        let branch = open_transplant(self.catalogue(), transplant)?;
+        self.needs_draft()?;
+        let turn = self.drafted(caller, moment);
+        let planned = transplant_outcome(alloc, self.catalogue(), transplant, branch);
+        self.make_planned(alloc, turn, planned)
     }
 
     /// Makes a call, by what it is.
@@ -197,6 +206,9 @@ impl Store {
             Command::Delete(delete) => self.delete(alloc, caller, moment, delete),
             Command::Commit(request) => self.commit(alloc, caller, moment, request),
             Command::Merge(merge) => self.merge(alloc, caller, moment, merge),
+            Command::Transplant(transplant) => {
+                self.transplant(alloc, caller, moment, transplant)
+            }
         }
     }
 

@@ -7,15 +7,16 @@
 mod accepting;
 mod calls;
 mod committing;
+mod counts;
 mod given;
 mod judging;
 mod logging;
-mod merging;
 mod moving;
 mod ops;
-mod planning;
+mod planned;
 mod preparing;
 mod referring;
 mod store;
 
+pub use cat_state::counts::Counts;
 pub use store::Store;

@@ -7,7 +7,7 @@ ghost use Rattle.cat_model.specs.Moves.{with_references};
 ghost use Rattle.cat_model.specs.State.{is_known, moved_reference, reference_of, with_reference, without_reference};
 ghost use Rattle.cat_model.specs.declared.command.Command.TheVariants as commands;
 ghost use Rattle.cat_state.specs.Adding.{IsAbove};
-ghost use Rattle.cat_core.specs.Expiring.{fails_expired};
+ghost use Rattle.cat_plans.specs.Expiring.{fails_expired};
 ghost use Rattle.cat_core.specs.Making.{Makes, entry_at, reference_told, with_entry};
 
 use crate::logging::{Turn, entry, push_entry, reserve_entry};

@@ -20,19 +20,9 @@ use cat_model::reference::{Kind, Reference};
 use cat_model::refusal::{Reason, Refusal};
 use cat_names::hash::Hash;
 use cat_names::ref_name::RefName;
+use cat_plans::outcome::at_head;
 use cat_state::failure::Failure;
 use std::alloc::{AllocError, Global};
-
-/// The reference at a head.
-pub(crate) fn at_head(reference: &Reference, head: Hash) -> Result<Reference, NoMemory>
-    ensures { IfOk result (λ r. r ≡ record reference.now { head = head }) }
-{
-    Ok(Reference {
-        name: reference.name.clone()?,
-        kind: reference.kind,
-        head,
-    })
-}
 
 /// A copy of the reference.
 pub(crate) fn copy_reference(reference: &Reference) -> Result<Reference, AllocError>

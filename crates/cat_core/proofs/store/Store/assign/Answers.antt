@@ -6,7 +6,8 @@ use Rattle.cat_model.specs.Moves.{step_assign, with_references}
 use Rattle.cat_model.specs.State.{moved_reference}
 use Rattle.cat_core.proofs.PlainMoves.{plain_assign}
 use Rattle.cat_core.proofs.Undrafted.{undrafted_done, undrafted_fails}
-use Rattle.cat_core.proofs.Unexpired.{unexpired_fails, unexpired_assign}
+use Rattle.cat_plans.specs.ExpiringLaws.{unexpired_fails}
+use Rattle.cat_core.proofs.Unexpired.{unexpired_assign}
 use Rattle.cat_core.proofs.store.Store.assign.Goals as goal
 
 pub returns-in_err-moved-clause-call : goal.returns-in_err-moved-clause-call

@@ -9,7 +9,8 @@ use Rattle.cat_state.specs.Giving.{Fails}
 use Rattle.cat_core.proofs.Called.{draft_refused, opening_refused, step_fails}
 use Rattle.cat_core.proofs.Opened.{commit_done, commit_drafted, commit_passes, commit_refused, plain_commit_opening}
 use Rattle.cat_core.proofs.PlainCalls.{plain_step}
-use Rattle.cat_core.proofs.Unexpired.{unexpired_draft, unexpired_fails, unexpired_opening, unexpired_step}
+use Rattle.cat_plans.specs.ExpiringLaws.{unexpired_fails}
+use Rattle.cat_core.proofs.Unexpired.{unexpired_draft, unexpired_opening, unexpired_step}
 use Rattle.cat_core.proofs.store.Store.commit.Goals as goal
 
 pub returns-in_err-branch-clause-call : goal.returns-in_err-branch-clause-call

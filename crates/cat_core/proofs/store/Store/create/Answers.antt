@@ -7,7 +7,8 @@ use Rattle.cat_model.specs.Moves.{step_create, with_references}
 use Rattle.cat_model.specs.State.{with_reference}
 use Rattle.cat_core.proofs.PlainMoves.{plain_create}
 use Rattle.cat_core.proofs.Undrafted.{undrafted_done, undrafted_fails}
-use Rattle.cat_core.proofs.Unexpired.{unexpired_fails, unexpired_create}
+use Rattle.cat_plans.specs.ExpiringLaws.{unexpired_fails}
+use Rattle.cat_core.proofs.Unexpired.{unexpired_create}
 use Rattle.cat_core.proofs.store.Store.create.Goals as goal
 
 pub returns-in_err-made-clause-call : goal.returns-in_err-made-clause-call

@@ -5,7 +5,8 @@ use Rattle.cat_model.specs.Moves.{step_delete, with_references}
 use Rattle.cat_model.specs.State.{without_reference}
 use Rattle.cat_core.proofs.PlainMoves.{plain_delete}
 use Rattle.cat_core.proofs.Undrafted.{undrafted_done, undrafted_fails}
-use Rattle.cat_core.proofs.Unexpired.{unexpired_fails, unexpired_delete}
+use Rattle.cat_plans.specs.ExpiringLaws.{unexpired_fails}
+use Rattle.cat_core.proofs.Unexpired.{unexpired_delete}
 use Rattle.cat_core.proofs.store.Store.delete.Goals as goal
 
 pub returns-in_err-removed-clause-call : goal.returns-in_err-removed-clause-call

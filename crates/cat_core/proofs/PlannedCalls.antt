@@ -1,0 +1,139 @@
+-- What a call brings for which commits were planned.
+use Rattle.std.proofs.Common.{◌≡◌, ◌<◌, ℕ, ◌+◌, List, [], ◌∷◌, Result, Ok, Err, false, IfErr, IfOk, OnErr, OnOk, refl, sym, ap, subst, ◌∙◌}
+use Rattle.sha2.specs.Sha256.{sha256}
+use Rattle.cat_names.specs.declared.hash.Hash.{Hash}
+use Rattle.cat_model.specs.declared.command.Command.{Command}
+use Rattle.cat_model.specs.declared.reply.Merged.{Merged}
+use Rattle.cat_model.specs.declared.reply.Reply.TheVariants as replies
+use Rattle.cat_model.specs.declared.reply.Told.{Told}
+use Rattle.cat_model.specs.Book.{Book, call_on}
+use Rattle.cat_model.specs.Calls.{Called}
+use Rattle.cat_model.specs.Merges as merges
+use Rattle.cat_model.specs.Merges.{planned_commit, with_planned}
+use Rattle.cat_model.specs.Records.{with_commit}
+use Rattle.cat_model.specs.State.{State, commit_hash}
+use Rattle.cat_model.specs.Step.{head_told, logged_command}
+use Rattle.cat_state.specs.declared.failure.Failure.{Failure}
+use Rattle.cat_state.specs.Giving.{Fails, GivesAs}
+use Rattle.cat_state.specs.GivingLaws.{passed_by}
+use Rattle.cat_plans.specs.declared.outcome.Adding.{Adding}
+use Rattle.cat_plans.specs.declared.outcome.Outcome.{Outcome}
+use Rattle.cat_plans.specs.declared.outcome.Outcome.TheVariants.{Replied, Tried, Made}
+use Rattle.cat_plans.specs.Expiring.{fails_expired}
+use Rattle.cat_plans.specs.ExpiringLaws.{IsUnexpired, unexpired_bind, unexpired_fails, unexpired_with}
+use Rattle.cat_plans.specs.Outcomes.{ComesTo, IsLoggedAs, MayBeMade, MayFollow, added_by, step_of}
+use Rattle.cat_core.specs.declared.logging.Turn.{Turn}
+use Rattle.cat_core.specs.Drafting.{IsPlannedFor, drafted_step, step_adding}
+use Rattle.cat_core.specs.Making.{Makes, entry_at, taking, with_entry}
+use Rattle.cat_core.proofs.Accepts.{commit_place}
+use Rattle.cat_core.proofs.Called.{step_done, step_fails, step_unchanged}
+
+-- a book has one entry more, of a call that is told so
+pub record IsAdded (before after : Book) (turn : Turn) (command : Command) (told : Told) : Type 0 where
+  pub book : after ≡ with_entry before after.state (entry_at before turn command (head_told told.reply))
+  pub place : after.state.place ≡ before.state.place + 1
+  pub told_place : told.place ≡ before.state.place + 1
+
+abbrev called : Book → Turn → Command → Called
+called book turn command = call_on sha256 turn.caller book command turn.moment
+
+-- the draft number that the turn says
+number_is : (book : Book) (turn : Turn) (planned : Result Outcome Failure) (command : Command) → IsPlannedFor book turn planned command → turn.draft ≡ book.draft + 1
+number_is book turn planned command for = ap (λ (t : Turn). t.draft) for.turn_is
+
+-- its step refuses, or memory ran out
+pub planned_fails : (book after : Book) (turn : Turn) (planned : Result Outcome Failure) (command : Command) (failure : Failure) → IsPlannedFor book turn planned command → after ≡ taking book turn.draft → Fails failure (drafted_step book command turn.moment)
+    → Makes (called book turn command) book after (Err failure)
+planned_fails book after turn planned command failure for is fails =
+    step_fails turn.caller book after command turn.moment book.draft failure for.drafted for.plain refl (is ∙ ap (λ (k : ℕ). taking book k) (number_is book turn planned command for)) fails
+
+-- its step changes nothing
+pub planned_stays : (book after : Book) (turn : Turn) (planned : Result Outcome Failure) (command : Command) (told : Told) → IsPlannedFor book turn planned command → after ≡ taking book turn.draft → drafted_step book command turn.moment ≡ Ok (book.state, told.reply) → told.place ≡ book.state.place
+    → Makes (called book turn command) book after (Ok told)
+planned_stays book after turn planned command told for is step place =
+    step_unchanged turn.caller book after command turn.moment book.draft told for.drafted step refl (is ∙ ap (λ (k : ℕ). taking book k) (number_is book turn planned command for)) place
+
+-- its step adds what was planned
+pub planned_adds : (book before after : Book) (turn : Turn) (planned : Result Outcome Failure) (command logged : Command) (told : Told) → IsPlannedFor book turn planned command → before ≡ taking book turn.draft → logged ≡ logged_command sha256 (book.draft + 1) command
+    → drafted_step book command turn.moment ≡ Ok (after.state, told.reply) → IsAdded before after turn logged told → Makes (called book turn command) book after (Ok told)
+planned_adds book before after turn planned command logged told for is log step added =
+    let own : IsAdded (taking book turn.draft) after turn logged told = subst (λ (b : Book). IsAdded b after turn logged told) is added in
+    step_done turn.caller book after command logged turn.moment turn (head_told told.reply) told for.drafted step own.place for.turn_is log (sym (for.head told.reply)) own.book own.told_place
+
+-- ---- its place
+
+pub planned_place : (moment : ℕ) (state : State) (head : Hash) (planned : List merges.Planned) (made : Hash × State) → with_planned sha256 moment state head planned ≡ Ok made → made.1.place ≡ state.place
+planned_place moment state head [] made e = let is : (head, state) ≡ made = cc in sym (ap (λ (x : Hash × State). x.1.place) is)
+planned_place moment state head (p ∷ planned) made e =
+    let commit = planned_commit state.commits head moment p in
+    passed_by (with_commit sha256 state commit) (λ more. with_planned sha256 moment more (commit_hash sha256 commit) planned) made (made.1.place ≡ state.place)
+    (λ more first rest. planned_place moment more (commit_hash sha256 commit) planned made rest ∙ commit_place state more commit first) e
+
+-- ---- no contents are gone
+
+pub unexpired_tried : (moment : ℕ) (state : State) (a : Adding) → IsUnexpired (step_of moment state (Tried a))
+unexpired_tried moment state a = unexpired_bind (added_by moment state a) _ (unexpired_with moment state a.merged.target.head _) (λ x. refl)
+
+pub unexpired_made : (moment : ℕ) (state : State) (a : Adding) → IsUnexpired (step_adding moment state a)
+unexpired_made moment state a = unexpired_bind (added_by moment state a) _ (unexpired_with moment state a.merged.target.head _) (λ x. refl)
+
+-- ---- what was planned
+
+-- what may be made, where the draft number is taken
+pub tried_may : (book before : Book) (draft : ℕ) (planned : Result Outcome Failure) (a : Adding) → IfOk planned (MayBeMade book.state) → planned ≡ Ok (Tried a) → before ≡ taking book draft → MayFollow before.state a.merged.target.head a.planned.items
+tried_may book before draft planned a may e is = subst (λ (b : Book). MayFollow b.state a.merged.target.head a.planned.items) (sym is) (subst (λ (p : Result Outcome Failure). IfOk p (MayBeMade book.state)) e may)
+
+pub made_may : (book before : Book) (draft : ℕ) (planned : Result Outcome Failure) (a : Adding) (logged : Command) → IfOk planned (MayBeMade book.state) → planned ≡ Ok (Made a logged) → before ≡ taking book draft → MayFollow before.state a.merged.target.head a.planned.items
+made_may book before draft planned a logged may e is = subst (λ (b : Book). MayFollow b.state a.merged.target.head a.planned.items) (sym is) (subst (λ (p : Result Outcome Failure). IfOk p (MayBeMade book.state)) e may)
+
+pub made_place : (book before : Book) (draft : ℕ) (planned : Result Outcome Failure) (outcome : Outcome) → OnOk planned (book.state.place < 4294967295) → planned ≡ Ok outcome → before ≡ taking book draft → before.state.place < 4294967295
+made_place book before draft planned outcome place e is = subst (λ (b : Book). b.state.place < 4294967295) (sym is) (subst (λ (p : Result Outcome Failure). OnOk p (book.state.place < 4294967295)) e place)
+
+-- the step comes to what was planned
+comes_to : (book : Book) (turn : Turn) (planned is : Result Outcome Failure) (command : Command) → IsPlannedFor book turn planned command → planned ≡ is → ComesTo turn.moment book.state is (drafted_step book command turn.moment)
+comes_to book turn planned is command for e = subst (λ (p : Result Outcome Failure). ComesTo turn.moment book.state p (drafted_step book command turn.moment)) e for.comes
+
+-- nothing was
+pub none_planned : (book after : Book) (turn : Turn) (planned : Result Outcome Failure) (command : Command) (failure : Failure) → IsPlannedFor book turn planned command → planned ≡ Err failure → after ≡ taking book turn.draft → Makes (called book turn command) book after (Err failure)
+none_planned book after turn planned command failure for e is = planned_fails book after turn planned command failure for is (comes_to book turn planned (Err failure) command for e)
+
+-- a reply was
+pub replied_planned : (book after : Book) (turn : Turn) (planned : Result Outcome Failure) (command : Command) (merged : Merged) (told : Told) → IsPlannedFor book turn planned command → planned ≡ Ok (Replied merged) → after ≡ taking book turn.draft → told ≡ record { place = after.state.place; reply = replies.Merged merged }
+    → Makes (called book turn command) book after (Ok told)
+replied_planned book after turn planned command merged told for e is t =
+    planned_stays book after turn planned command told for is (comes_to book turn planned (Ok (Replied merged)) command for e ∙ ap (λ (x : Told). Ok (book.state, x.reply)) (sym t)) (ap (λ (x : Told). x.place) t ∙ ap (λ (b : Book). b.state.place) is)
+
+-- a state that only takes a draft number
+state_stays : (book before : Book) (draft : ℕ) → before ≡ taking book draft → before.state ≡ book.state
+state_stays book before draft is = ap (λ (b : Book). b.state) is
+
+-- commits to be tried were
+pub tried_planned : (book before after : Book) (turn : Turn) (planned : Result Outcome Failure) (command : Command) (a : Adding) (result : Result Told Failure) → IsPlannedFor book turn planned command → planned ≡ Ok (Tried a) → before ≡ taking book turn.draft
+    → GivesAs (λ told. (before.state, told.reply)) result (step_of turn.moment before.state (Tried a)) → IfOk result (λ told. told.place ≡ before.state.place) → after ≡ before → Makes (called book turn command) book after result
+tried_planned book before after turn planned command a (Ok told) for e is gives place stays =
+    let same = state_stays book before turn.draft is in
+    planned_stays book after turn planned command told for (stays ∙ is) (comes_to book turn planned (Ok (Tried a)) command for e ∙ subst (λ (s : State). step_of turn.moment s (Tried a) ≡ Ok (s, told.reply)) same gives) (place ∙ ap (λ (s : State). s.place) same)
+tried_planned book before after turn planned command a (Err failure) for e is gives place stays =
+    let same = state_stays book before turn.draft is in
+    planned_fails book after turn planned command failure for (stays ∙ is) (subst (Fails failure) (sym (comes_to book turn planned (Ok (Tried a)) command for e)) (subst (λ (s : State). Fails failure (step_of turn.moment s (Tried a))) same gives))
+
+-- commits to be made were
+pub made_planned : (book before after : Book) (turn : Turn) (planned : Result Outcome Failure) (command logged : Command) (a : Adding) (result : Result Told Failure) → IsPlannedFor book turn planned command → planned ≡ Ok (Made a logged) → before ≡ taking book turn.draft
+    → GivesAs (λ told. (after.state, told.reply)) result (step_adding turn.moment before.state a) → IfOk result (λ told. after ≡ with_entry before after.state (entry_at before turn logged (head_told told.reply))) → OnOk result (after.state.place ≡ before.state.place + 1)
+    → IfOk result (λ told. told.place ≡ before.state.place + 1) → OnErr result (after ≡ before) → Makes (called book turn command) book after result
+made_planned book before after turn planned command logged a (Ok told) for e is gives entry place told_place stays =
+    let same = state_stays book before turn.draft is in
+    let log = subst (λ (p : Result Outcome Failure). IfOk p (IsLoggedAs (logged_command sha256 (book.draft + 1) command))) e for.logged in
+    planned_adds book before after turn planned command logged told for is log (comes_to book turn planned (Ok (Made a logged)) command for e ∙ subst (λ (s : State). step_adding turn.moment s a ≡ Ok (after.state, told.reply)) same gives) (record { book = entry; place = place; told_place = told_place })
+made_planned book before after turn planned command logged a (Err failure) for e is gives entry place told_place stays =
+    let same = state_stays book before turn.draft is in
+    planned_fails book after turn planned command failure for (stays ∙ is) (subst (Fails failure) (sym (comes_to book turn planned (Ok (Made a logged)) command for e)) (subst (λ (s : State). Fails failure (step_adding turn.moment s a)) same gives))
+
+-- no contents are gone
+pub tried_there : (moment : ℕ) (state : State) (a : Adding) (result : Result Told Failure) → GivesAs (λ told. (state, told.reply)) result (step_of moment state (Tried a)) → IfErr result (λ failure. fails_expired failure ≡ false)
+tried_there moment state a (Ok told) gives = tt
+tried_there moment state a (Err failure) gives = unexpired_fails failure (step_of moment state (Tried a)) (unexpired_tried moment state a) gives
+
+pub made_there : (moment : ℕ) (state after : State) (a : Adding) (result : Result Told Failure) → GivesAs (λ told. (after, told.reply)) result (step_adding moment state a) → IfErr result (λ failure. fails_expired failure ≡ false)
+made_there moment state after a (Ok told) gives = tt
+made_there moment state after a (Err failure) gives = unexpired_fails failure (step_adding moment state a) (unexpired_made moment state a) gives

@@ -1,0 +1,45 @@
+-- Calls in their drafts, and what is planned for them.
+use Rattle.std.specs.Prelude.{◌≡◌, ℕ, ◌+◌, Result, Ok, true, IfOk}
+use Rattle.sha2.specs.Sha256.{sha256}
+use Rattle.cat_model.specs.declared.command.Command.{Command}
+use Rattle.cat_model.specs.declared.reply.Reply.{Reply}
+use Rattle.cat_model.specs.declared.reply.Reply.TheVariants as replies
+use Rattle.cat_model.specs.Book.{Book}
+use Rattle.cat_model.specs.Calls.{needs_draft}
+use Rattle.cat_model.specs.Refusing.{◌>>=◌, Outcome}
+use Rattle.cat_model.specs.State.{State}
+use Rattle.cat_model.specs.Step.{head_told, head_left, logged_command, opening, opens_draft, step}
+use Rattle.cat_state.specs.declared.failure.Failure.{Failure}
+use Rattle.cat_state.specs.Adding.{moved_state}
+use Rattle.cat_state.specs.PlainLaws.{IsPlain}
+use Rattle.cat_plans.specs.declared.outcome.Adding.{Adding}
+use Rattle.cat_plans.specs.declared.outcome.Outcome as outcome
+use Rattle.cat_plans.specs.Outcomes.{ComesTo, IsLoggedAs, added_by, target_at}
+use Rattle.cat_core.specs.declared.logging.Turn.{Turn}
+
+-- the call opens a draft, and nothing refuses it before that
+pub record IsDrafted (book : Book) (command : Command) : Type 0 where
+  pub opens : opens_draft command ≡ true
+  pub passes : opening sha256 book.state command ≡ Ok tt
+  pub left : needs_draft book.state book.draft true ≡ Ok tt
+
+-- its step on a book
+abbrev pub drafted_step : Book → Command → ℕ → Outcome
+drafted_step book command moment = step sha256 book.state command (record { draft = book.draft + 1; opened = book.state.place; moment = moment })
+
+-- who calls, the draft number that the call takes, and when
+abbrev pub drafted_turn : ℕ → Book → ℕ → Turn
+drafted_turn caller book moment = record { caller = caller; draft = book.draft + 1; moment = moment }
+
+-- what was planned in the turn's draft is what the call comes to, and is logged as the call; the log keeps the head of its reply
+pub record IsPlannedFor (book : Book) (turn : Turn) (planned : Result outcome.Outcome Failure) (command : Command) : Type 0 where
+  pub turn_is : turn ≡ drafted_turn turn.caller book turn.moment
+  pub drafted : IsDrafted book command
+  pub plain : IsPlain (drafted_step book command turn.moment)
+  pub comes : ComesTo turn.moment book.state planned (drafted_step book command turn.moment)
+  pub logged : IfOk planned (IsLoggedAs (logged_command sha256 (book.draft + 1) command))
+  pub head : (reply : Reply) → head_left command reply ≡ head_told reply
+
+-- the step that adds what was planned, and moves the branch to the last commit
+abbrev pub step_adding : ℕ → State → Adding → Outcome
+step_adding moment state a = added_by moment state a >>= λ made. Ok (moved_state made.1 (target_at a.merged made.0), replies.Merged (record a.merged { target = target_at a.merged made.0 }))

@@ -1,0 +1,142 @@
+//! Commits of plans, tried or made.
+
+ghost use Rattle.std.specs.Prelude.{◌≡◌, ◌<◌, ◌+◌, false, IfErr, IfOk, OnErr, OnOk};
+ghost use Rattle.std.specs.Vec.{vec_len, vec_capacity};
+ghost use Rattle.sha2.specs.Sha256.{sha256};
+ghost use Rattle.cat_model.specs.Book.{call_on};
+ghost use Rattle.cat_model.specs.Step.{head_told};
+ghost use Rattle.cat_model.specs.declared.command.Command.{Command as Call};
+ghost use Rattle.cat_model.specs.declared.reply.Reply.TheVariants as replies;
+ghost use Rattle.cat_state.specs.Adding.{IsAbove};
+ghost use Rattle.cat_state.specs.Giving.{GivesAs};
+ghost use Rattle.cat_plans.specs.Expiring.{fails_expired};
+ghost use Rattle.cat_plans.specs.Outcomes.{MayBeMade, MayFollow, step_of};
+ghost use Rattle.cat_plans.specs.declared.outcome.Outcome.TheVariants as outcomes;
+ghost use Rattle.cat_core.specs.Drafting.{IsPlannedFor, step_adding};
+ghost use Rattle.cat_core.specs.Making.{Makes, entry_at, with_entry};
+
+use crate::logging::{Turn, entry, push_entry, reserve_entry};
+use crate::store::Store;
+use cat_model::command::Command;
+use cat_model::log_entry::LogEntry;
+use cat_model::moment::Moment;
+use cat_model::reply::{Merged, Reply, Told};
+use cat_plans::outcome::{Adding, Outcome};
+use cat_state::catalogue::Catalogue;
+use cat_state::failure::Failure;
+use std::alloc::Global;
+
+/// Takes memory for an entry, adds the commits of plans and moves the branch to the last; or leaves
+/// the catalogue as it is. The reply tells the branch as it is left.
+fn add_commits(
+    catalogue: &mut Catalogue,
+    log: &mut Vec<LogEntry>,
+    alloc: Global,
+    moment: Moment,
+    adding: Adding,
+) -> Result<Merged, Failure>
+    requires place { catalogue.old.place < 4294967295 }
+    requires may { MayFollow catalogue.old adding.merged.target.head adding.planned.items }
+    ensures step { GivesAs (λ merged. (catalogue.new, replies.Merged merged)) result (step_adding moment catalogue.old adding) }
+    ensures place { OnOk result (catalogue.new.place ≡ catalogue.old.place + 1) }
+    ensures stays { OnErr result (catalogue.new ≡ catalogue.old) }
+    ensures later { IsAbove catalogue.old.commits catalogue.new.commits }
+    ensures same { log.new.items ≡ log.old.items }
+    ensures room { OnOk result (vec_len log.new < vec_capacity log.new) }
+{
+    reserve_entry(log)?;
+    let Adding {
+        planned,
+        mut merged,
+    } = adding;
+    let head = catalogue.add_planned(alloc, moment, &merged.target.head, planned)?;
+    merged.target.head = head;
+    catalogue.move_to(&merged.target);
+    Ok(merged)
+}
+
+impl Store {
+    /// A reply at the store's place.
+    fn told(&self, merged: Merged) -> Told
+        ensures { result ≡ record { place = self.now.state.place; reply = replies.Merged merged } }
+    {
+        Told {
+            place: self.place(),
+            reply: Reply::Merged(merged),
+        }
+    }
+
+    /// Tries the commits of plans, and tells the reply.
+    fn try_adding(&mut self, alloc: Global, moment: Moment, adding: Adding) -> Result<Told, Failure>
+        requires may { MayFollow self.old.state adding.merged.target.head adding.planned.items }
+        ensures step { GivesAs (λ told. (self.old.state, told.reply)) result (step_of moment self.old.state (outcomes.Tried adding)) }
+        ensures place { IfOk result (λ told. told.place ≡ self.old.state.place) }
+        ensures stays { self.new ≡ self.old }
+    {
+        let Adding { planned, merged } = adding;
+        self.catalogue
+            .try_planned(alloc, moment, &merged.target.head, planned)?;
+        Ok(self.told(merged))
+    }
+
+    /// Adds the commits of plans, moves the branch to the last, and adds the entry of the call; or
+    /// nothing.
+    fn add(
+        &mut self,
+        alloc: Global,
+        turn: Turn,
+        adding: Adding,
+        command: Command,
+    ) -> Result<Told, Failure>
+        requires place { self.old.state.place < 4294967295 }
+        requires may { MayFollow self.old.state adding.merged.target.head adding.planned.items }
+        ensures step { GivesAs (λ told. (self.new.state, told.reply)) result (step_adding turn.moment self.old.state adding) }
+        ensures book { IfOk result (λ told. self.new ≡ with_entry self.old self.new.state (entry_at self.old turn command (head_told told.reply))) }
+        ensures place { OnOk result (self.new.state.place ≡ self.old.state.place + 1) }
+        ensures told { IfOk result (λ told. told.place ≡ self.old.state.place + 1) }
+        ensures stays { OnErr result (self.new ≡ self.old) }
+        ensures later { IsAbove self.old.state.commits self.new.state.commits }
+    {
+        let place = self.catalogue.place() + 1;
+        match add_commits(
+            &mut self.catalogue,
+            &mut self.log,
+            alloc,
+            turn.moment,
+            adding,
+        ) {
+            Ok(merged) => {
+                let head = merged.target.head;
+                push_entry(&mut self.log, entry(place, turn, command, Some(head)));
+                Ok(Told {
+                    place,
+                    reply: Reply::Merged(merged),
+                })
+            }
+            Err(failure) => Err(failure),
+        }
+    }
+
+    /// Makes what was planned in a draft, tries it, or tells its reply. The draft number is taken in
+    /// each case.
+    pub(crate) fn make_planned(
+        &mut self,
+        alloc: Global,
+        turn: Turn,
+        planned: Result<Outcome, Failure>,
+    ) -> Result<Told, Failure>
+        requires may { IfOk planned (MayBeMade self.old.state) }
+        requires place { OnOk planned (self.old.state.place < 4294967295) }
+        ensures call { (call : Call) → IsPlannedFor self.old turn planned call → Makes (call_on sha256 turn.caller self.old call turn.moment) self.old self.new result }
+        ensures there { IfErr planned (λ failure. fails_expired failure ≡ false) → IfErr result (λ failure. fails_expired failure ≡ false) }
+        ensures later { IsAbove self.old.state.commits self.new.state.commits }
+    {
+        self.take(turn.draft);
+        match planned {
+            Err(failure) => Err(failure),
+            Ok(Outcome::Replied(merged)) => Ok(self.told(merged)),
+            Ok(Outcome::Tried(adding)) => self.try_adding(alloc, turn.moment, adding),
+            Ok(Outcome::Made(adding, command)) => self.add(alloc, turn, adding, command),
+        }
+    }
+}

@@ -1,0 +1,4 @@
+pub mod Drafts
+pub mod Expiring
+pub mod ExpiringLaws
+pub mod Outcomes

@@ -1,0 +1,105 @@
+//! Merges of a commit into a branch.
+
+ghost use Rattle.std.specs.Prelude.{ℕ, ◌≡◌, ◌<◌, ◌∷◌, [], Ok, IfErr, IfOk, OnOk, false};
+ghost use Rattle.sha2.specs.Sha256.{sha256};
+ghost use Rattle.cat_model.specs.Base.{base};
+ghost use Rattle.cat_model.specs.Chain.{entries};
+ghost use Rattle.cat_model.specs.Merges.{merge_opening, step_merge};
+ghost use Rattle.cat_model.specs.Plan as plans;
+ghost use Rattle.cat_merge.specs.Planned.{planned};
+ghost use Rattle.cat_plans.specs.Drafts.{AreKnown, ArePlans, IsMergeDraft, logged_merge};
+ghost use Rattle.cat_plans.specs.Expiring.{fails_expired};
+ghost use Rattle.cat_plans.specs.Outcomes.{ComesTo, IsLoggedAs, MayBeMade};
+
+use crate::drafts::{Asked, Draft};
+use crate::logging::logged_merge;
+use crate::outcome::Outcome;
+use crate::settling::settle;
+use cat_codes::fault::NoMemory;
+use cat_merge::plan::{Plan, Planned, plan_merge};
+use cat_model::command::Merge;
+use cat_model::merging::Modes;
+use cat_model::reference::Reference;
+use cat_names::hash::Hash;
+use cat_state::catalogue::Catalogue;
+use cat_state::copies::copy_meta;
+use cat_state::failure::Failure;
+use std::alloc::Global;
+
+/// The plan of a merge of a commit into another, from their base.
+fn plan_from(
+    alloc: Global,
+    catalogue: &Catalogue,
+    modes: &Modes,
+    ancestor: &Hash,
+    source: &Hash,
+    head: &Hash,
+) -> Result<Plan, NoMemory>
+    ensures exact { IfOk result (λ p. planned p ≡ plans.plan (entries catalogue.now.commits ancestor.now) (entries catalogue.now.commits source.now) (entries catalogue.now.commits head.now) modes.now) }
+    ensures plans { IfOk result (λ p. ArePlans catalogue.now head.now (p ∷ [])) }
+{
+    let before = catalogue.map_at(ancestor)?;
+    let merged = catalogue.map_at(source)?;
+    let target = catalogue.map_at(head)?;
+    catalogue.map_is_well_formed(head);
+    catalogue.contents_are_held();
+    let plan = plan_merge(alloc, &before, &merged, &target, modes)?;
+    Ok(plan)
+}
+
+/// What a merge of a commit into a branch plans, from their base.
+fn draft(
+    alloc: Global,
+    catalogue: &Catalogue,
+    merge: &Merge,
+    branch: &Reference,
+    source: &Hash,
+) -> Result<Draft, NoMemory>
+    requires known { AreKnown catalogue.now branch.now.head source.now }
+    ensures { IfOk result (λ draft. IsMergeDraft catalogue.now merge.now branch.now source.now draft) }
+{
+    let ancestor = catalogue.base(alloc, source, &branch.head)?;
+    let plan = plan_from(
+        alloc,
+        catalogue,
+        &merge.modes,
+        &ancestor,
+        source,
+        &branch.head,
+    )?;
+    let mut planned = Vec::new(alloc);
+    planned.push(Planned {
+        merge_parent: Some(*source),
+        meta: copy_meta(&merge.meta)?,
+        plan,
+    })?;
+    Ok(Draft {
+        ancestor: Some(ancestor),
+        planned,
+        asked: Asked {
+            dry_run: merge.dry_run,
+            conflicts_as_result: merge.conflicts_as_result,
+        },
+        command: logged_merge(merge)?,
+    })
+}
+
+/// What a merge of a commit into a branch comes to.
+pub fn merge_outcome(
+    alloc: Global,
+    catalogue: &Catalogue,
+    merge: &Merge,
+    branch: &Reference,
+    source: &Hash,
+) -> Result<Outcome, Failure>
+    requires opened { merge_opening sha256 catalogue.now merge.now ≡ Ok (branch.now, source.now) }
+    requires known { AreKnown catalogue.now branch.now.head source.now }
+    ensures step { (moment : ℕ) → ComesTo moment catalogue.now result (step_merge sha256 catalogue.now merge.now catalogue.now.place moment) }
+    ensures made { IfOk result (MayBeMade catalogue.now) }
+    ensures logged { IfOk result (IsLoggedAs (logged_merge merge.now)) }
+    ensures there { IfErr result (λ failure. fails_expired failure ≡ false) }
+    ensures place { OnOk result (catalogue.now.place < 4294967295) }
+{
+    let draft = draft(alloc, catalogue, merge, branch, source)?;
+    settle(alloc, catalogue, branch, draft)
+}
