@@ -1,5 +1,5 @@
 -- Reading keys one after the other, as a loop does.
-use Rattle.std.proofs.Common.{◌≡◌, ℕ, List, [], ◌∷◌, ◌++◌, Option, Some, None, refl, sym, ap, append_assoc}
+use Rattle.std.proofs.Common.{◌≡◌, List, [], ◌∷◌, ◌++◌, Option, Some, None, refl, sym, ap, append_assoc}
 use Rattle.cat_names.specs.Fields.{Key}
 use Rattle.cat_json.specs.Reading.{◌>>=◌}
 

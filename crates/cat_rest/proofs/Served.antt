@@ -7,8 +7,10 @@ use Rattle.sha2.specs.Sha256.{sha256}
 use Rattle.cat_commit.specs.Metas.{meta_as}
 use Rattle.cat_http.specs.Fields.{is_encoded}
 use Rattle.cat_http.specs.Message.{Message}
+use Rattle.cat_json.specs.Names.{hash_as}
 use Rattle.cat_json.specs.Reading.{list_as, json_of, body_as}
 use Rattle.cat_json.specs.Reading as json
+use Rattle.cat_names.specs.declared.hash.Hash.{Hash}
 use Rattle.cat_model.specs.Commits.{puts}
 use Rattle.cat_model.specs.WellMade.{is_made, may_be_asked, have_contents, points, is_well_made}
 use Rattle.cat_model.specs.declared.ask.Ask.{Ask}
@@ -28,20 +30,22 @@ use Rattle.cat_routes.specs.Parts.{escaped}
 use Rattle.cat_routes.specs.Table.{Match, found_in}
 use Rattle.cat_routes.specs.declared.routes.Route.TheVariants as routes
 use Rattle.cat_rest.specs.Bodies.{ops_of, contents_of, commit_as}
-use Rattle.cat_rest.specs.Changes.{create, assign, delete, commit, create_at, assign_at, delete_at, commit_at, merge_at}
+use Rattle.cat_rest.specs.Changes.{create, assign, delete, commit, create_at, assign_at, delete_at, commit_at, merge_at, transplant_at}
 use Rattle.cat_rest.specs.Faults.{◌>>!◌, or_bad, Answers}
-use Rattle.cat_rest.specs.MergeBodies.{merge_as, merge}
+use Rattle.cat_rest.specs.MergeBodies.{manner_as, merge_as, merge}
 use Rattle.cat_rest.specs.Operations.{op_as}
 use Rattle.cat_rest.specs.Paths.{name_of, reference_at, pointer_at, key_at}
 use Rattle.cat_rest.specs.Queries.{required, optional, kind_of, references_asked, entries_asked, history_asked, contents_asked}
 use Rattle.cat_rest.specs.Reads.{requested_as}
 use Rattle.cat_rest.specs.Served.{IsServed, AreServed}
-use Rattle.cat_rest.specs.Sources.{source_as}
+use Rattle.cat_rest.specs.Sources.{name_as, source_as}
+use Rattle.cat_rest.specs.TransplantBodies.{may_be_moved, hashes_as, transplant_as, transplant}
 use Rattle.cat_rest.specs.Wanted.{methods_of, allows, path_of, query_of, trees_by, tree_by, contents_by, read_at, by_route, wanted}
 use Rattle.cat_rest.specs.declared.commit.CommitBody.{CommitBody}
 use Rattle.cat_rest.specs.declared.merge.MergeBody.{MergeBody}
 use Rattle.cat_rest.specs.declared.path.PathReference.{PathReference}
 use Rattle.cat_rest.specs.declared.source.Source.{Source}
+use Rattle.cat_rest.specs.declared.transplant.TransplantBody.{TransplantBody}
 use Rattle.cat_rest.proofs.Options.{step, picked, chosen, joined}
 use Rattle.cat_rest.proofs.Points.{source_points}
 use Rattle.cat_rest.proofs.Ready.{is_ready, list_ready, paired_again, puts_have, all_made}
@@ -106,6 +110,37 @@ merge_is_well : (at : PathReference) (b : MergeBody) → is_well_made sha256 (co
 unfolding is_well_made
 merge_is_well at b = refl
 
+-- ---- so are the commits of a transplant
+
+abbrev are_few : Option (List Hash) → Bool
+are_few None = true
+are_few (Some hashes) = may_be_moved hashes
+
+hashes_are_few : (d : Data) (hashes : List Hash) → hashes_as d ≡ Some hashes → may_be_moved hashes ≡ true
+hashes_are_few d hashes e =
+    let l = step (list_as hash_as d) _ hashes e in
+    let p = picked (may_be_moved l.0) _ hashes l.2 in
+    sym (ap are_few p.1) ∙ p.0
+
+abbrev is_few : PathReference → Option TransplantBody → Bool
+is_few at None = true
+is_few at (Some b) = is_well_made sha256 (commands.Transplant (transplant at b))
+
+transplant_is_well : (at : PathReference) (d : Data) (b : TransplantBody) → transplant_as d ≡ Some b → is_well_made sha256 (commands.Transplant (transplant at b)) ≡ true
+unfolding transplant_as is_well_made
+transplant_is_well at d b e =
+    let n = step (json.required name_as (codes "fromRefName") d) _ b e in
+    let h = step (json.required hashes_as (codes "hashesToTransplant") d) _ b n.2 in
+    let m = step (manner_as d) _ b h.2 in
+    let v = step (get (codes "hashesToTransplant") d) hashes_as h.0 h.1 in
+    sym (ap (is_few at) m.2) ∙ hashes_are_few v.0 h.0 v.2
+
+moved_is_well : (at : PathReference) (body : List ℕ) (b : TransplantBody) → or_bad BadBody (body_as transplant_as body) ≡ Ok b → IsTrue (is_well_made sha256 (commands.Transplant (transplant at b)))
+moved_is_well at body b e =
+    let o = read_well (body_as transplant_as body) b e in
+    let d = step (json_of body) transplant_as b o in
+    transplant_is_well at d.0 b d.2
+
 -- ---- so each change is
 
 through : {A : Type 0} (o : Result A Refusal) (f : A → Result Wanted Refusal) → ((x : A) → o ≡ Ok x → AreServed (f x)) → AreServed (o >>! f)
@@ -138,6 +173,11 @@ merge_served : (part : Option (List ℕ)) (body : List ℕ) → AreServed (merge
 merge_served part body =
     through (or_bad BadPath (reference_at part)) _ (λ at e.
     through (or_bad BadBody (body_as merge_as body)) _ (λ asked e. merge_is_well at asked))
+
+transplant_served : (part : Option (List ℕ)) (body : List ℕ) → AreServed (transplant_at part body)
+transplant_served part body =
+    through (or_bad BadPath (reference_at part)) _ (λ at e.
+    through (or_bad BadBody (body_as transplant_as body)) _ (λ asked e. moved_is_well at body asked e))
 
 -- ---- and each read
 
@@ -175,6 +215,7 @@ read_served (routes.Contents, parts) r = contents_served parts.0 r
 read_served (routes.Content, parts) r = pointed_served parts.0 BadPath (λ at. key_at parts.1) (λ at key. asks.Content (record { at = at; key = key }))
 read_served (routes.Commit, parts) r = commit_served parts.0 r.body
 read_served (routes.Merge, parts) r = merge_served parts.0 r.body
+read_served (routes.Transplant, parts) r = transplant_served parts.0 r.body
 
 route_served : (found : Option Match) (r : Message) → AreServed (by_route found r)
 route_served None r = tt

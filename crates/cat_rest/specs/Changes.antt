@@ -17,6 +17,7 @@ use Rattle.cat_rest.specs.MergeBodies.{merge_as, merge}
 use Rattle.cat_rest.specs.Paths.{name_of, reference_at}
 use Rattle.cat_rest.specs.Queries.{required, optional, kind_of}
 use Rattle.cat_rest.specs.Sources.{source_as}
+use Rattle.cat_rest.specs.TransplantBodies.{transplant_as, transplant}
 use Rattle.cat_rest.specs.declared.commit.CommitBody.{CommitBody}
 use Rattle.cat_rest.specs.declared.path.PathReference.{PathReference}
 use Rattle.cat_rest.specs.declared.source.Source.{Source}
@@ -69,3 +70,10 @@ merge_at part body =
     or_bad BadPath (reference_at part) >>! λ at.
     or_bad BadBody (body_as merge_as body) >>! λ asked.
     Ok (Change (commands.Merge (merge at asked)))
+
+-- commits of a reference that are applied to a branch
+abbrev pub transplant_at : Option (List ℕ) → List ℕ → Result Wanted Refusal
+transplant_at part body =
+    or_bad BadPath (reference_at part) >>! λ at.
+    or_bad BadBody (body_as transplant_as body) >>! λ asked.
+    Ok (Change (commands.Transplant (transplant at asked)))

@@ -9,4 +9,5 @@ pub mod Queries
 pub mod Reads
 pub mod Served
 pub mod Sources
+pub mod TransplantBodies
 pub mod Wanted

@@ -10,6 +10,7 @@ use Rattle.cat_commit.specs.Metas.{given_meta_as, nothing_given, with_message}
 use Rattle.cat_commit.specs.declared.meta.GivenMeta.{GivenMeta}
 use Rattle.cat_rest.specs.Modes.{modes_as}
 use Rattle.cat_rest.specs.Sources.{name_as}
+use Rattle.cat_rest.specs.declared.merge.Manner.{Manner}
 use Rattle.cat_rest.specs.declared.merge.MergeBody.{MergeBody}
 use Rattle.cat_rest.specs.declared.path.PathReference.{PathReference}
 
@@ -24,16 +25,22 @@ given_as d =
 abbrev pub flag : List ℕ → Data → Option Bool
 flag name d = defaulted as_bool false name d
 
+-- how keys are treated, whether the call is only tried, and whether conflicts are a reply
+unfoldable pub manner_as : Data → Option Manner
+manner_as d =
+    modes_as d >>= λ modes.
+    flag (codes "dryRun") d >>= λ dry_run.
+    flag (codes "returnConflictAsResult") d >>= λ conflicts_as_result.
+    Some (record { modes = modes; dry_run = dry_run; conflicts_as_result = conflicts_as_result })
+
 -- what a merge request asks for, beside its branch
 unfoldable pub merge_as : Data → Option MergeBody
 merge_as d =
     required name_as (codes "fromRefName") d >>= λ from.
     required hash_as (codes "fromHash") d >>= λ from_hash.
     given_as d >>= λ given.
-    modes_as d >>= λ modes.
-    flag (codes "dryRun") d >>= λ dry_run.
-    flag (codes "returnConflictAsResult") d >>= λ conflicts_as_result.
-    Some (record { from = from; from_hash = from_hash; given = given; modes = modes; dry_run = dry_run; conflicts_as_result = conflicts_as_result })
+    manner_as d >>= λ manner.
+    Some (record { from = from; from_hash = from_hash; given = given; manner = manner })
 
 -- the message of a merge that was given none
 abbrev pub made_message : List ℕ → List ℕ → List ℕ
@@ -47,7 +54,7 @@ merge at body = record {
   from = body.from;
   from_hash = body.from_hash;
   meta = with_message (unwrap_or body.given.message (made_message body.from at.name)) body.given;
-  modes = body.modes;
-  dry_run = body.dry_run;
-  conflicts_as_result = body.conflicts_as_result;
+  modes = body.manner.modes;
+  dry_run = body.manner.dry_run;
+  conflicts_as_result = body.manner.conflicts_as_result;
 }

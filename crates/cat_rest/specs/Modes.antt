@@ -1,4 +1,4 @@
--- How a merge treats keys, in bodies.
+-- How a merge or a transplant treats keys, in bodies.
 use Rattle.std.specs.Prelude.{ℕ, List, [], ◌∷◌, Option, Some, None, codes, map, bytes_eq, if◌then◌else◌}
 use Rattle.std.specs.Ordering.{is_lt}
 use Rattle.serde_json.specs.Data.{Data}

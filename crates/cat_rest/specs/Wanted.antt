@@ -14,7 +14,7 @@ use Rattle.cat_routes.specs.Parts.{escaped}
 use Rattle.cat_routes.specs.Table.{Match, found_in}
 use Rattle.cat_routes.specs.declared.routes.Route.{Route}
 use Rattle.cat_routes.specs.declared.routes.Route.TheVariants as routes
-use Rattle.cat_rest.specs.Changes.{create_at, assign_at, delete_at, commit_at, merge_at}
+use Rattle.cat_rest.specs.Changes.{create_at, assign_at, delete_at, commit_at, merge_at, transplant_at}
 use Rattle.cat_rest.specs.Reads.{references_at, reference_at, entries_at, history_at, contents_at, requested_at, content_at}
 
 -- the methods of a route
@@ -28,6 +28,7 @@ methods_of routes.Contents = GetPost
 methods_of routes.Content = Get
 methods_of routes.Commit = Post
 methods_of routes.Merge = Post
+methods_of routes.Transplant = Post
 
 abbrev pub allows : Allowed → List ℕ → Bool
 allows Get method = bytes_eq method (codes "GET")
@@ -86,6 +87,7 @@ read_at (routes.Contents, parts) r = contents_by parts.0 r
 read_at (routes.Content, parts) r = content_at parts.0 parts.1
 read_at (routes.Commit, parts) r = commit_at parts.0 r.body
 read_at (routes.Merge, parts) r = merge_at parts.0 r.body
+read_at (routes.Transplant, parts) r = transplant_at parts.0 r.body
 
 -- the method comes first, then the encoding
 abbrev pub with_route : Match → Message → Result Wanted Refusal

@@ -1,7 +1,7 @@
 //! Requests that change.
 
 ghost use Rattle.std.specs.Prelude.{option_map};
-ghost use Rattle.cat_rest.specs.Changes.{create_at, assign_at, delete_at, commit_at, merge_at};
+ghost use Rattle.cat_rest.specs.Changes.{create_at, assign_at, delete_at, commit_at, merge_at, transplant_at};
 ghost use Rattle.cat_rest.specs.Faults.{Answers};
 
 use crate::commit::{CommitBody, CommitForm};
@@ -10,6 +10,7 @@ use crate::parameter::{optional, required};
 use crate::path::reference_at;
 use crate::refused::{read_body, refused};
 use crate::source::SourceForm;
+use crate::transplant::{TransplantForm, transplant};
 use cat_model::command::{Assign, Command, CommitRequest, Create, Delete};
 use cat_model::reference::Kind;
 use cat_model::refusal::{Refusal, Refused};
@@ -95,4 +96,17 @@ pub(crate) fn merge_at(alloc: Global, part: Option<&str>, body: &[u8]) -> Result
         Ok(merge) => Ok(Wanted::Change(Command::Merge(merge))),
         Err(_) => Err(refused(Refusal::NoMemory)),
     }
+}
+
+/// Commits of a reference that are applied to a branch.
+pub(crate) fn transplant_at(
+    alloc: Global,
+    part: Option<&str>,
+    body: &[u8],
+) -> Result<Wanted, Refused>
+    ensures { Answers result (transplant_at (option_map (λ s. s.now) part.entry) body.now) }
+{
+    let at = reference_at(alloc, part)?;
+    let asked = read_body::<TransplantForm>(alloc, body)?;
+    Ok(Wanted::Change(Command::Transplant(transplant(at, asked))))
 }

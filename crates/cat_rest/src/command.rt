@@ -6,7 +6,7 @@ ghost use Rattle.cat_rest.specs.Faults.{Answers};
 ghost use Rattle.cat_rest.specs.Served.{IsServed};
 ghost use Rattle.cat_rest.specs.Wanted.{methods_of, allows, query_start, path_of, query_of, trees_by, tree_by, contents_by, read_at, with_route, wanted};
 
-use crate::changes::{assign_at, commit_at, create_at, delete_at, merge_at};
+use crate::changes::{assign_at, commit_at, create_at, delete_at, merge_at, transplant_at};
 use crate::reads::{
     content_at, contents_at, entries_at, history_at, reference_at, references_at, requested_at,
 };
@@ -31,6 +31,7 @@ fn methods_of(route: Route) -> Allowed
         Route::Content => Allowed::Get,
         Route::Commit => Allowed::Post,
         Route::Merge => Allowed::Post,
+        Route::Transplant => Allowed::Post,
     }
 }
 
@@ -120,6 +121,7 @@ fn read_at(alloc: Global, found: Found<'_>, request: &Request<'_>) -> Result<Wan
         Route::Content => content_at(alloc, part, found.key),
         Route::Commit => commit_at(alloc, part, request.body()),
         Route::Merge => merge_at(alloc, part, request.body()),
+        Route::Transplant => transplant_at(alloc, part, request.body()),
     }
 }
 

@@ -14,6 +14,7 @@ mod query;
 mod reads;
 mod refused;
 mod source;
+mod transplant;
 
 pub use cat_replies::{refusal_to_json, status_of, to_json};
 pub use cat_routes::Routes;

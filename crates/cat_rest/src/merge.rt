@@ -3,7 +3,7 @@
 ghost use Rattle.std.specs.Prelude.{◌≡◌, IfOk};
 ghost use Rattle.serde_json.specs.View.{view};
 ghost use Rattle.cat_json.specs.Reading.{Gives};
-ghost use Rattle.cat_rest.specs.MergeBodies.{given_as, merge_as, made_message, merge};
+ghost use Rattle.cat_rest.specs.MergeBodies.{given_as, manner_as, merge_as, made_message, merge};
 
 use crate::modes::modes;
 use crate::path::PathReference;
@@ -20,6 +20,14 @@ use cat_names::ref_name::RefName;
 use serde_json::Value;
 use std::alloc::Global;
 
+/// How a merge or a transplant is asked for.
+#[derive(Debug, PartialEq, Eq, Drop)]
+pub struct Manner {
+    pub modes: Modes,
+    pub dry_run: bool,
+    pub conflicts_as_result: bool,
+}
+
 /// What a merge request asks for, beside its branch.
 #[derive(Debug, PartialEq, Eq, Drop)]
 pub struct MergeBody {
@@ -27,9 +35,7 @@ pub struct MergeBody {
     pub from_hash: Hash,
     /// Its message is that of the whole body where the meta has none.
     pub given: GivenMeta,
-    pub modes: Modes,
-    pub dry_run: bool,
-    pub conflicts_as_result: bool,
+    pub manner: Manner,
 }
 
 pub(crate) struct MergeForm;
@@ -47,6 +53,21 @@ fn given(alloc: Global, value: &Value) -> Result<GivenMeta, JsonFault>
     Ok(given)
 }
 
+/// How a body asks for a merge or a transplant.
+#[tactic(auto, unfolding(crate::specs::MergeBodies::manner_as))]
+pub(crate) fn manner_of(alloc: Global, value: &Value) -> Result<Manner, JsonFault>
+    ensures { Gives result (manner_as (view value.now)) }
+{
+    let modes = modes(alloc, value)?;
+    let dry_run = defaulted::<bool>(alloc, value, "dryRun", false)?;
+    let conflicts_as_result = defaulted::<bool>(alloc, value, "returnConflictAsResult", false)?;
+    Ok(Manner {
+        modes,
+        dry_run,
+        conflicts_as_result,
+    })
+}
+
 impl ReadForm for MergeForm {
     type Of = MergeBody;
 
@@ -57,16 +78,12 @@ impl ReadForm for MergeForm {
         let from = required::<NameForm>(alloc, value, "fromRefName")?;
         let from_hash = required::<Hash>(alloc, value, "fromHash")?;
         let given = given(alloc, value)?;
-        let modes = modes(alloc, value)?;
-        let dry_run = defaulted::<bool>(alloc, value, "dryRun", false)?;
-        let conflicts_as_result = defaulted::<bool>(alloc, value, "returnConflictAsResult", false)?;
+        let manner = manner_of(alloc, value)?;
         Ok(MergeBody {
             from,
             from_hash,
             given,
-            modes,
-            dry_run,
-            conflicts_as_result,
+            manner,
         })
     }
 }
@@ -96,8 +113,8 @@ pub(crate) fn merge(alloc: Global, at: PathReference, body: MergeBody) -> Result
         from: body.from,
         from_hash: body.from_hash,
         meta: given.with_message(message),
-        modes: body.modes,
-        dry_run: body.dry_run,
-        conflicts_as_result: body.conflicts_as_result,
+        modes: body.manner.modes,
+        dry_run: body.manner.dry_run,
+        conflicts_as_result: body.manner.conflicts_as_result,
     })
 }

@@ -1,4 +1,4 @@
-//! How a merge treats keys, in bodies.
+//! How a merge or a transplant treats keys, in bodies.
 
 ghost use Rattle.std.specs.Prelude.{◌≡◌};
 ghost use Rattle.serde_json.specs.View.{view};

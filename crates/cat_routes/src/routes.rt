@@ -30,6 +30,8 @@ pub enum Route {
     Commit,
     /// `/api/v2/trees/{reference}/history/merge`
     Merge,
+    /// `/api/v2/trees/{reference}/history/transplant`
+    Transplant,
 }
 
 /// The route of a path, and what its parameters took, still escaped.
@@ -118,6 +120,11 @@ impl Routes {
             &mut router,
             "/api/v2/trees/{reference}/history/merge",
             Route::Merge,
+        )?;
+        add(
+            &mut router,
+            "/api/v2/trees/{reference}/history/transplant",
+            Route::Transplant,
         )?;
         Ok(Routes { router })
     }
