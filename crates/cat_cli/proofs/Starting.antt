@@ -1,6 +1,7 @@
 -- From what a clock, a source and a sink tell to the first point of a session.
 use Rattle.std.proofs.Common.{◌≡◌, ℕ, ◌+◌, ◌∷◌, List, ◌++◌, take, Option, Some, None, Result, Ok, Err, refl, sym, ◌∙◌, ap, inl, inr, arith}
 use Rattle.sha2.specs.Sha256.{sha256}
+use Rattle.cat_io.specs.Causes.{Rose}
 use Rattle.cat_io.specs.Clocks.{from}
 use Rattle.cat_model.specs.declared.limits.Limits.{Limits}
 use Rattle.cat_model.specs.Book.{Book, first_book}

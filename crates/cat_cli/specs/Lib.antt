@@ -1,4 +1,3 @@
-pub mod Words
 pub mod Replies
 pub mod Sessions
 pub mod Answers

@@ -1,5 +1,5 @@
 -- What a run's status says.
-use Rattle.std.specs.Prelude.{ℕ, ◌≡◌, ◌⊎◌, List, ◌++◌, take, Option, Some, codes}
+use Rattle.std.specs.Prelude.{ℕ, ◌≡◌, ◌⊎◌, List, ◌++◌, take, Option, Some, Bool, true, false, codes}
 use Rattle.sha2.specs.Sha256.{sha256}
 use Rattle.cat_io.specs.Causes.{Rose}
 use Rattle.cat_model.specs.Limits.{program_limits}
@@ -51,6 +51,27 @@ SaysKnown ahead bytes held status after before now =
     (clock : Readings) (b w : List ℕ) → ahead ≡ Some clock → bytes ≡ Some b → held ≡ Some w
     → (h : List ℕ) × (after ≡ Some h) × Says clock b w status h before now
 
--- the words aren't the command's: the line for it was written
-abbrev pub TellsUsage : Option (List ℕ) → Option (List ℕ) → ℕ → ℕ → Type 0
-TellsUsage held after before now = (w : List ℕ) → held ≡ Some w → (h : List ℕ) × (after ≡ Some h) × IsTold usage_line w h before now
+-- a line was told, where the sink tells what it has
+abbrev pub TellsKnown : List ℕ → Option (List ℕ) → Option (List ℕ) → ℕ → ℕ → Type 0
+TellsKnown line held after before now = (w : List ℕ) → held ≡ Some w → (h : List ℕ) × (after ≡ Some h) × IsTold line w h before now
+
+-- what the sink holds after a run of `drill` whose line this is, by its status
+abbrev pub Drills : List ℕ → List ℕ → Status → List ℕ → ℕ → ℕ → Type 0
+Drills line written statuses.Done held before now = held ≡ written ++ line
+Drills line written statuses.Usage held before now = ⊥
+Drills line written statuses.NoMemory held before now = IsTold no_memory_line written held before now
+Drills line written statuses.ReadFault held before now = ⊥
+Drills line written statuses.WriteFault held before now = (n : ℕ) × (held ≡ written ++ take n line) × Rose before now
+Drills line written statuses.Cut held before now = ⊥
+
+-- the same where the sink tells what it has
+abbrev pub DrillsKnown : List ℕ → Option (List ℕ) → Status → Option (List ℕ) → ℕ → ℕ → Type 0
+DrillsKnown line held status after before now =
+    (w : List ℕ) → held ≡ Some w → (h : List ℕ) × (after ≡ Some h) × Drills line w status h before now
+
+-- how a drill may end
+abbrev pub ends_drill : Status → Bool
+ends_drill statuses.Done = true
+ends_drill statuses.NoMemory = true
+ends_drill statuses.WriteFault = true
+ends_drill _ = false

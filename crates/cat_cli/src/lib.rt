@@ -1,6 +1,7 @@
 //! The program. `run` does all that the program does, over disks, a source, a sink, a clock and a
 //! listener: with `script` it answers the requests of the source one after another, and what it
-//! writes is the rendered replies of the catalogue to the requests in the bytes that it reads.
+//! writes is the rendered replies of the catalogue to the requests in the bytes that it reads; with
+//! `drill` it writes the line of the catalogue that a seed makes.
 #![tactic(auto)]
 
 mod answer;
@@ -9,7 +10,6 @@ mod program;
 mod reply;
 mod session;
 mod status;
-mod words;
 
 pub use ending::Session;
 pub use program::run;

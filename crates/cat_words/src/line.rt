@@ -1,0 +1,92 @@
+//! The command line.
+
+ghost use Rattle.std.specs.Prelude.{◌≡◌, [], IfErr, IfOk, IsErrOf, map, false, true};
+ghost use Rattle.clap.specs.Words.{app_of, fault_of, kind_of, rule_of, shape_of, subcommand_of, subcommand_rows_of};
+ghost use Rattle.clap.specs.declared.builder.command.Command.TheViews.{out-Command};
+ghost use Rattle.cat_words.specs.Asked.{is_free};
+ghost use Rattle.cat_words.specs.Line.{bare_line, drill_shape, line, option_rule, script_shape, word_rule};
+
+use clap::error::ErrorKind;
+use clap::{Arg, ArgAction, ArgMatches, Command, Error};
+use std::alloc::{AllocError, Global};
+
+/// Why the words gave no command.
+#[derive(Clone, Copy, Debug, PartialEq, Eq, Drop)]
+pub enum WordsFault {
+    /// They aren't the command line's, or a number among them has no reading.
+    Usage,
+    NoMemory,
+}
+
+fn word<'a>(alloc: Global, id: &'a str) -> Arg<'a>
+    ensures rule { rule_of result ≡ word_rule id.entry.now }
+    ensures local { result.global ≡ false }
+{
+    Arg::new(alloc, id).required(true).action(ArgAction::Set)
+}
+
+fn option<'a>(alloc: Global, id: &'a str) -> Arg<'a>
+    ensures rule { rule_of result ≡ option_rule id.entry.now }
+    ensures local { result.global ≡ false }
+{
+    Arg::new(alloc, id)
+        .long(id)
+        .required(true)
+        .action(ArgAction::Set)
+}
+
+fn script<'a>(alloc: Global) -> Result<Command<'a>, AllocError>
+    ensures shape { IfOk result (λ c. shape_of c ≡ script_shape) }
+    ensures local { IfOk result (λ c. (out-Command c).has_globals ≡ false) }
+{
+    Command::new(alloc, "script").arg(word(alloc, "journal"))
+}
+
+fn drill<'a>(alloc: Global) -> Result<Command<'a>, AllocError>
+    ensures shape { IfOk result (λ c. shape_of c ≡ drill_shape) }
+    ensures local { IfOk result (λ c. (out-Command c).has_globals ≡ false) }
+{
+    Command::new(alloc, "drill")
+        .arg(option(alloc, "seed"))?
+        .arg(option(alloc, "commits"))
+}
+
+fn bare<'a>(alloc: Global) -> Command<'a>
+    ensures { app_of result ≡ bare_line }
+{
+    Command::new(alloc, "nessie").subcommand_required(true)
+}
+
+fn command<'a>(alloc: Global) -> Result<Command<'a>, AllocError>
+    ensures { IfOk result (λ c. app_of c ≡ line) }
+{
+    let script = script(alloc)?;
+    let drill = drill(alloc)?;
+    bare(alloc).subcommand(script)?.subcommand(drill)
+}
+
+fn parse<'a>(alloc: Global, words: &'a [&'a str]) -> Result<ArgMatches<'a>, Error>
+    ensures rows { IfOk result (λ m. subcommand_rows_of m ≡ subcommand_of line (map (λ word. word.now) words.now)) }
+    ensures taken { IfOk result (λ m. fault_of line (map (λ word. word.now) words.now) ≡ []) }
+    ensures fails { IfErr result (λ e. fault_of line (map (λ word. word.now) words.now) ≡ [] → kind_of e ≡ ErrorKind.OutOfMemory) }
+{
+    command(alloc)?.try_get_matches_from(words)
+}
+
+/// What the words give, where they are the command line's.
+pub(crate) fn matches_of<'a>(
+    alloc: Global,
+    words: &'a [&'a str],
+) -> Result<ArgMatches<'a>, WordsFault>
+    ensures rows { IfOk result (λ m. subcommand_rows_of m ≡ subcommand_of line (map (λ word. word.now) words.now)) }
+    ensures taken { IfOk result (λ m. is_free (fault_of line (map (λ word. word.now) words.now)) ≡ true) }
+    ensures usage { IsErrOf result WordsFault.Usage → is_free (fault_of line (map (λ word. word.now) words.now)) ≡ false }
+{
+    match parse(alloc, words) {
+        Ok(matches) => Ok(matches),
+        Err(error) => match error.kind() {
+            ErrorKind::OutOfMemory => Err(WordsFault::NoMemory),
+            _ => Err(WordsFault::Usage),
+        },
+    }
+}
