@@ -1,5 +1,11 @@
 pub mod Absent
 pub mod Causes
 pub mod Clocks
+pub mod Crashes
 pub mod Memory
+pub mod MemoryDisks
+pub mod Places
+pub mod Recorded
+pub mod Replays
 pub mod Standard
+pub mod Steps

@@ -1,27 +1,9 @@
 ghost use Rattle.std.specs.Prelude.{◌≡◌, ◌<◌, ◌≤◌, Some, vec_len};
 
+use crate::calls::Calls;
 use crate::fault::{Failed, count_fault};
 use crate::stream::{Sink, Source};
 use std::alloc::{AllocError, Global};
-
-/// The calls on an object, counted from 1, and which of them fail.
-#[derive(Drop)]
-struct Calls {
-    made: u64,
-    failing: Vec<u64>,
-}
-
-impl Calls {
-    fn new(failing: Vec<u64>) -> Calls {
-        Calls { made: 0, failing }
-    }
-
-    /// Counts a call, and says whether it is to fail.
-    fn next_fails(&mut self) -> bool {
-        self.made = self.made.saturating_add(1);
-        self.failing.as_slice().contains(&self.made)
-    }
-}
 
 /// Bytes in memory, given in pieces, with a list of calls that fail.
 #[derive(Drop)]

@@ -1,0 +1,9 @@
+//! Tests of disks, in memory and over a file.
+#![tactic(auto)]
+
+#[cfg(test)]
+mod crashes;
+#[cfg(test)]
+mod disks;
+#[cfg(test)]
+mod files;
