@@ -5,8 +5,8 @@ use crate::content_texts::{
     COMMITTED_NAMESPACE, COMMITTED_TABLE, COMMITTED_VIEW, GET_DELTA, GET_NAMESPACE, GET_TABLE,
     GET_VIEW, READ_DELTA, READ_NAMESPACE, READ_TABLE, READ_VIEW,
 };
-use crate::runs::{script, wrote};
 use cat_cli::Status;
+use cat_runs::runs::{script, wrote};
 use std::test::Fail;
 
 #[test]

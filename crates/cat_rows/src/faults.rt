@@ -1,8 +1,8 @@
 //! Calls of source and sink that fail.
 
-use crate::runs::{Input, run_words};
 use crate::texts::{COMMIT_T1, GET_CONFIG, GET_T1};
 use cat_cli::Status;
+use cat_runs::runs::{Input, run_words};
 use std::test::Fail;
 
 #[test]

@@ -1,11 +1,11 @@
 //! The configuration, a commit, and its content.
 
-use crate::runs::{script, wrote};
 use crate::texts::{
     COMMIT_T1, COMMIT_T1_IN_CHUNKS, COMMIT_T2, COMMITTED, COMMITTED_T2, CONFIG, CONFIG_CLOSED,
     GET_CONFIG, GET_CONFIG_1_0, GET_T1, KEY_EXISTS, READ,
 };
 use cat_cli::Status;
+use cat_runs::runs::{script, wrote};
 use std::test::Fail;
 
 #[test]

@@ -1,8 +1,8 @@
 //! Requests by HEAD.
 
-use crate::runs::{script, wrote};
 use crate::texts::{BAD_HEAD, CONFIG, GET_CONFIG};
 use cat_cli::Status;
+use cat_runs::runs::{script, wrote};
 use std::test::Fail;
 
 // `GET` is the method of the route, and no reply to HEAD has a body or its length

@@ -1,7 +1,8 @@
 //! Commits of several operations, and their conflicts.
 
-use crate::commits::{bad_body, commit, committed, conflict, new_table, table};
-use crate::runs::answers;
+use crate::texts::BAD_BODY;
+use cat_runs::commits::{commit, committed, conflict, new_table, table};
+use cat_runs::runs::answers;
 use std::alloc::{AllocError, Global};
 use std::test::Fail;
 
@@ -238,7 +239,10 @@ fn a_commit_has_at_most_ten_thousand_operations(rt: HostRuntime) -> Result<(), F
     let most = many(alloc, 10_000)?;
     let more = many(alloc, 10_001)?;
     let turns = [
-        (commit(alloc, "main", more.as_str())?, bad_body(alloc)?),
+        (
+            commit(alloc, "main", more.as_str())?,
+            String::from_str(alloc, BAD_BODY)?,
+        ),
         (
             commit(alloc, "main", most.as_str())?,
             committed(
@@ -261,9 +265,18 @@ fn operations_stand_on_distinct_keys_and_give_distinct_ids(rt: HostRuntime) -> R
     let ids = format!(in alloc; "{one},{other}")?;
     let keys = format!(in alloc; "{UNCHANGED_T1},{other},{DELETE_T1}")?;
     let turns = [
-        (commit(alloc, "main", "")?, bad_body(alloc)?),
-        (commit(alloc, "main", ids.as_str())?, bad_body(alloc)?),
-        (commit(alloc, "main", keys.as_str())?, bad_body(alloc)?),
+        (
+            commit(alloc, "main", "")?,
+            String::from_str(alloc, BAD_BODY)?,
+        ),
+        (
+            commit(alloc, "main", ids.as_str())?,
+            String::from_str(alloc, BAD_BODY)?,
+        ),
+        (
+            commit(alloc, "main", keys.as_str())?,
+            String::from_str(alloc, BAD_BODY)?,
+        ),
     ];
     assert!(rt; answers(&rt, alloc, &turns)?);
     Ok(())

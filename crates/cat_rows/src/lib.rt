@@ -3,15 +3,11 @@
 #![tactic(auto)]
 
 #[cfg(test)]
-mod commits;
-#[cfg(test)]
 mod content_texts;
 #[cfg(test)]
 mod contents;
 #[cfg(test)]
-mod crossings;
-#[cfg(test)]
-mod entries;
+mod drill;
 #[cfg(test)]
 mod faults;
 #[cfg(test)]
@@ -19,23 +15,11 @@ mod first_path;
 #[cfg(test)]
 mod heads;
 #[cfg(test)]
-mod histories;
-#[cfg(test)]
 mod judging;
 #[cfg(test)]
 mod limits;
 #[cfg(test)]
-mod merge_requests;
-#[cfg(test)]
-mod merges;
-#[cfg(test)]
-mod queries;
-#[cfg(test)]
-mod references;
-#[cfg(test)]
 mod refusals;
-#[cfg(test)]
-mod runs;
 #[cfg(test)]
 mod targets;
 #[cfg(test)]

@@ -1,35 +1,13 @@
 //! Commits on a store whose limits are low.
 
-use crate::commits::{commit, new_table};
 use cat_core::Store;
-use cat_http::{Buffer, Incoming, read_request};
-use cat_io::MemorySource;
 use cat_model::limits::{Limits, Quantity};
-use cat_model::moment::Moment;
 use cat_model::refusal::{Refusal, Refused};
 use cat_model::reply::Told;
-use cat_model::wanted::Wanted;
-use cat_rest::{Routes, to_command};
+use cat_runs::commits::{commit, new_table};
+use cat_runs::stores::tell;
 use std::alloc::Global;
 use std::test::Fail;
-
-/// What a store tells of a commit of these operations on `main`.
-fn tell(alloc: Global, store: &mut Store, operations: &str) -> Result<Result<Told, Refused>, Fail> {
-    let text = commit(alloc, "main", operations)?;
-    let mut source = MemorySource::new(text.as_bytes().to_vec(alloc)?, 4096, Vec::new(alloc));
-    let mut buffer = Buffer::new(alloc)?;
-    if read_request(&mut source, &mut buffer) != Incoming::Request {
-        return Err(Fail::from("no request"));
-    }
-    let routes = Routes::new(alloc).ok().ok_or("memory")?;
-    match to_command(alloc, &routes, &buffer.request()) {
-        Ok(Wanted::Change(command)) => {
-            Ok(store.apply(alloc, 1, Moment::from_micros(1_000_000), &command))
-        }
-        Ok(Wanted::Read(_)) => Err(Fail::from("no command")),
-        Err(refused) => Ok(Err(refused)),
-    }
-}
 
 /// A store of these limits.
 fn store(alloc: Global, limits: Limits) -> Result<Store, Fail> {
@@ -66,8 +44,16 @@ fn met_by_two(alloc: Global, limits: Limits) -> Result<(Outcome, Outcome), Fail>
     let t1 = new_table(alloc, "\"t1\"", "m1")?;
     let t2 = new_table(alloc, "\"t2\"", "m1")?;
     let mut store = store(alloc, limits)?;
-    let first = met(&tell(alloc, &mut store, t1.as_str())?);
-    let second = met(&tell(alloc, &mut store, t2.as_str())?);
+    let first = met(&tell(
+        alloc,
+        &mut store,
+        commit(alloc, "main", t1.as_str())?.as_str(),
+    )?);
+    let second = met(&tell(
+        alloc,
+        &mut store,
+        commit(alloc, "main", t2.as_str())?.as_str(),
+    )?);
     Ok((first, second))
 }
 
@@ -95,7 +81,7 @@ fn the_puts_of_a_commit_count_together(rt: HostRuntime) -> Result<(), Fail> {
     let all = Limits::program();
     let t1 = new_table(alloc, "\"t1\"", "m1")?;
     let t2 = new_table(alloc, "\"t2\"", "m2")?;
-    let both = format!(in alloc; "{t1},{t2}")?;
+    let both = commit(alloc, "main", format!(in alloc; "{t1},{t2}")?.as_str())?;
     let table = [
         (
             Limits { keys: 1, ..all },

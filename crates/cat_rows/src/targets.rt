@@ -1,8 +1,8 @@
 //! Paths and queries of targets.
 
-use crate::runs::{script, wrote};
 use crate::texts::{ABSENT, BAD_PATH, COMMITTED, CONFIG, NO_REFERENCE, NO_ROUTE, TREE};
 use cat_cli::Status;
+use cat_runs::runs::{script, wrote};
 use std::test::Fail;
 
 #[test]

@@ -1,30 +1,137 @@
 //! The words of the program.
 
-use crate::runs::{Input, run_words};
 use cat_cli::Status;
+use cat_runs::runs::{Input, run_words};
 use std::test::Fail;
+
+const NOTHING: Input<'static> = Input {
+    pieces: &[],
+    piece: 1,
+    failing_reads: &[],
+    failing_writes: &[],
+};
 
 #[test]
 fn other_words_are_told_the_usage(rt: HostRuntime) -> Result<(), Fail> {
-    let table: [&[&str]; 6] = [
+    let table: [&[&str]; 34] = [
         &[],
         &["nessie"],
         &["nessie", "script"],
         &["nessie", "scrip", "a"],
+        &["nessie", "scripts", "a"],
         &["nessie", "script", "-a"],
         &["nessie", "script", "a", "b"],
+        &["nessie", "script", "--seed", "7", "a"],
+        &["nessie", "--help"],
+        &["nessie", "-h"],
+        &["nessie", "help"],
+        &["nessie", "help", "script"],
+        &["nessie", "script", "--help"],
+        &["nessie", "--version"],
+        &["nessie", "check", "a"],
+        &["nessie", "drill"],
+        &["nessie", "dril", "--seed", "7", "--commits", "1"],
+        &["nessie", "drill", "--seed", "7"],
+        &["nessie", "drill", "--commits", "7"],
+        &["nessie", "drill", "--seed", "7", "--commits"],
+        &["nessie", "drill", "--seed", "7", "--commits", "1", "a"],
+        &["nessie", "drill", "--seed", "7", "--commits", "1", "--help"],
+        &[
+            "nessie",
+            "drill",
+            "--seed",
+            "7",
+            "--seed",
+            "7",
+            "--commits",
+            "1",
+        ],
+        &[
+            "nessie",
+            "drill",
+            "--seed",
+            "7",
+            "--commits",
+            "1",
+            "--commits=1",
+        ],
+        &["nessie", "drill", "--seed", "-7", "--commits", "1"],
+        &["nessie", "drill", "--seed=-7", "--commits", "1"],
+        &["nessie", "drill", "--seed=+7", "--commits", "1"],
+        &["nessie", "drill", "--seed=", "--commits", "1"],
+        &["nessie", "drill", "--seed=7 ", "--commits", "1"],
+        &["nessie", "drill", "--seed=0x7", "--commits", "1"],
+        &[
+            "nessie",
+            "drill",
+            "--seed=000000000000000000007",
+            "--commits",
+            "1",
+        ],
+        &[
+            "nessie",
+            "drill",
+            "--seed=18446744073709551616",
+            "--commits",
+            "1",
+        ],
+        &["nessie", "drill", "--seed", "7", "--commits", "1000001"],
+        &[
+            "nessie",
+            "drill",
+            "--seed",
+            "7",
+            "--commits",
+            "18446744073709551615",
+        ],
     ];
-    let input = Input {
-        pieces: &[],
-        piece: 1,
-        failing_reads: &[],
-        failing_writes: &[],
-    };
     for words in table {
-        let ran = run_words(&rt, rt.alloc(), words, &input)?;
-        assert_eq!(rt; ran.status, Status::Usage);
+        let ran = run_words(&rt, rt.alloc(), words, &NOTHING)?;
+        assert_eq!(rt; ran.status, Status::Usage, "{words:?}");
         assert_eq!(rt; ran.status.code(), 1);
         assert!(rt; ran.sink.bytes() == b"nessie: usage\n".as_slice());
+    }
+    Ok(())
+}
+
+#[test]
+fn options_stand_in_any_order_and_form(rt: HostRuntime) -> Result<(), Fail> {
+    let table: [&[&str]; 5] = [
+        &["nessie", "drill", "--seed", "7", "--commits", "10"],
+        &["nessie", "drill", "--seed=7", "--commits=10"],
+        &["nessie", "drill", "--commits", "10", "--seed=7"],
+        &[
+            "another name",
+            "drill",
+            "--seed",
+            "00000000000000000007",
+            "--commits",
+            "010",
+        ],
+        &["", "drill", "--seed=7", "--commits", "00000000000000000010"],
+    ];
+    let line =
+        "commits 10 keys 10 contents 10 place 10 head e2657d4ca29ef18bdd065b7deed3ff85b8da59e600e0a3bb21e053a32361ad58\n";
+    for words in table {
+        let ran = run_words(&rt, rt.alloc(), words, &NOTHING)?;
+        assert_eq!(rt; ran.status, Status::Done, "{words:?}");
+        assert!(rt; ran.sink.bytes() == line.as_bytes());
+    }
+    Ok(())
+}
+
+#[test]
+fn a_journal_may_have_any_name(rt: HostRuntime) -> Result<(), Fail> {
+    let table: [&[&str]; 4] = [
+        &["nessie", "script", "a.journal"],
+        &["nessie", "script", ""],
+        &["nessie", "script", "-"],
+        &["nessie", "script", "--", "-a"],
+    ];
+    for words in table {
+        let ran = run_words(&rt, rt.alloc(), words, &NOTHING)?;
+        assert_eq!(rt; ran.status, Status::Done, "{words:?}");
+        assert!(rt; ran.sink.bytes().is_empty());
     }
     Ok(())
 }

@@ -1,6 +1,6 @@
 //! Requests on references, entries and histories that the bytes alone refuse.
 
-use crate::runs::plays;
+use cat_runs::runs::plays;
 use std::test::Fail;
 
 /// Each is refused by its path, its query or its body.

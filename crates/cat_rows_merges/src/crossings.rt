@@ -1,6 +1,6 @@
 //! Branches that are merged into each other, and namespaces.
 
-use crate::runs::plays;
+use cat_runs::runs::plays;
 use std::test::Fail;
 
 /// Two branches that are merged into each other: their base is the lesser of two hashes.

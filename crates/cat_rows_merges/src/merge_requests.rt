@@ -1,6 +1,6 @@
 //! Requests of merges: paths, sources and bodies.
 
-use crate::runs::plays;
+use cat_runs::runs::plays;
 use std::test::Fail;
 
 /// Branches, sources and hashes that are there, and that are not.

@@ -1,6 +1,6 @@
 //! References that are made, moved, removed and listed.
 
-use crate::runs::plays;
+use cat_runs::runs::plays;
 use std::test::Fail;
 
 /// A branch beside `main`, until it is removed; then `main` is moved back and forth.

@@ -1,6 +1,6 @@
 //! Pages of entries, and contents of keys.
 
-use crate::runs::plays;
+use cat_runs::runs::plays;
 use std::test::Fail;
 
 /// Commits between two pages of entries.

@@ -1,6 +1,6 @@
 //! Pages of histories.
 
-use crate::runs::plays;
+use cat_runs::runs::plays;
 use std::test::Fail;
 
 /// Pages of a history of three commits.

@@ -1,6 +1,5 @@
 //! The bytes of commits of several operations, and of their replies.
 
-use crate::texts::BAD_BODY;
 use std::alloc::{AllocError, Global};
 
 /// A PUT of a table at a key of one element, without an id.
@@ -48,11 +47,6 @@ pub fn conflict(
         "{{\"errorCode\":\"REFERENCE_CONFLICT\",\"errorDetails\":{{\"conflicts\":[{{\"conflictType\":\"{kind}\",\"key\":{{\"elements\":[{key}]}},\"message\":\"{kind}: {path}\"}}],\"type\":\"REFERENCE_CONFLICTS\"}},\"message\":\"conflicts: 1\",\"reason\":\"Conflict\",\"status\":409}}"
     )?;
     reply(alloc, "409 Conflict", place, body.as_str())
-}
-
-/// The refusal of a body without a reading.
-pub fn bad_body(alloc: Global) -> Result<String, AllocError> {
-    String::from_str(alloc, BAD_BODY)
 }
 
 fn reply(alloc: Global, status: &str, place: u32, body: &str) -> Result<String, AllocError> {

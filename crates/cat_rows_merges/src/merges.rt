@@ -1,6 +1,6 @@
 //! Merges of one branch, once and again.
 
-use crate::runs::plays;
+use cat_runs::runs::plays;
 use std::test::Fail;
 
 /// A key that both branches changed, merged in each mode.
