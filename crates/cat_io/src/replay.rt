@@ -85,7 +85,8 @@ impl Replay {
 /// Puts a piece at a place, with zeros in a gap before it.
 pub(crate) fn put_bytes(bytes: &mut Vec<u8>, at: usize, piece: &[u8])
     requires room { at + length piece.now ≤ vec_capacity bytes.old }
-    ensures { bytes.new.items ≡ put at piece.now bytes.old.items }
+    ensures bytes { bytes.new.items ≡ put at piece.now bytes.old.items }
+    ensures capacity { vec_capacity bytes.old ≤ vec_capacity bytes.new }
 {
     fill(bytes, at, 0);
     if piece.len() <= bytes.len() - at {

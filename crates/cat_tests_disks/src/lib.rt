@@ -7,3 +7,5 @@ mod crashes;
 mod disks;
 #[cfg(test)]
 mod files;
+#[cfg(test)]
+mod named;
