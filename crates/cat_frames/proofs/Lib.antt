@@ -1,0 +1,7 @@
+pub mod Untold
+pub mod Logged
+pub mod Again
+pub mod Rows
+pub mod Walked
+pub mod Written
+pub mod RequestRows

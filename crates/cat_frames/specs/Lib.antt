@@ -1,0 +1,11 @@
+pub mod Telling
+pub mod Sources
+pub mod SourceLaws
+pub mod Requests
+pub mod RequestLaws
+pub mod Walks
+pub mod Commands
+pub mod CommandLaws
+pub mod Entries
+pub mod EntryLaws
+pub mod Payload
