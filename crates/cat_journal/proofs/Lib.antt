@@ -1,0 +1,9 @@
+mod Adding
+mod Appended
+mod Found
+mod Gates
+mod Header
+mod ReadOnly
+mod Rows
+mod Steps
+mod Torn

@@ -1,0 +1,12 @@
+use Rattle.std.proofs.Common.{length}
+use Rattle.cat_journal.specs.Frames.{payload_of}
+use Rattle.cat_journal.proofs.Appended.{told_at_rest, told_torn}
+use Rattle.cat_journal.proofs.journal.Journal.into_disk.Goals as goal
+
+pub returns-clause-payloads : goal.returns-clause-payloads
+returns-clause-payloads g c up = let j = c.args.self in told_at_rest (g.D.Disk.told j.disk) (length j.gates.items) j.end (g.D.Disk.may_leave j.disk) (j.safe up)
+
+pub returns-clause-in_flight : goal.returns-clause-in_flight
+returns-clause-in_flight g c p flies =
+    let j = c.args.self in
+    told_torn (g.D.Disk.told j.disk) j.gates.items j.end (payload_of j.frame.items) (g.D.Disk.may_leave j.disk) j.down j.held j.torn p flies

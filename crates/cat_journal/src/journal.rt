@@ -1,0 +1,195 @@
+//! A keeper on a disk.
+ghost use Rattle.std.specs.Prelude.{ℕ, List, [], ◌∷◌, ◌++◌, None, Some, ◌≡◌, ◌<◌, ◌≤◌, ◌+◌, ◌^◌, length, vec_capacity, Ok, IfOk, IfErr, IfSome, MatchResult};
+ghost use Rattle.std.proofs.Props.{props};
+ghost use Rattle.cat_io.specs.Causes.{Rose};
+ghost use Rattle.cat_io.specs.Crashes.{Told, Only};
+ghost use Rattle.cat_journal.specs.Frames.{max_entries, payload_of, recovered, new_journal, frame as frame_of};
+ghost use Rattle.cat_keeper.specs.Keeping.{WithOrWithout};
+ghost use Rattle.cat_journal.specs.Held.{first_payloads, outcome, IsHeld, IsHeld-prop, IsSafe, IsSafe-prop, IsTorn, IsTorn-prop};
+ghost use Rattle.cat_journal.specs.Reading.{OnlyReads, IsFaultOf};
+
+use crate::append::append_frame;
+use crate::fault::OpenFault;
+use crate::opening::load;
+use crate::reading::{read_gate, read_into};
+use cat_codes::bytes::Bytes;
+use cat_codes::fault::NoMemory;
+use cat_io::Disk;
+use cat_keeper::{KeepFault, Keeper};
+use std::alloc::Global;
+use std::marker::Send;
+
+/// A journal of format 1.
+#[derive(Drop)]
+pub struct Journal<D: Disk> {
+    disk: D,
+    /// Where the gates of the payloads stand.
+    gates: Vec<u64>,
+    /// Where the closed gate stands.
+    end: u64,
+    /// Room for a frame; while the journal is down, the one whose append failed.
+    frame: Vec<u8>,
+    down: Option<u64>,
+    ghost held: { IfSome (D.told disk) (λ bytes. IsHeld (first_payloads (length gates.items) bytes) gates.items end bytes) } by { Prim.hlevel (IsHeld-prop, props) },
+    ghost safe: { down ≡ None → IfSome (D.told disk) (IsSafe (length gates.items) end (D.may_leave disk)) } by { Prim.hlevel (IsSafe-prop, props) },
+    ghost torn: { (c : ℕ) → down ≡ Some c → IfSome (D.told disk) (IsTorn (length gates.items) end (payload_of frame.items) (D.may_leave disk)) } by { Prim.hlevel (IsTorn-prop, props) },
+    ghost fits: { end + 1 < 2 ^ 64 },
+    ghost few: { length gates.items ≤ max_entries },
+}
+
+/// A frame and the next gate, closed.
+fn spell(out: &mut Vec<u8>, payload: &[u8])
+    requires room { length payload.now + 5 ≤ vec_capacity out.old }
+    requires short { length payload.now < 2 ^ 32 }
+    ensures { out.new.items ≡ frame_of payload.now ++ 0 ∷ [] }
+{
+    out.clear();
+    let size = (payload.len() as u32).to_be_bytes();
+    let _ = out.extend_from_slice(&size);
+    let _ = out.extend_from_slice(payload);
+    out.push_reserved(0);
+}
+
+impl<D: Disk + Send> Journal<D> {
+    ghost use Rattle.cat_journal.specs.Journals.{journal_disk};
+
+    /// Opens the journal on a disk, and makes a new one where the disk is empty. Nothing is written
+    /// to a disk that has bytes.
+    pub fn open(alloc: Global, mut disk: D) -> Result<Journal<D>, (D, OpenFault)>
+        ensures payloads { IfOk result (λ j. Told (D.told disk) (⟦<Journal<D> as Keeper>⟧.told j) (λ bytes ps. recovered bytes ≡ Ok ps)) }
+        ensures holds { IfOk result (λ j. Told (D.told (journal_disk j)) (⟦<Journal<D> as Keeper>⟧.told j) (λ bytes ps. recovered bytes ≡ Ok ps)) }
+        ensures fault { IfErr result (λ e. Told (D.told disk) (D.told e.0) (λ before after. IsFaultOf before e.1)) }
+        ensures up { IfOk result (λ j. ⟦<Journal<D> as Keeper>⟧.down j ≡ None) }
+        ensures new { IfOk result (λ j. Told (D.told disk) (D.told (journal_disk j)) (λ before after. before ≡ [] → after ≡ new_journal)) }
+        ensures unwritten { IfSome (D.told disk) (λ bytes. 0 < length bytes → MatchResult result
+            (λ j. OnlyReads D.told D.may_leave D.moment D.left_since disk (journal_disk j))
+            (λ e. OnlyReads D.told D.may_leave D.moment D.left_since disk e.0)) }
+        ensures cause { MatchResult result
+            (λ j. D.faults disk ≤ ⟦<Journal<D> as Keeper>⟧.faults j)
+            (λ e. (D.faults disk ≤ D.faults e.0) × (e.1 ≡ OpenFault.Fault → Rose (D.faults disk) (D.faults e.0))) }
+    {
+        match load(alloc, &mut disk) {
+            Ok((gates, end)) => Ok(Journal {
+                disk,
+                gates,
+                end,
+                frame: Vec::new(alloc),
+                down: None,
+            }),
+            Err(fault) => Err((disk, fault)),
+        }
+    }
+
+    /// The disk. What it reads opens again with the payloads that are kept, and after an append that
+    /// failed maybe with that one too.
+    pub fn into_disk(self) -> D
+        ensures disk { result ≡ journal_disk self }
+        ensures faults { D.faults result ≡ ⟦<Journal<D> as Keeper>⟧.faults self }
+        ensures payloads { ⟦<Journal<D> as Keeper>⟧.down self ≡ None → Told (⟦<Journal<D> as Keeper>⟧.told self) (D.told result) (λ ps bytes. recovered bytes ≡ Ok ps) }
+        ensures durable { ⟦<Journal<D> as Keeper>⟧.down self ≡ None → Only (D.told result) (D.may_leave result) }
+        ensures in_flight { (p : List ℕ) → ⟦<Journal<D> as Keeper>⟧.in_flight self ≡ Some p → Told (⟦<Journal<D> as Keeper>⟧.told self) (D.told result) (λ ps bytes. WithOrWithout ps p (outcome bytes)) }
+    {
+        let Journal {
+            disk,
+            gates: _,
+            end: _,
+            frame: _,
+            down: _,
+        } = self;
+        disk
+    }
+}
+
+impl<D: Disk + Send> Keeper for Journal<D> {
+    ghost use Rattle.std.specs.Prelude.{ℕ, List, ◌≡◌, ◌-◌, length, vec_len, vec_capacity, nat_lt, if◌then◌else◌};
+    ghost use Rattle.std.specs.Option.{option_map};
+    ghost use Rattle.cat_journal.specs.Frames.{payload_of};
+    ghost use Rattle.cat_journal.specs.Held.{first_payloads, outcome};
+    ghost use Rattle.cat_journal.specs.Laws.{safe_images, kept_image, torn_images, counted_payloads, none_flies, one_flies};
+
+    ghost told = { λ j. option_map (first_payloads (length j.gates.items)) (D.told j.disk) };
+
+    ghost kept = { λ j. length j.gates.items };
+
+    ghost spare = { λ j. if nat_lt (vec_len j.gates) (vec_capacity j.gates) then vec_capacity j.frame - 5 else 0 };
+
+    ghost down = { λ j. j.down };
+
+    ghost in_flight = { λ j. option_map (λ (c : ℕ). payload_of j.frame.items) j.down };
+
+    ghost faults = { λ j. D.faults j.disk };
+
+    ghost may_leave = { λ j r. (c : List ℕ) × D.may_leave j.disk c × (outcome c ≡ r) };
+
+    ghost moment = { λ j. D.moment j.disk };
+
+    ghost left_since = { λ j t r. (c : List ℕ) × D.left_since j.disk t c × (outcome c ≡ r) };
+
+    ghost counts_now = { λ j t r le now. (now.0, D.counts_now j.disk t now.0 le now.1, now.2) };
+
+    ghost only_now = { λ j r left. (left.0, D.only_now j.disk left.0 left.1, left.2) };
+
+    ghost safe = { λ j ps r up told now. safe_images (D.told j.disk) (length j.gates.items) j.end (D.may_leave j.disk) (j.safe up) ps told r now };
+
+    ghost kept_as_image = { λ j ps up told. kept_image (D.told j.disk) (length j.gates.items) j.end (D.may_leave j.disk) (λ c is. D.reads_as_image j.disk c is) (j.safe up) ps told };
+
+    ghost unsafe_leaves = { λ j ps p r told flies now. torn_images (D.told j.disk) j.gates.items j.end (payload_of j.frame.items) (D.may_leave j.disk) j.down j.held j.torn ps p told flies r now };
+
+    ghost waits = { λ j up. none_flies (payload_of j.frame.items) j.down up };
+
+    ghost flies = { λ j c down. one_flies (payload_of j.frame.items) j.down c down };
+
+    ghost counted = { λ j ps told. counted_payloads (D.told j.disk) j.gates.items j.end j.held ps told };
+
+    fn count(&self) -> u32 {
+        self.gates.len() as u32
+    }
+
+    fn entry(&mut self, alloc: Global, i: u32) -> Result<Bytes, KeepFault> {
+        let at = self.gates[i as usize];
+        let Ok((_, count)) = read_gate(&mut self.disk, at) else {
+            return Err(KeepFault::Fault);
+        };
+        let mut payload = Vec::new(alloc);
+        match read_into(&mut self.disk, at.saturating_add(5), count, &mut payload) {
+            Ok(()) => {}
+            Err(fault) => return Err(fault),
+        }
+        match Bytes::from_vec(payload) {
+            Ok(bytes) => Ok(bytes),
+            Err(_) => Err(KeepFault::NoMemory),
+        }
+    }
+
+    fn reserve(&mut self, bytes: usize) -> Result<(), NoMemory> {
+        let Some(room) = bytes.checked_add(5) else {
+            return Err(NoMemory);
+        };
+        self.gates.reserve(1)?;
+        self.frame.reserve(room)?;
+        Ok(())
+    }
+
+    fn append(&mut self, bytes: &[u8]) -> Result<(), KeepFault> {
+        if let Some(count) = self.down {
+            return Err(KeepFault::Down(count));
+        }
+        spell(&mut self.frame, bytes);
+        match append_frame(&mut self.disk, self.end, bytes, &self.frame) {
+            Ok(()) => {
+                self.gates.push_reserved(self.end);
+                self.end += 5 + bytes.len() as u64;
+                self.frame.clear();
+                Ok(())
+            }
+            Err(_) => {
+                self.down = Some(self.disk.fault_count());
+                Err(KeepFault::Fault)
+            }
+        }
+    }
+
+    fn fault_count(&self) -> u64 {
+        self.disk.fault_count()
+    }
+}

@@ -1,0 +1,16 @@
+-- What the answers of a keeper say, and what one append may have done.
+use Rattle.std.specs.Prelude.{◌≡◌, ◌≤◌, ◌⊎◌, ℕ, List, [], ◌∷◌, ◌++◌, Option, Some, Result, Ok, Err}
+use Rattle.cat_io.specs.Causes.{Rose}
+use Rattle.cat_keeper.specs.declared.fault.KeepFault.{KeepFault}
+use Rattle.cat_keeper.specs.declared.fault.KeepFault.TheVariants.{Fault, Down, NoMemory}
+
+-- the count of faults doesn't fall, and `Fault` has raised it
+abbrev pub HasKeepCause : {T : Type 0} → ℕ → ℕ → Result T KeepFault → Type 0
+HasKeepCause before now (Ok x) = before ≤ now
+HasKeepCause before now (Err Fault) = (before ≤ now) × Rose before now
+HasKeepCause before now (Err (Down c)) = before ≤ now
+HasKeepCause before now (Err NoMemory) = before ≤ now
+
+-- an image recovers to the payloads, or to these and one more
+abbrev pub WithOrWithout : List (List ℕ) → List ℕ → Option (List (List ℕ)) → Type 0
+WithOrWithout ps p c = (c ≡ Some ps) ⊎ (c ≡ Some (ps ++ p ∷ []))

@@ -1,0 +1,18 @@
+-- The laws of a keeper in memory.
+use Rattle.std.specs.Prelude.{◌≡◌, ℕ, List, length, Option, Some, None}
+use Rattle.std.proofs.Common.{ap, sym}
+use Rattle.std.specs.Option.{option_map}
+
+pub told_is : {A : Type 0} (x y : A) → Some x ≡ Some y → x ≡ y
+told_is x y e = cc
+
+pub told_count : (held ps : List (List ℕ)) → Some held ≡ Some ps → length ps ≡ length held
+told_count held ps told = ap length (sym (told_is held ps told))
+
+-- nothing is in flight where no append failed
+pub none_flies : {A B : Type 0} (p : B) (down : Option A) → down ≡ None → option_map (λ (c : A). p) down ≡ None
+none_flies p down up = ap (λ d. option_map (λ c. p) d) up
+
+-- and something is, where one did
+pub one_flies : {A B : Type 0} (p : B) (down : Option A) (c : A) → down ≡ Some c → (q : B) × (option_map (λ (d : A). p) down ≡ Some q)
+one_flies p down c is = (p, ap (λ d. option_map (λ x. p) d) is)

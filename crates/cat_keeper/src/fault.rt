@@ -1,0 +1,48 @@
+//! Why a keeper didn't do a call.
+
+use cat_codes::fault::NoMemory;
+use std::alloc::{AllocError, AllocFailed};
+
+/// Why a keeper didn't do a call.
+#[derive(Clone, Copy, Debug, PartialEq, Eq)]
+pub enum KeepFault {
+    /// A fault, which was counted.
+    Fault,
+    /// An append failed before, at this count of faults.
+    Down(u64),
+    /// Memory ran out.
+    NoMemory,
+}
+
+impl From<AllocError> for KeepFault {
+    ghost use Rattle.std.specs.Prelude.{◌≡◌};
+    ghost use Rattle.cat_keeper.specs.declared.fault.KeepFault.TheVariants as faults;
+
+    ghost from_gives = { λ _ e. e ≡ faults.NoMemory };
+
+    fn from(_e: AllocError) -> KeepFault {
+        KeepFault::NoMemory
+    }
+}
+
+impl<T: Drop> From<AllocFailed<T>> for KeepFault {
+    ghost use Rattle.std.specs.Prelude.{◌≡◌};
+    ghost use Rattle.cat_keeper.specs.declared.fault.KeepFault.TheVariants as faults;
+
+    ghost from_gives = { λ _ e. e ≡ faults.NoMemory };
+
+    fn from(_e: AllocFailed<T>) -> KeepFault {
+        KeepFault::NoMemory
+    }
+}
+
+impl From<NoMemory> for KeepFault {
+    ghost use Rattle.std.specs.Prelude.{◌≡◌};
+    ghost use Rattle.cat_keeper.specs.declared.fault.KeepFault.TheVariants as faults;
+
+    ghost from_gives = { λ _ e. e ≡ faults.NoMemory };
+
+    fn from(_e: NoMemory) -> KeepFault {
+        KeepFault::NoMemory
+    }
+}

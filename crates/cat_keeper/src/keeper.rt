@@ -1,0 +1,119 @@
+//! The trait of what keeps payloads.
+ghost use Rattle.std.specs.Prelude.{ℕ, List, [], ◌∷◌, ◌++◌, Option, None, Some, ◌≡◌, ◌≤◌, ◌<◌, ◌+◌, ◌^◌, ◌↔◌, true, length, get_or, IsErrOf, IfOk, IfSome, OnOk, OnErr};
+ghost use Rattle.cat_io.specs.Crashes.{Told};
+ghost use Rattle.cat_frames.specs.Payload.{has_reading};
+ghost use Rattle.cat_keeper.specs.Keeping.{HasKeepCause, WithOrWithout};
+ghost use Rattle.cat_io.specs.Crashes.{LeavesOnly};
+ghost use Rattle.cat_keeper.specs.Moments.{Within};
+
+use crate::fault::KeepFault;
+use cat_codes::bytes::Bytes;
+use cat_codes::fault::NoMemory;
+use std::alloc::Global;
+use std::marker::Send;
+
+/// Payloads of log entries in their order, each kept before it is acknowledged. After an append
+/// that fails the keeper is down: it adds nothing more, and still gives what it has.
+pub trait Keeper: Send {
+    // the payloads, where they are told
+    ghost told: { Self → Option (List (List ℕ)) };
+
+    // how many they are
+    ghost kept: { Self → ℕ };
+
+    // the length of a payload for which there is room
+    ghost spare: { Self → ℕ };
+
+    // the count of faults at which an append failed, if one did
+    ghost down: { Self → Option ℕ };
+
+    // the payload of that append
+    ghost in_flight: { Self → Option (List ℕ) };
+
+    // how many calls failed
+    ghost faults: { Self → ℕ };
+
+    // what a crash may leave now, as far as it is known; None is what doesn't open
+    ghost may_leave: { Self → Option (List (List ℕ)) → Type 0 };
+
+    // the moment, a number that doesn't fall
+    ghost moment: { Self → ℕ };
+
+    // what a crash at some moment from that one on, within a call or between two, might have left
+    ghost left_since: { Self → ℕ → Option (List (List ℕ)) → Type 0 };
+
+    /// How many payloads there are.
+    fn count(&self) -> u32
+        ensures { result ≡ kept self.now };
+
+    /// The payload at place `i`, from 0.
+    fn entry(&mut self, alloc: Global, i: u32) -> Result<Bytes, KeepFault>
+        requires { i < kept self.old }
+        ensures value { IfOk result (λ bytes. IfSome (told self.old) (λ ps. bytes ≡ get_or ps i [])) }
+        ensures never_down { (c : ℕ) → IsErrOf result (KeepFault.Down c) → ⊥ }
+        ensures told { Told (told self.old) (told self.new) (λ old new. new ≡ old) }
+        ensures kept { kept self.new ≡ kept self.old }
+        ensures spare { spare self.new ≡ spare self.old }
+        ensures down { down self.new ≡ down self.old }
+        ensures in_flight { in_flight self.new ≡ in_flight self.old }
+        ensures crash { Within (may_leave self.old) (may_leave self.new) }
+        ensures time { LeavesOnly moment left_since self.old self.new (may_leave self.old) }
+        ensures cause { HasKeepCause (faults self.old) (faults self.new) result };
+
+    /// Makes room for a payload of so many bytes.
+    fn reserve(&mut self, bytes: usize) -> Result<(), NoMemory>
+        ensures room { OnOk result (bytes ≤ spare self.new) }
+        ensures spare { spare self.old ≤ spare self.new }
+        ensures told { told self.new ≡ told self.old }
+        ensures kept { kept self.new ≡ kept self.old }
+        ensures down { down self.new ≡ down self.old }
+        ensures in_flight { in_flight self.new ≡ in_flight self.old }
+        ensures faults { faults self.new ≡ faults self.old }
+        ensures crash { Within (may_leave self.old) (may_leave self.new) }
+        ensures time { LeavesOnly moment left_since self.old self.new (may_leave self.old) };
+
+    /// Adds a payload, with no memory. `Ok` acknowledges it: each crash from then on leaves it.
+    fn append(&mut self, bytes: &[u8]) -> Result<(), KeepFault>
+        requires room { length bytes.now ≤ spare self.old }
+        requires reading { has_reading bytes.now ≡ true }
+        requires short { length bytes.now < 2 ^ 32 }
+        requires few { kept self.old < 4294967295 }
+        ensures added { OnOk result (Told (told self.old) (told self.new) (λ old new. new ≡ old ++ bytes.now ∷ [])) }
+        ensures kept { OnOk result (kept self.new ≡ kept self.old + 1) }
+        ensures up { OnOk result (down self.new ≡ None) }
+        ensures not_added { OnErr result (Told (told self.old) (told self.new) (λ old new. new ≡ old)) }
+        ensures not_kept { OnErr result (kept self.new ≡ kept self.old) }
+        ensures failed { IsErrOf result KeepFault.Fault → (down self.old ≡ None) × (down self.new ≡ Some (faults self.new)) × (in_flight self.new ≡ Some bytes.now) }
+        ensures is_down { (c : ℕ) → IsErrOf result (KeepFault.Down c) ↔ (down self.old ≡ Some c) }
+        ensures stays_down { (c : ℕ) → down self.old ≡ Some c → (down self.new ≡ Some c) × (in_flight self.new ≡ in_flight self.old) }
+        ensures idle { (c : ℕ) → down self.old ≡ Some c → LeavesOnly moment left_since self.old self.new (may_leave self.old) }
+        ensures cause { HasKeepCause (faults self.old) (faults self.new) result }
+        ensures no_memory_taken { IsErrOf result KeepFault.NoMemory → ⊥ }
+        ensures any_moment { down self.old ≡ None → LeavesOnly moment left_since self.old self.new (λ c. IfSome (told self.old) (λ ps. WithOrWithout ps bytes.now c)) };
+
+    /// How many calls failed.
+    fn fault_count(&self) -> u64
+        ensures { result ≡ faults self.now };
+
+    // now is one of the moments since an earlier one
+    ghost counts_now: { (k : Self) (t : ℕ) (c : Option (List (List ℕ))) → t ≤ moment k → may_leave k c → left_since k t c };
+
+    // and since now there is no other
+    ghost only_now: { (k : Self) (c : Option (List (List ℕ))) → left_since k (moment k) c → may_leave k c };
+
+    // until an append has failed, a crash between two calls leaves just the payloads, and these are
+    // one of the images
+    ghost safe: { (k : Self) (ps : List (List ℕ)) (c : Option (List (List ℕ))) → down k ≡ None → told k ≡ Some ps → may_leave k c → c ≡ Some ps };
+
+    ghost kept_as_image: { (k : Self) (ps : List (List ℕ)) → down k ≡ None → told k ≡ Some ps → may_leave k (Some ps) };
+
+    // after that, it leaves these with or without that append's
+    ghost unsafe_leaves: { (k : Self) (ps : List (List ℕ)) (p : List ℕ) (c : Option (List (List ℕ))) → told k ≡ Some ps → in_flight k ≡ Some p → may_leave k c → WithOrWithout ps p c };
+
+    // a payload is in flight exactly while the keeper is down
+    ghost waits: { (k : Self) → down k ≡ None → in_flight k ≡ None };
+
+    ghost flies: { (k : Self) (c : ℕ) → down k ≡ Some c → (p : List ℕ) × (in_flight k ≡ Some p) };
+
+    ghost counted: { (k : Self) (ps : List (List ℕ)) → told k ≡ Some ps → length ps ≡ kept k };
+}
