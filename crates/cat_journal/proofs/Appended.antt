@@ -6,12 +6,13 @@ use Rattle.std.proofs.lemmas.Bool.{ltb-true}
 use Rattle.std.proofs.lemmas.List.{take_all, take_at}
 use Rattle.cat_io.specs.Crashes.{Told, Only}
 use Rattle.cat_frames.specs.Payload.{has_reading}
+use Rattle.cat_keeper.specs.KeeperLaws.{told_is}
 use Rattle.cat_keeper.specs.Keeping.{WithOrWithout}
 use Rattle.cat_io.specs.Crashes.{LeavesOnly}
 use Rattle.cat_journal.specs.Frames.{max_entries, payloads, payloads_in, recovered, payload_of, frame, spelled, IsAtRest, MayHoldOneMore}
 use Rattle.cat_journal.specs.Held.{starts_of, first_payloads, IsHeld, IsSafe, IsTorn, outcome}
 use Rattle.cat_journal.specs.AtRest.{length-frame, payload_of-frame, recovered-at_rest}
-use Rattle.cat_journal.specs.Laws.{some_is, torn_outcome}
+use Rattle.cat_journal.specs.Laws.{torn_outcome}
 use Rattle.cat_journal.specs.OneMore.{either, with_or_without}
 
 -- a nonempty payload has room
@@ -185,4 +186,4 @@ told_torn None gates gate p images down held torn q flies = tt
 told_torn (Some bytes) gates gate p images None held torn q flies = absurd cc
 told_torn (Some bytes) gates gate p images (Some count) held torn q flies =
     let t = torn count refl in
-    subst (λ x. WithOrWithout (first_payloads (length gates) bytes) x (outcome bytes)) (some_is p q flies) (torn_outcome gates gate p images bytes held t bytes t.reads)
+    subst (λ x. WithOrWithout (first_payloads (length gates) bytes) x (outcome bytes)) (told_is p q flies) (torn_outcome gates gate p images bytes held t bytes t.reads)

@@ -3,21 +3,19 @@ use Rattle.std.specs.Prelude.{◌≡◌, ℕ, List, length, Option, Some, None, 
 use Rattle.std.proofs.Common.{refl, sym, ◌∙◌, ap, subst, arith}
 use Rattle.std.specs.Option.{option_map}
 use Rattle.std.proofs.lemmas.List.{take_all}
+use Rattle.cat_keeper.specs.KeeperLaws.{told_is}
 use Rattle.cat_keeper.specs.Keeping.{WithOrWithout}
 use Rattle.cat_journal.specs.Frames.{payloads, MayHoldOneMore}
 use Rattle.cat_journal.specs.Held.{first_payloads, IsHeld, IsSafe, IsTorn, outcome, outcome_of}
 use Rattle.cat_journal.specs.AtRest.{recovered-at_rest}
 use Rattle.cat_journal.specs.OneMore.{with_or_without}
 
-pub some_is : {A : Type 0} (x y : A) → Some x ≡ Some y → x ≡ y
-some_is x y e = cc
-
 pub safe_images : (told : Option (List ℕ)) (n gate : ℕ) (images : List ℕ → Type 0) → IfSome told (IsSafe n gate images)
     → (ps : List (List ℕ)) → option_map (first_payloads n) told ≡ Some ps
     → (r : Option (List (List ℕ))) → ((c : List ℕ) × images c × (outcome c ≡ r)) → r ≡ Some ps
 safe_images None n gate images safe ps is r now = absurd cc
 safe_images (Some bytes) n gate images safe ps is r now =
-    let all : payloads bytes ≡ ps = sym (take_all n (payloads bytes) (omega (arith, safe.count))) ∙ some_is (first_payloads n bytes) ps is in
+    let all : payloads bytes ≡ ps = sym (take_all n (payloads bytes) (omega (arith, safe.count))) ∙ told_is (first_payloads n bytes) ps is in
     sym now.2 ∙ ap outcome (safe.only now.0 now.1) ∙ ap outcome_of (recovered-at_rest (payloads bytes) gate bytes safe.rest) ∙ ap (λ (l : List (List ℕ)). Some l) all
 
 pub kept_image : (told : Option (List ℕ)) (n gate : ℕ) (images : List ℕ → Type 0) → ((c : List ℕ) → told ≡ Some c → images c) → IfSome told (IsSafe n gate images)
@@ -44,18 +42,10 @@ torn_images (Some bytes) gates gate p images (Some count) held torn ps q is flie
     let t = torn count refl in
     let first = first_payloads (length gates) bytes in
     subst (λ s. WithOrWithout ps q s) now.2
-    (subst (λ x. WithOrWithout ps x (outcome now.0)) (some_is p q flies)
-    (subst (λ l. WithOrWithout l p (outcome now.0)) (some_is first ps is) (torn_outcome gates gate p images bytes held t now.0 (t.each now.0 now.1))))
+    (subst (λ x. WithOrWithout ps x (outcome now.0)) (told_is p q flies)
+    (subst (λ l. WithOrWithout l p (outcome now.0)) (told_is first ps is) (torn_outcome gates gate p images bytes held t now.0 (t.each now.0 now.1))))
 
 pub counted_payloads : (told : Option (List ℕ)) (gates : List ℕ) (gate : ℕ) → IfSome told (λ bytes. IsHeld (first_payloads (length gates) bytes) gates gate bytes)
     → (ps : List (List ℕ)) → option_map (first_payloads (length gates)) told ≡ Some ps → length ps ≡ length gates
 counted_payloads None gates gate held ps is = absurd cc
-counted_payloads (Some bytes) gates gate held ps is = ap length (sym (some_is (first_payloads (length gates) bytes) ps is)) ∙ held.count
-
--- nothing is in flight where no append failed
-pub none_flies : (p : List ℕ) (down : Option ℕ) → down ≡ None → option_map (λ (c : ℕ). p) down ≡ None
-none_flies p down up = ap (λ d. option_map (λ (c : ℕ). p) d) up
-
--- and something is, where one did
-pub one_flies : (p : List ℕ) (down : Option ℕ) (c : ℕ) → down ≡ Some c → (q : List ℕ) × (option_map (λ (d : ℕ). p) down ≡ Some q)
-one_flies p down c is = (p, ap (λ d. option_map (λ (x : ℕ). p) d) is)
+counted_payloads (Some bytes) gates gate held ps is = ap length (sym (told_is (first_payloads (length gates) bytes) ps is)) ∙ held.count

@@ -3,8 +3,8 @@ ghost use Rattle.std.specs.Prelude.{ℕ, List, [], ◌∷◌, ◌++◌, None, So
 ghost use Rattle.std.proofs.Props.{props};
 ghost use Rattle.cat_io.specs.Causes.{Rose};
 ghost use Rattle.cat_io.specs.Crashes.{Told, Only};
-ghost use Rattle.cat_journal.specs.Frames.{max_entries, payload_of, recovered, new_journal, frame as frame_of};
 ghost use Rattle.cat_keeper.specs.Keeping.{WithOrWithout};
+ghost use Rattle.cat_journal.specs.Frames.{max_entries, payload_of, recovered, new_journal, frame as frame_of};
 ghost use Rattle.cat_journal.specs.Held.{first_payloads, outcome, IsHeld, IsHeld-prop, IsSafe, IsSafe-prop, IsTorn, IsTorn-prop};
 ghost use Rattle.cat_journal.specs.Reading.{OnlyReads, IsFaultOf};
 
@@ -105,7 +105,8 @@ impl<D: Disk + Send> Keeper for Journal<D> {
     ghost use Rattle.std.specs.Option.{option_map};
     ghost use Rattle.cat_journal.specs.Frames.{payload_of};
     ghost use Rattle.cat_journal.specs.Held.{first_payloads, outcome};
-    ghost use Rattle.cat_journal.specs.Laws.{safe_images, kept_image, torn_images, counted_payloads, none_flies, one_flies};
+    ghost use Rattle.cat_keeper.specs.KeeperLaws.{none_flies, one_flies};
+    ghost use Rattle.cat_journal.specs.Laws.{safe_images, kept_image, torn_images, counted_payloads};
 
     ghost told = { λ j. option_map (first_payloads (length j.gates.items)) (D.told j.disk) };
 

@@ -1,5 +1,5 @@
+pub mod KeeperLaws
 pub mod Keeping
 pub mod Listed
 pub mod MemoryKeepers
-pub mod MemoryLaws
 pub mod Moments

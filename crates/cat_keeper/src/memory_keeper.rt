@@ -75,7 +75,7 @@ impl Keeper for MemKeeper {
     ghost use Rattle.cat_keeper.specs.Moments.{Within};
     ghost use Rattle.cat_keeper.specs.Listed.{list_counts, list_only};
     ghost use Rattle.cat_keeper.specs.MemoryKeepers.{keeper_payloads, keeper_spare, keeper_failing, keeper_calls, keeper_next, next_fails, keeper_faults, keeper_down, keeper_in_flight, keeper_images, keeper_moment, keeper_left};
-    ghost use Rattle.cat_keeper.specs.MemoryLaws.{told_count, none_flies, one_flies};
+    ghost use Rattle.cat_keeper.specs.KeeperLaws.{told_count, none_flies, one_flies};
 
     ghost told = { λ k. Some (keeper_payloads k) };
 

@@ -1,4 +1,4 @@
--- The laws of a keeper in memory.
+-- What the laws of keepers rest on.
 use Rattle.std.specs.Prelude.{◌≡◌, ℕ, List, length, Option, Some, None}
 use Rattle.std.proofs.Common.{ap, sym}
 use Rattle.std.specs.Option.{option_map}
