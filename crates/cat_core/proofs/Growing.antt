@@ -1,7 +1,5 @@
 -- Commits that stay or are one more.
-use Rattle.std.proofs.Common.{◌≡◌, ℕ, suc, ◌-◌, List, ◌∷◌, length, drop, sym, ap, subst, arith}
-use Rattle.cat_names.specs.declared.hash.Hash.{Hash}
-use Rattle.cat_model.specs.declared.commit.Commit.{Commit}
+use Rattle.std.proofs.Common.{◌≡◌, ℕ, ◌-◌, List, length, drop, sym, ap, subst, arith}
 use Rattle.cat_model.specs.declared.log_entry.LogEntry.{LogEntry}
 use Rattle.cat_model.specs.declared.reference.Reference.{Reference}
 use Rattle.cat_model.specs.Book.{Book}
@@ -13,14 +11,8 @@ use Rattle.cat_core.specs.Making.{taking, with_entry}
 none_more : (n : ℕ) → n - n ≡ 0
 none_more n = omega arith
 
-one_more : (n : ℕ) → suc n - n ≡ 1
-one_more n = omega arith
-
 pub above_itself : (commits : Commits) → IsAbove commits commits
 above_itself commits = ap (λ (k : ℕ). drop k commits) (none_more (length commits))
-
-pub above_one : (x : Hash × Commit) (commits : Commits) → IsAbove commits (x ∷ commits)
-above_one x commits = ap (λ (k : ℕ). drop k (x ∷ commits)) (one_more (length commits))
 
 -- a book that stays, or only takes a draft number
 pub above_same : (book after : Book) → after ≡ book → IsAbove book.state.commits after.state.commits

@@ -1,7 +1,6 @@
 pub mod Asked
 pub mod Ids
 pub mod Steps
-pub mod Accepts
 pub mod Plain
 pub mod PlainCalls
 pub mod PlainMoves

@@ -1,21 +1,16 @@
 -- What a call brings for which commits were planned.
-use Rattle.std.proofs.Common.{◌≡◌, ◌<◌, ℕ, ◌+◌, List, [], ◌∷◌, Result, Ok, Err, false, IfErr, IfOk, OnErr, OnOk, refl, sym, ap, subst, ◌∙◌}
+use Rattle.std.proofs.Common.{◌≡◌, ◌<◌, ℕ, ◌+◌, Result, Ok, Err, false, IfErr, IfOk, OnErr, OnOk, refl, sym, ap, subst, ◌∙◌}
 use Rattle.sha2.specs.Sha256.{sha256}
-use Rattle.cat_names.specs.declared.hash.Hash.{Hash}
 use Rattle.cat_model.specs.declared.command.Command.{Command}
 use Rattle.cat_model.specs.declared.reply.Merged.{Merged}
 use Rattle.cat_model.specs.declared.reply.Reply.TheVariants as replies
 use Rattle.cat_model.specs.declared.reply.Told.{Told}
 use Rattle.cat_model.specs.Book.{Book, call_on}
 use Rattle.cat_model.specs.Calls.{Called}
-use Rattle.cat_model.specs.Merges as merges
-use Rattle.cat_model.specs.Merges.{planned_commit, with_planned}
-use Rattle.cat_model.specs.Records.{with_commit}
-use Rattle.cat_model.specs.State.{State, commit_hash}
+use Rattle.cat_model.specs.State.{State}
 use Rattle.cat_model.specs.Step.{head_told, logged_command}
 use Rattle.cat_state.specs.declared.failure.Failure.{Failure}
 use Rattle.cat_state.specs.Giving.{Fails, GivesAs}
-use Rattle.cat_state.specs.GivingLaws.{passed_by}
 use Rattle.cat_plans.specs.declared.outcome.Adding.{Adding}
 use Rattle.cat_plans.specs.declared.outcome.Outcome.{Outcome}
 use Rattle.cat_plans.specs.declared.outcome.Outcome.TheVariants.{Replied, Tried, Made}
@@ -25,7 +20,6 @@ use Rattle.cat_plans.specs.Outcomes.{ComesTo, IsLoggedAs, MayBeMade, MayFollow, 
 use Rattle.cat_core.specs.declared.logging.Turn.{Turn}
 use Rattle.cat_core.specs.Drafting.{IsPlannedFor, drafted_step, step_adding}
 use Rattle.cat_core.specs.Making.{Makes, entry_at, taking, with_entry}
-use Rattle.cat_core.proofs.Accepts.{commit_place}
 use Rattle.cat_core.proofs.Called.{step_done, step_fails, step_unchanged}
 
 -- a book has one entry more, of a call that is told so
@@ -59,15 +53,6 @@ pub planned_adds : (book before after : Book) (turn : Turn) (planned : Result Ou
 planned_adds book before after turn planned command logged told for is log step added =
     let own : IsAdded (taking book turn.draft) after turn logged told = subst (λ (b : Book). IsAdded b after turn logged told) is added in
     step_done turn.caller book after command logged turn.moment turn (head_told told.reply) told for.drafted step own.place for.turn_is log (sym (for.head told.reply)) own.book own.told_place
-
--- ---- its place
-
-pub planned_place : (moment : ℕ) (state : State) (head : Hash) (planned : List merges.Planned) (made : Hash × State) → with_planned sha256 moment state head planned ≡ Ok made → made.1.place ≡ state.place
-planned_place moment state head [] made e = let is : (head, state) ≡ made = cc in sym (ap (λ (x : Hash × State). x.1.place) is)
-planned_place moment state head (p ∷ planned) made e =
-    let commit = planned_commit state.commits head moment p in
-    passed_by (with_commit sha256 state commit) (λ more. with_planned sha256 moment more (commit_hash sha256 commit) planned) made (made.1.place ≡ state.place)
-    (λ more first rest. planned_place moment more (commit_hash sha256 commit) planned made rest ∙ commit_place state more commit first) e
 
 -- ---- no contents are gone
 

@@ -6,7 +6,7 @@ ghost use Rattle.cat_core.specs.Putting.{accepted_book, accepted_told, add_step,
 ghost use Rattle.cat_state.specs.Adding.{IsAbove};
 ghost use Rattle.cat_state.specs.Giving.{GivesAs};
 
-use crate::logging::{Turn, entry, push_entry, reserve_entry};
+use crate::logging::{Turn, entry, keep_or_cut_back};
 use crate::preparing::Prepared;
 use crate::store::Store;
 use cat_model::command::Command;
@@ -15,7 +15,8 @@ use cat_state::failure::Failure;
 use std::alloc::Global;
 
 impl Store {
-    /// Adds what was made, and its entry, or nothing. The draft number is taken in either case.
+    /// Adds what was made, keeps the entry of the call and moves the branch; or changes nothing. The
+    /// draft number is taken in either case.
     pub(crate) fn accept(
         &mut self,
         alloc: Global,
@@ -33,7 +34,7 @@ impl Store {
     {
         self.draft = turn.draft;
         let place = self.catalogue.place() + 1;
-        reserve_entry(&mut self.log)?;
+        let extent = self.catalogue.extent();
         let Prepared {
             hashes,
             kept,
@@ -41,15 +42,10 @@ impl Store {
             added,
             request,
         } = made;
-        self.catalogue.add(
-            alloc,
-            request.contents.as_slice(),
-            hashes.as_slice(),
-            kept,
-            &moved,
-        )?;
-        let command = Command::Commit(request);
-        push_entry(&mut self.log, entry(place, turn, command, Some(moved.head)));
+        self.catalogue.add_records(alloc, request.contents.as_slice(), hashes.as_slice(), kept)?;
+        let commit = entry(place, turn, Command::Commit(request), Some(moved.head));
+        keep_or_cut_back(&mut self.catalogue, &mut self.log, commit, extent)?;
+        self.catalogue.move_to(&moved);
         Ok(Told {
             place,
             reply: Reply::Committed(Committed {

@@ -1,13 +1,16 @@
 //! Entries of the log.
 
-ghost use Rattle.std.specs.Prelude.{◌≡◌, ◌<◌, ◌∷◌, OnOk, reverse};
-ghost use Rattle.std.specs.Vec.{vec_len, vec_capacity};
+ghost use Rattle.std.specs.Prelude.{◌≡◌, ◌∷◌, OnErr, OnOk, length, reverse};
+ghost use Rattle.cat_model.specs.State.{State};
+ghost use Rattle.cat_state.specs.Returning.{WasBefore, WasOfExtent};
 
 use cat_codes::fault::NoMemory;
 use cat_model::command::Command;
 use cat_model::log_entry::LogEntry;
 use cat_model::moment::Moment;
 use cat_names::hash::Hash;
+use cat_state::catalogue::Catalogue;
+use cat_state::extent::Extent;
 
 /// Who makes a call, the number of its draft, 0 where it opens none, and when.
 #[derive(Clone, Copy, Debug)]
@@ -31,21 +34,31 @@ pub(crate) fn entry(place: u32, turn: Turn, command: Command, head: Option<Hash>
     }
 }
 
-/// Takes memory for an entry.
-pub(crate) fn reserve_entry(log: &mut Vec<LogEntry>) -> Result<(), NoMemory>
-    ensures same { log.new.items ≡ log.old.items }
-    ensures room { OnOk result (vec_len log.new < vec_capacity log.new) }
+/// Keeps an entry in the log, or leaves the log as it is.
+pub(crate) fn keep(log: &mut Vec<LogEntry>, entry: LogEntry) -> Result<(), NoMemory>
+    ensures ok { OnOk result (reverse log.new.items ≡ entry ∷ reverse log.old.items) }
+    ensures stay { OnErr result (log.new.items ≡ log.old.items) }
 {
-    log.try_reserve(1)?;
+    log.push(entry)?;
     Ok(())
 }
 
-/// Adds an entry to a log that has room for it.
-pub(crate) fn push_entry(log: &mut Vec<LogEntry>, entry: LogEntry)
-    requires { vec_len log.old < vec_capacity log.old }
-    ensures { reverse log.new.items ≡ entry ∷ reverse log.old.items }
+/// Keeps an entry in the log, or takes away what was added for it since the catalogue held so much.
+pub(crate) fn keep_or_cut_back(
+    catalogue: &mut Catalogue,
+    log: &mut Vec<LogEntry>,
+    entry: LogEntry,
+    extent: Extent,
+) -> Result<(), NoMemory>
+    requires { WasOfExtent extent catalogue.old }
+    ensures same { OnOk result (catalogue.new ≡ catalogue.old) }
+    ensures ok { OnOk result (reverse log.new.items ≡ entry ∷ reverse log.old.items) }
+    ensures back { OnErr result ((before : State) → WasBefore before catalogue.old → length before.commits ≡ extent.commits → length before.present ≡ extent.contents → catalogue.new ≡ before) }
+    ensures stay { OnErr result (log.new.items ≡ log.old.items) }
 {
-    let Ok(()) = log.push(entry) else {
-        unreachable!()
-    };
+    let kept = keep(log, entry);
+    if kept.is_err() {
+        catalogue.cut_back(extent);
+    }
+    kept
 }

@@ -10,7 +10,7 @@ ghost use Rattle.cat_state.specs.Adding.{IsAbove};
 ghost use Rattle.cat_plans.specs.Expiring.{fails_expired};
 ghost use Rattle.cat_core.specs.Making.{Makes, entry_at, reference_told, with_entry};
 
-use crate::logging::{Turn, entry, push_entry, reserve_entry};
+use crate::logging::{Turn, entry, keep};
 use crate::referring::copy_reference;
 use crate::store::Store;
 use cat_codes::fault::NoMemory;
@@ -59,33 +59,36 @@ fn logged_delete(delete: &Delete) -> Result<Command, AllocError>
 }
 
 impl Store {
-    /// Adds a reference, and the entry of the call, which answers a copy of it; or nothing.
+    /// Adds a reference, and keeps the entry of the call, which answers a copy of it; or does
+    /// nothing.
     fn insert(
         &mut self,
         turn: Turn,
         command: Command,
         reference: Reference,
-        answer: Reference,
     ) -> Result<Told, NoMemory>
         requires place { self.old.state.place < 4294967295 }
         requires absent { reference_of self.old.state.references reference.name ≡ None }
         requires known { IsTrue (is_known sha256 self.old.state reference.head) }
-        ensures ok { OnOk result (self.new ≡ with_entry self.old (with_references self.old.state (with_reference self.old.state.references reference)) (entry_at self.old turn command (Some answer.head))) }
-        ensures told { IfOk result (λ told. told ≡ reference_told self.old answer) }
+        ensures ok { OnOk result (self.new ≡ with_entry self.old (with_references self.old.state (with_reference self.old.state.references reference)) (entry_at self.old turn command (Some reference.head))) }
+        ensures told { IfOk result (λ told. told ≡ reference_told self.old reference) }
         ensures err { OnErr result (self.new ≡ self.old) }
     {
         let place = self.catalogue.place() + 1;
-        reserve_entry(&mut self.log)?;
+        let answer = copy_reference(&reference)?;
         self.catalogue.insert(reference)?;
         let creation = entry(place, turn, command, Some(answer.head));
-        push_entry(&mut self.log, creation);
+        if let Err(fault) = keep(&mut self.log, creation) {
+            self.catalogue.take_back(&answer.name);
+            return Err(fault);
+        }
         Ok(Told {
             place,
             reply: Reply::Reference(answer),
         })
     }
 
-    /// Sets the reference of its name to this one, and adds the entry of the call; or does nothing.
+    /// Keeps the entry of the call, and sets the reference of its name to this one; or does nothing.
     fn move_to(&mut self, turn: Turn, command: Command, moved: Reference) -> Result<Told, NoMemory>
         requires place { self.old.state.place < 4294967295 }
         requires known { IsTrue (is_known sha256 self.old.state moved.head) }
@@ -94,18 +97,17 @@ impl Store {
         ensures err { OnErr result (self.new ≡ self.old) }
     {
         let place = self.catalogue.place() + 1;
-        reserve_entry(&mut self.log)?;
-        self.catalogue.move_to(&moved);
         let assignment = entry(place, turn, command, Some(moved.head));
-        push_entry(&mut self.log, assignment);
+        keep(&mut self.log, assignment)?;
+        self.catalogue.move_to(&moved);
         Ok(Told {
             place,
             reply: Reply::Reference(moved),
         })
     }
 
-    /// Removes the reference of a name, and adds the entry of the call, which answers what was
-    /// removed; or does nothing.
+    /// Keeps the entry of the call, which answers what is removed, and removes the reference of a
+    /// name; or does nothing.
     fn remove(
         &mut self,
         turn: Turn,
@@ -119,10 +121,9 @@ impl Store {
         ensures err { OnErr result (self.new ≡ self.old) }
     {
         let place = self.catalogue.place() + 1;
-        reserve_entry(&mut self.log)?;
-        self.catalogue.remove(name);
         let deletion = entry(place, turn, command, None);
-        push_entry(&mut self.log, deletion);
+        keep(&mut self.log, deletion)?;
+        self.catalogue.remove(name);
         Ok(Told {
             place,
             reply: Reply::Reference(removed),
@@ -144,9 +145,8 @@ impl Store {
     {
         self.catalogue().contents_are_held();
         let made = self.created(alloc, create)?;
-        let answer = copy_reference(&made)?;
         let command = logged_create(create)?;
-        let told = self.insert(undrafted(caller, moment), command, made, answer)?;
+        let told = self.insert(undrafted(caller, moment), command, made)?;
         Ok(told)
     }
 

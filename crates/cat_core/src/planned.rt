@@ -1,7 +1,6 @@
 //! Commits of plans, tried or made.
 
-ghost use Rattle.std.specs.Prelude.{◌≡◌, ◌<◌, ◌+◌, false, IfErr, IfOk, OnErr, OnOk};
-ghost use Rattle.std.specs.Vec.{vec_len, vec_capacity};
+ghost use Rattle.std.specs.Prelude.{◌≡◌, ◌<◌, ◌+◌, ◌∷◌, Some, false, IfErr, IfOk, OnErr, OnOk, reverse};
 ghost use Rattle.sha2.specs.Sha256.{sha256};
 ghost use Rattle.cat_model.specs.Book.{call_on};
 ghost use Rattle.cat_model.specs.Step.{head_told};
@@ -15,7 +14,7 @@ ghost use Rattle.cat_plans.specs.declared.outcome.Outcome.TheVariants as outcome
 ghost use Rattle.cat_core.specs.Drafting.{IsPlannedFor, step_adding};
 ghost use Rattle.cat_core.specs.Making.{Makes, entry_at, with_entry};
 
-use crate::logging::{Turn, entry, push_entry, reserve_entry};
+use crate::logging::{Turn, entry, keep_or_cut_back};
 use crate::store::Store;
 use cat_model::command::Command;
 use cat_model::log_entry::LogEntry;
@@ -26,31 +25,35 @@ use cat_state::catalogue::Catalogue;
 use cat_state::failure::Failure;
 use std::alloc::Global;
 
-/// Takes memory for an entry, adds the commits of plans and moves the branch to the last; or leaves
-/// the catalogue as it is. The reply tells the branch as it is left.
+/// Adds the commits of plans, keeps the entry of the call and moves the branch to the last; or leaves
+/// catalogue and log as they are. The reply tells the branch as it is left.
 fn add_commits(
     catalogue: &mut Catalogue,
     log: &mut Vec<LogEntry>,
     alloc: Global,
-    moment: Moment,
+    turn: Turn,
     adding: Adding,
+    command: Command,
 ) -> Result<Merged, Failure>
     requires place { catalogue.old.place < 4294967295 }
     requires may { MayFollow catalogue.old adding.merged.target.head adding.planned.items }
-    ensures step { GivesAs (λ merged. (catalogue.new, replies.Merged merged)) result (step_adding moment catalogue.old adding) }
+    ensures step { GivesAs (λ merged. (catalogue.new, replies.Merged merged)) result (step_adding turn.moment catalogue.old adding) }
     ensures place { OnOk result (catalogue.new.place ≡ catalogue.old.place + 1) }
     ensures stays { OnErr result (catalogue.new ≡ catalogue.old) }
     ensures later { IsAbove catalogue.old.commits catalogue.new.commits }
-    ensures same { log.new.items ≡ log.old.items }
-    ensures room { OnOk result (vec_len log.new < vec_capacity log.new) }
+    ensures kept { IfOk result (λ merged. reverse log.new.items ≡ record { place = catalogue.old.place + 1; caller = turn.caller; draft = turn.draft; moment = turn.moment; command = command; head = Some merged.target.head } ∷ reverse log.old.items) }
+    ensures same { OnErr result (log.new.items ≡ log.old.items) }
 {
-    reserve_entry(log)?;
+    let place = catalogue.place() + 1;
+    let extent = catalogue.extent();
     let Adding {
         planned,
         mut merged,
     } = adding;
-    let head = catalogue.add_planned(alloc, moment, &merged.target.head, planned)?;
+    let head = catalogue.add_planned(alloc, turn.moment, &merged.target.head, planned)?;
     merged.target.head = head;
+    let made = entry(place, turn, command, Some(head));
+    keep_or_cut_back(catalogue, log, made, extent)?;
     catalogue.move_to(&merged.target);
     Ok(merged)
 }
@@ -102,17 +105,14 @@ impl Store {
             &mut self.catalogue,
             &mut self.log,
             alloc,
-            turn.moment,
+            turn,
             adding,
+            command,
         ) {
-            Ok(merged) => {
-                let head = merged.target.head;
-                push_entry(&mut self.log, entry(place, turn, command, Some(head)));
-                Ok(Told {
-                    place,
-                    reply: Reply::Merged(merged),
-                })
-            }
+            Ok(merged) => Ok(Told {
+                place,
+                reply: Reply::Merged(merged),
+            }),
             Err(failure) => Err(failure),
         }
     }

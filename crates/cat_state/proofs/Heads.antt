@@ -1,10 +1,10 @@
 -- Where references point.
-use Rattle.std.proofs.Common.{◌≡◌, ℕ, List, [], ◌∷◌, Option, Some, Bool, true, false, cond, ◌||◌, IsTrue, is_some, refl, sym, subst, ◌⊎◌, inl, inr, ⊎_elim}
+use Rattle.std.proofs.Common.{◌≡◌, ℕ, List, [], ◌∷◌, Option, Some, Bool, true, false, cond, ◌||◌, IsTrue, is_some, refl, subst, ◌⊎◌, inl, inr, ⊎_elim}
 use Rattle.std.proofs.lemmas.Option.{same_Some}
 use Rattle.std.specs.Str.{bytes_eq}
 use Rattle.sha2.specs.Sha256.{sha256}
 use Rattle.cat_names.specs.declared.hash.Hash.{Hash}
-use Rattle.cat_tables.specs.ReferenceLaws.{and_true, both_true, heads_kept_moved}
+use Rattle.cat_tables.specs.ReferenceLaws.{and_true, both_true}
 use Rattle.cat_tables.specs.References.{heads_pass}
 use Rattle.cat_graph.specs.GraphLaws.{same_is}
 use Rattle.cat_graph.specs.Linked.{AreLinked, is_known}
@@ -15,7 +15,7 @@ use Rattle.cat_model.specs.declared.reference.Reference.{Reference}
 use Rattle.cat_model.specs.Chain.{Commits, commit_of, on_chain}
 use Rattle.cat_model.specs.Maps.{Map}
 use Rattle.cat_model.specs.Same.{same_hash}
-use Rattle.cat_model.specs.State.{no_ancestor, moved_reference, reference_of}
+use Rattle.cat_model.specs.State.{no_ancestor, reference_of}
 use Rattle.cat_state.specs.Keeping.{AreKept, IsCatalogue, have_contents}
 
 -- ---- what is known
@@ -82,11 +82,3 @@ pub catalogue_grown : (limits : Limits) (references : List Reference) (older com
     → ((h : Hash) → IsTrue (is_known older h) → IsTrue (is_known commits h)) → IsTrue (have_contents contents more) → IsCatalogue limits references commits more contents
 catalogue_grown limits references older commits maps more present contents is kept grows held =
     record { log_bound = is.log_bound; commits_bound = is.commits_bound; kept = kept; heads = heads_more older commits references grows is.heads; held = held }
-
--- more commits and contents, and a reference that is moved to one of the commits
-pub catalogue_after : (limits : Limits) (references : List Reference) (older commits : Commits) (maps more : List (Hash × Map)) (present contents : List (Hash × Content)) (moved : Reference) (hash : Hash) → IsCatalogue limits references older maps present → AreKept more commits
-    → ((h : Hash) → IsTrue (is_known older h) → IsTrue (is_known commits h)) → IsTrue (is_known commits hash) → moved.head ≡ hash → IsTrue (have_contents contents more) → IsCatalogue limits (moved_reference references moved) commits more contents
-catalogue_after limits references older commits maps more present contents moved hash is kept grows known e held =
-    let head = subst (λ (h : Hash). IsTrue (is_known commits h)) (sym e) known in
-    let grown = catalogue_grown limits references older commits maps more present contents is kept grows held in
-    catalogue_with limits references (moved_reference references moved) commits more contents grown (heads_kept_moved (is_known commits) references moved head grown.heads)

@@ -7,3 +7,4 @@ pub mod Turns
 pub mod Held
 pub mod Sets
 pub mod Upon
+pub mod Back

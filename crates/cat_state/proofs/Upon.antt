@@ -1,20 +1,16 @@
--- Commits that are there already, commits upon others, and commits that are cut away.
-use Rattle.std.proofs.Common.{◌≡◌, ℕ, zero, suc, ◌+◌, ◌-◌, max, List, [], ◌∷◌, ◌++◌, drop, length, Option, Some, None, Result, Ok, Err, Bool, true, false, cond, codes, nat_eq, IsTrue, refl, sym, ap, subst, ◌∙◌}
+-- Commits that are there already, and commits upon others.
+use Rattle.std.proofs.Common.{◌≡◌, ℕ, ◌+◌, max, List, [], ◌∷◌, ◌++◌, Option, Some, None, Result, Ok, Err, Bool, true, false, cond, codes, nat_eq, IsTrue, refl, sym, ap, subst, ◌∙◌}
 use Rattle.std.specs.List.{list_all}
 use Rattle.std.proofs.lemmas.Option.{same_Some}
 use Rattle.sha2.specs.Sha256.{sha256}
 use Rattle.cat_codes.specs.declared.fault.FieldFault.{FieldFault}
 use Rattle.cat_names.specs.declared.hash.Hash.{Hash}
-use Rattle.cat_tables.specs.ReferenceLaws.{and_true}
-use Rattle.cat_tables.specs.References.{heads_pass}
 use Rattle.cat_graph.specs.GraphLaws.{apart, entries_before, entries_new, same_is}
 use Rattle.cat_graph.specs.Linked.{AreLinked, is_known, is_merge_known, merge_generation}
 use Rattle.cat_merge.specs.declared.plan.Planned.{Planned}
 use Rattle.cat_merge.specs.Planned.{as_planned}
 use Rattle.cat_model.specs.declared.commit.Commit.{Commit}
 use Rattle.cat_model.specs.declared.content.Content.{Content}
-use Rattle.cat_model.specs.declared.limits.Limits.{Limits}
-use Rattle.cat_model.specs.declared.reference.Reference.{Reference}
 use Rattle.cat_model.specs.declared.refusal.Refusal.{Refusal}
 use Rattle.cat_model.specs.Chain.{Commits, commit_of, entries, generation}
 use Rattle.cat_model.specs.FormatLaws.{commit_is}
@@ -28,11 +24,11 @@ use Rattle.cat_model.specs.Refusing.{◌>>=◌}
 use Rattle.cat_model.specs.Same.{same_hash}
 use Rattle.cat_model.specs.State.{State, commit_hash}
 use Rattle.cat_state.specs.declared.failure.Failure.{Failure}
-use Rattle.cat_state.specs.Adding.{IsAbove, keeping}
+use Rattle.cat_state.specs.Adding.{keeping}
 use Rattle.cat_state.specs.Giving.{Fails}
 use Rattle.cat_state.specs.GivingLaws.{fails_on}
 use Rattle.cat_state.specs.HeldLaws.{all_more}
-use Rattle.cat_state.specs.Keeping.{AreKept, IsCatalogue, MayBeAdded, have_contents, has_contents}
+use Rattle.cat_state.specs.Keeping.{MayBeAdded}
 use Rattle.cat_state.specs.Planning.{IsMadeUpon}
 use Rattle.cat_state.specs.KeepingLaws.{next_of_one}
 use Rattle.cat_state.proofs.Heads.{known_more}
@@ -93,34 +89,6 @@ pub entries_at : (commits : Commits) (hash : Hash) (c : Commit) → AreLinked co
 entries_at [] hash c are e = absurd cc
 entries_at (x ∷ older) hash c are e = changed_by (same_hash x.0 hash) x older hash c refl are (entries_at older hash c are.2) e
 
--- ---- catalogues
-
-pub as_many : (maps : List (Hash × Map)) (commits : Commits) → AreKept maps commits → length maps ≡ length commits
-as_many [] [] are = refl
-as_many [] (x ∷ older) are = absurd are
-as_many (m ∷ maps) [] are = absurd are
-as_many (m ∷ maps) (x ∷ older) are = ap suc (as_many maps older are.1)
-
-kept_less : (n : ℕ) (maps : List (Hash × Map)) (commits : Commits) → AreKept maps commits → AreKept (drop n maps) (drop n commits)
-kept_less zero maps commits are = are
-kept_less (suc n) [] [] are = tt
-kept_less (suc n) [] (x ∷ older) are = absurd are
-kept_less (suc n) (m ∷ maps) [] are = absurd are
-kept_less (suc n) (m ∷ maps) (x ∷ older) are = kept_less n maps older are.1
-
-held_less : (contents : List (Hash × Content)) (n : ℕ) (maps : List (Hash × Map)) → have_contents contents maps ≡ true → have_contents contents (drop n maps) ≡ true
-held_less contents zero maps are = are
-held_less contents (suc n) [] are = refl
-held_less contents (suc n) (m ∷ maps) are = held_less contents n maps (and_true (has_contents contents m.1) (have_contents contents maps) are).1
-
--- the first of them, which references point at
-pub catalogue_cut : (limits : Limits) (references : List Reference) (commits fewer : Commits) (maps less : List (Hash × Map)) (contents : List (Hash × Content)) (count : ℕ) → IsCatalogue limits references commits maps contents
-    → fewer ≡ drop (length commits - count) commits → less ≡ drop (length maps - count) maps → IsTrue (heads_pass (is_known (drop (length commits - count) commits)) references) → IsCatalogue limits references fewer less contents
-catalogue_cut limits references commits fewer maps less contents count is cut also heads =
-    let n = length commits - count in
-    let less_is : less ≡ drop n maps = also ∙ ap (λ (k : ℕ). drop (k - count) maps) (as_many maps commits is.kept) in
-    rw (cut, less_is) (record { log_bound = is.log_bound; commits_bound = is.commits_bound; kept = kept_less n maps commits is.kept; heads = heads; held = held_less contents n maps is.held })
-
 -- ---- one plan of many
 
 merge_known : (older commits : Commits) (merge_parent : Option Hash) → ((h : Hash) → IsTrue (is_known older h) → IsTrue (is_known commits h)) → is_merge_known older merge_parent ≡ true → is_merge_known commits merge_parent ≡ true
@@ -156,20 +124,6 @@ planned_may_be_added present commits head moment p c map known merged made is sa
   changed = same ∙ made.changed;
   well_formed = subst (λ (m : Map). IsTrue (is_well_formed m)) (sym same) made.well_formed;
 })
-
--- ---- what is cut away again
-
-pub back_known : (state after : State) (count : ℕ) → after ≡ keeping after.commits state → IsAbove state.commits after.commits → count ≡ length state.commits → IsTrue (heads_pass (is_known state.commits) state.references)
-    → IsTrue (heads_pass (is_known (drop (length after.commits - count) after.commits)) after.references)
-back_known state after count others above is heads =
-    let same : after.references ≡ state.references = ap (λ (s : State). s.references) others in
-    let fewer : drop (length after.commits - count) after.commits ≡ state.commits = ap (λ (n : ℕ). drop (length after.commits - n) after.commits) is ∙ above in
-    subst (λ (l : Commits). IsTrue (heads_pass (is_known l) after.references)) (sym fewer) (subst (λ (l : List Reference). IsTrue (heads_pass (is_known state.commits) l)) (sym same) heads)
-
-pub back_is : (state after last : State) (count : ℕ) → after ≡ keeping after.commits state → IsAbove state.commits after.commits → count ≡ length state.commits → last ≡ keeping (drop (length after.commits - count) after.commits) after → last ≡ state
-back_is state after last count others above is cut =
-    let fewer : drop (length after.commits - count) after.commits ≡ state.commits = ap (λ (n : ℕ). drop (length after.commits - n) after.commits) is ∙ above in
-    cut ∙ ap (λ (l : Commits). keeping l after) fewer ∙ ap (λ (s : State). keeping state.commits s) others
 
 -- ---- one commit more, from the parts of a catalogue
 

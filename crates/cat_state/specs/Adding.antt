@@ -1,5 +1,5 @@
 -- States with more contents, commits and entries.
-use Rattle.std.specs.Prelude.{◌≡◌, List, ◌-◌, Result, Ok, length, drop, map}
+use Rattle.std.specs.Prelude.{◌≡◌, List, ◌-◌, Result, length, drop, map}
 use Rattle.sha2.specs.Sha256.{sha256}
 use Rattle.cat_names.specs.declared.hash.Hash.{Hash}
 use Rattle.cat_model.specs.declared.commit.Commit.{Commit}
@@ -43,10 +43,3 @@ with_both state contents c = with_contents sha256 state contents >>= λ held. wi
 -- a state with an entry more, and a reference moved
 abbrev pub moved_state : State → Reference → State
 moved_state state moved = with_references state (moved_reference state.references moved)
-
--- a state with more contents, then one more commit, then an entry more and a reference moved
-abbrev pub with_all : State → List Content → Commit → Reference → Result State Refusal
-with_all state contents c moved =
-    with_contents sha256 state contents >>= λ held.
-    with_commit sha256 held c >>= λ more.
-    Ok (moved_state more moved)

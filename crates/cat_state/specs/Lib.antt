@@ -3,6 +3,7 @@ pub mod KeepingLaws
 pub mod Giving
 pub mod GivingLaws
 pub mod Adding
+pub mod Returning
 pub mod PlainLaws
 pub mod Turning
 pub mod HeldLaws

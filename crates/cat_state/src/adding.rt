@@ -191,6 +191,7 @@ fn add_in_turn(
     requires written { IsRecordOf made.commit made.written }
     ensures step { (s : State) → GivesAs (λ _. keeping commits.new.list (holding contents.new.list s)) result (with_both (keeping commits.old.list (holding contents.old.list s)) more.now made.commit) }
     ensures above { IsAbove contents.old.list contents.new.list }
+    ensures commits_above { (older : Commits) → IsAbove older commits.old.list → IsAbove older commits.new.list }
     ensures kept { AreKept maps.new.list commits.new.list }
     ensures grows { (hash : Hash) → IsTrue (is_known commits.old.list hash) → IsTrue (is_known commits.new.list hash) }
     ensures held { HoldsMore made.map maps.old.list maps.new.list }
@@ -220,6 +221,8 @@ pub(crate) fn add_all(
     requires next { MayBeAdded commits.old.list made.commit made.map }
     requires written { IsRecordOf made.commit made.written }
     ensures step { (s : State) → GivesAs (λ _. keeping commits.new.list (holding contents.new.list s)) result (with_both (keeping commits.old.list (holding contents.old.list s)) more.now made.commit) }
+    ensures above { OnOk result (IsAbove contents.old.list contents.new.list) }
+    ensures commits_above { (older : Commits) → IsAbove older commits.old.list → IsAbove older commits.new.list }
     ensures kept { AreKept maps.new.list commits.new.list }
     ensures grows { (hash : Hash) → IsTrue (is_known commits.old.list hash) → IsTrue (is_known commits.new.list hash) }
     ensures held { HoldsMore made.map maps.old.list maps.new.list }

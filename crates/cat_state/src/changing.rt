@@ -4,10 +4,12 @@ ghost use Rattle.std.specs.Prelude.{◌≡◌, ◌<◌, None, IsTrue, OnOk, OnEr
 ghost use Rattle.std.specs.List.{list_all};
 ghost use Rattle.sha2.specs.Sha256.{sha256};
 ghost use Rattle.cat_model.specs.Moves.{with_references};
-ghost use Rattle.cat_model.specs.State.{is_known, moved_reference, reference_of, with_reference, without_reference};
-ghost use Rattle.cat_state.specs.Adding.{AreHashesOf, IsRecordOf, with_all};
+ghost use Rattle.cat_model.specs.State.{State, is_known, moved_reference, reference_of, with_reference, without_reference};
+ghost use Rattle.cat_model.specs.declared.reference.Reference.{Reference};
+ghost use Rattle.cat_state.specs.Adding.{AreHashesOf, IsRecordOf, with_both};
 ghost use Rattle.cat_state.specs.Giving.{GivesAs};
 ghost use Rattle.cat_state.specs.Keeping.{MayBeAdded, is_held};
+ghost use Rattle.cat_state.specs.Returning.{WasBefore};
 
 use crate::adding::add_all;
 use crate::catalogue::Catalogue;
@@ -35,24 +37,23 @@ pub(crate) fn reserve(commits: &mut Graph, maps: &mut Maps) -> Result<(), NoMemo
 }
 
 impl Catalogue {
-    /// Adds contents, given their hashes, then a commit and the map at it, then an entry, and moves
-    /// a reference to the commit; or does nothing, where one is refused or memory runs out.
-    pub fn add(
+    /// Adds contents, given their hashes, then a commit and the map at it; or adds nothing, where
+    /// one is refused or memory runs out.
+    pub fn add_records(
         &mut self,
         alloc: Global,
         contents: &[Content],
         hashes: &[Hash],
         made: NewCommit,
-        moved: &Reference,
     ) -> Result<(), Failure>
-        requires place { self.old.place < 4294967295 }
         requires hashes { AreHashesOf hashes.now contents.now }
         requires next { MayBeAdded self.old.commits made.commit made.map }
         requires written { IsRecordOf made.commit made.written }
-        requires head { moved.now.head ≡ made.written.hash }
         requires held { IsTrue (list_all (λ x. is_held self.old.present hashes.now x.1.hash) made.map) }
-        ensures step { GivesAs (λ _. self.new) result (with_all self.old contents.now made.commit moved.now) }
-        ensures err { OnErr result (self.new ≡ self.old) }
+        ensures step { GivesAs (λ _. self.new) result (with_both self.old contents.now made.commit) }
+        ensures stay { OnErr result (self.new ≡ self.old) }
+        ensures before { OnOk result (WasBefore self.old self.new) }
+        ensures known { OnOk result (IsTrue (is_known sha256 self.new made.written.hash)) }
     {
         reserve(&mut self.commits, &mut self.maps)?;
         add_all(
@@ -64,8 +65,6 @@ impl Catalogue {
             hashes,
             made,
         )?;
-        self.place += 1;
-        self.references.set(moved);
         Ok(())
     }
 
@@ -81,6 +80,15 @@ impl Catalogue {
         self.references.insert(reference);
         self.place += 1;
         Ok(())
+    }
+
+    /// Takes away again a reference that was inserted last, and its entry.
+    pub fn take_back(&mut self, name: &RefName)
+        requires { 0 < self.old.place }
+        ensures { (before : State) (r : Reference) → reference_of before.references r.name ≡ None → r.name ≡ name.now → self.old ≡ with_references before (with_reference before.references r) → self.new ≡ before }
+    {
+        self.references.remove(name);
+        self.place -= 1;
     }
 
     /// Sets the reference of its name to this one, and adds an entry.

@@ -1,6 +1,6 @@
 //! Commits of plans, each upon the one before.
 
-ghost use Rattle.std.specs.Prelude.{◌≡◌, ◌≤◌, ◌<◌, ◌+◌, ◌-◌, IfOk, IsTrue, OnErr, drop, length, map};
+ghost use Rattle.std.specs.Prelude.{◌≡◌, ◌≤◌, ◌<◌, ◌+◌, IfOk, IsTrue, OnErr, OnOk, length, map};
 ghost use Rattle.std.specs.List.{list_all};
 ghost use Rattle.sha2.specs.Sha256.{sha256};
 ghost use Rattle.cat_names.specs.declared.hash.Hash.{Hash};
@@ -8,13 +8,12 @@ ghost use Rattle.cat_model.specs.Chain.{Commits, entries};
 ghost use Rattle.cat_model.specs.Merges.{generation_after, planned_commit, with_planned};
 ghost use Rattle.cat_model.specs.Records.{with_commit};
 ghost use Rattle.cat_model.specs.State.{commit_hash, is_known};
-ghost use Rattle.cat_tables.specs.References.{heads_pass};
 ghost use Rattle.cat_graph.specs.Linked.{is_merge_known};
-ghost use Rattle.cat_graph.specs.Linked as graph;
 ghost use Rattle.cat_merge.specs.Planned.{as_planned};
 ghost use Rattle.cat_state.specs.Adding.{IsAbove, IsRecordOf, keeping};
 ghost use Rattle.cat_state.specs.Giving.{Gives, GivesAs};
 ghost use Rattle.cat_state.specs.Planning.{AreMadeUpon, IsMadeUpon, needs_planned};
+ghost use Rattle.cat_state.specs.Returning.{WasBefore};
 
 use crate::adding::add_commit;
 use crate::catalogue::Catalogue;
@@ -130,15 +129,6 @@ impl Catalogue {
         Ok(at)
     }
 
-    /// Keeps the commits that were added first, so many, which references point at.
-    fn cut(&mut self, count: usize)
-        requires { IsTrue (heads_pass (graph.is_known (drop (length self.old.commits - count) self.old.commits)) self.old.references) }
-        ensures { self.new ≡ keeping (drop (length self.old.commits - count) self.old.commits) self.old }
-    {
-        self.commits.cut(count);
-        self.maps.cut(count);
-    }
-
     /// Adds the commits of plans, each upon the one before and the first upon a head, with the map
     /// at each, and gives the last one's hash; or adds nothing, where one is refused or memory runs
     /// out.
@@ -157,12 +147,12 @@ impl Catalogue {
         ensures stay { OnErr result (self.new ≡ self.old) }
         ensures known { IfOk result (λ hash. IsTrue (is_known sha256 self.new hash)) }
         ensures above { IsAbove self.old.commits self.new.commits }
+        ensures before { OnOk result (WasBefore self.old self.new) }
     {
-        let count = self.commits().len();
-        let _ = self.references();
+        let extent = self.extent();
         let added = self.add_each(alloc, moment, head, planned);
         if added.is_err() {
-            self.cut(count);
+            self.cut_back(extent);
         }
         added
     }
@@ -182,10 +172,9 @@ impl Catalogue {
         ensures test { Gives result (needs_planned moment self.old head.now (map as_planned planned.items)) }
         ensures stays { self.new ≡ self.old }
     {
-        let before = self.commits().len();
-        let _ = self.references();
+        let extent = self.extent();
         let tried = self.add_each(alloc, moment, head, planned);
-        self.cut(before);
+        self.cut_back(extent);
         tried?;
         Ok(())
     }

@@ -1,8 +1,7 @@
-use Rattle.std.proofs.Common.{Some, refl, ap}
+use Rattle.std.proofs.Common.{Some, refl}
 use Rattle.std.proofs.lemmas.Result.{err_from_is_err_and}
 use Rattle.sha2.specs.Sha256.{sha256}
 use Rattle.cat_model.specs.declared.command.Command.TheVariants as commands
-use Rattle.cat_model.specs.declared.reference.Reference.{Reference}
 use Rattle.cat_model.specs.Moves.{step_create, with_references}
 use Rattle.cat_model.specs.State.{with_reference}
 use Rattle.cat_core.proofs.PlainMoves.{plain_create}
@@ -21,9 +20,8 @@ pub returns-clause-call : goal.returns-clause-call
 returns-clause-call c =
     let state = c.args.self.now.state in
     let made = c.in_ok-made.made in
-    undrafted_done c.args.caller c.args.self.now c.insert.new.self (commands.Create c.args.create.now) c.in_ok-command.command c.args.moment c.undrafted.result (with_references state (with_reference state.references made)) made (Some c.in_ok-answer.answer.head) c.in_ok-told.told
-    (record { opens = refl; passes = refl }) c.in_ok-made.ensures.step refl c.undrafted.ensures c.in_ok-command.ensures (ap (λ (r : Reference). Some r.head) c.in_ok-answer.ensures)
-    c.in_ok-told.ensures.ok (rw c.in_ok-answer.ensures at c.in_ok-told.ensures.told)
+    undrafted_done c.args.caller c.args.self.now c.insert.new.self (commands.Create c.args.create.now) c.in_ok-command.command c.args.moment c.undrafted.result (with_references state (with_reference state.references made)) made (Some made.head) c.in_ok-told.told
+    (record { opens = refl; passes = refl }) c.in_ok-made.ensures.step refl c.undrafted.ensures c.in_ok-command.ensures refl c.in_ok-told.ensures.ok c.in_ok-told.ensures.told
 
 pub returns-in_err-made-clause-there : goal.returns-in_err-made-clause-there
 returns-in_err-made-clause-there c =

@@ -1,6 +1,11 @@
-use Rattle.std.proofs.Common.{length, ap, ◌∙◌}
-use Rattle.cat_state.proofs.Upon.{back_known}
+use Rattle.std.proofs.Common.{sym}
+use Rattle.cat_state.proofs.Back.{was_fewer}
 use Rattle.cat_state.proofs.catalogue.Catalogue.add_planned.Goals as goal
 
-pub cut-requires : goal.cut-requires
-cut-requires c = back_known c.args.self.now c.add_each-added.new.self c.len-count.result c.add_each-added.ensures.others c.add_each-added.ensures.above (c.len-count.ensures ∙ ap length c.commits.ensures.list) c.references.ensures.heads
+pub cut_back-requires : goal.cut_back-requires
+cut_back-requires c = record {
+  before = c.args.self.now;
+  was = was_fewer c.args.self.now c.add_each-added.new.self c.extent-extent.ensures.before c.add_each-added.ensures.others c.add_each-added.ensures.above;
+  commits = sym c.extent-extent.ensures.commits;
+  contents = sym c.extent-extent.ensures.contents;
+}

@@ -1,4 +1,4 @@
-use Rattle.std.proofs.Common.{◌≡◌, ◌∙◌, sym, ap}
+use Rattle.std.proofs.Common.{◌∙◌, sym, ap}
 use Rattle.cat_model.specs.Maps.{Map, entry_of}
 use Rattle.cat_state.specs.Keeping.{found_map}
 use Rattle.cat_state.proofs.Kept.{map_is}

@@ -1,4 +1,4 @@
-use Rattle.std.proofs.Common.{◌≡◌, ◌∙◌, length, sym, ap}
+use Rattle.std.proofs.Common.{◌∙◌, length, sym, ap}
 use Rattle.cat_state.specs.Keeping.{found_map}
 use Rattle.cat_state.proofs.Kept.{map_is}
 use Rattle.cat_state.proofs.catalogue.Catalogue.keys_at.Goals as goal
