@@ -1,0 +1,85 @@
+-- Entries that a book may be led on by, and the book that a log of them leads to.
+use Rattle.std.specs.Prelude.{ℕ, ◌+◌, max, List, [], ◌∷◌, Option, Some, None, Result, Ok, Err, Bool, false, ◌&&◌, ◌||◌, not, nat_eq, if◌then◌else◌}
+use Rattle.std.specs.List.{list_any}
+use Rattle.std.specs.Str.{bytes_eq}
+use Rattle.cat_codes.specs.declared.fault.FieldFault.{FieldFault}
+use Rattle.cat_codes.specs.Code.{whole}
+use Rattle.cat_model.specs.declared.log_entry.LogEntry.{LogEntry}
+use Rattle.cat_model.specs.Book.{Book, after_call}
+use Rattle.cat_model.specs.Calls.{Called, unchanged_by, stepped}
+use Rattle.cat_model.specs.Refusing.{◌>>=◌, Tested}
+use Rattle.cat_model.specs.State.{Digest}
+use Rattle.cat_model.specs.Step.{Turn, opens_draft, opening, step}
+use Rattle.cat_model.specs.WellMade.{is_well_made}
+use Rattle.cat_frames.specs.Entries.{log_entry_code}
+
+-- ---- an entry's call
+
+-- when the call of an entry was made: in its draft, begun at the book's place, at its moment
+abbrev pub turn_of : Book → LogEntry → Turn
+turn_of book entry = record { draft = entry.draft; opened = book.state.place; moment = entry.moment }
+
+-- the last draft number with that of the entry
+abbrev pub draft_after : Book → LogEntry → ℕ
+draft_after book entry = max book.draft entry.draft
+
+-- what the call of an entry brings, by the outcome of the tests before its draft
+abbrev pub replayed_by : Digest → Book → LogEntry → Tested → Called
+replayed_by digest book entry (Err why) = unchanged_by book.state (draft_after book entry) (Err why)
+replayed_by digest book entry (Ok _) =
+    let turn = turn_of book entry in
+    stepped digest 0 book.state (draft_after book entry) entry.command turn (step digest book.state entry.command turn)
+
+-- what the call of an entry brings on a book, by nobody: as each call, but that its draft number is given, and no limit of these is tested
+unfoldable pub replayed_call : Digest → Book → LogEntry → Called
+replayed_call digest book entry = replayed_by digest book entry (opening digest book.state entry.command)
+
+-- ---- legal entries
+
+-- the number is 0, or no entry has it
+abbrev pub draft_is_new : List LogEntry → ℕ → Bool
+draft_is_new log draft = nat_eq draft 0 || not (list_any (λ entry. nat_eq draft entry.draft) log)
+
+-- the draft is 0 exactly where the call opens none
+abbrev pub has_its_draft : LogEntry → Bool
+has_its_draft entry = if opens_draft entry.command then not (nat_eq entry.draft 0) else nat_eq entry.draft 0
+
+-- both entries have one spelling; who called isn't spelled
+abbrev pub are_spelled_alike : Digest → LogEntry → LogEntry → Bool
+are_spelled_alike digest a b = bytes_eq ((log_entry_code digest).spell a) ((log_entry_code digest).spell b)
+
+-- just this entry
+abbrev pub is_just : Digest → LogEntry → List LogEntry → Bool
+is_just digest entry [] = false
+is_just digest entry (logged ∷ []) = are_spelled_alike digest logged entry
+is_just digest entry (logged ∷ another ∷ more) = false
+
+-- the command is well made, the draft number is the call's and new, and what the call brings is logged as just this entry
+unfoldable pub is_legal : Digest → Book → LogEntry → Bool
+is_legal digest book entry =
+    is_well_made digest entry.command
+    && has_its_draft entry
+    && draft_is_new book.log entry.draft
+    && is_just digest entry (replayed_call digest book entry).logged
+
+-- the book that a legal entry leads to
+unfoldable pub next_book : Digest → Book → LogEntry → Option Book
+next_book digest book entry = if is_legal digest book entry then Some (after_call book (replayed_call digest book entry)) else None
+
+-- ---- logs
+
+-- the book that a payload leads to, by its reading
+abbrev pub read_next : Digest → Book → Result LogEntry FieldFault → Option Book
+read_next digest book (Err fault) = None
+read_next digest book (Ok entry) = next_book digest book entry
+
+-- the book, or the place at which there is none
+abbrev pub or_at : ℕ → Option Book → Result Book ℕ
+or_at place None = Err place
+or_at place (Some book) = Ok book
+
+-- the book that payloads lead to, the first of them at the place after this one; or the place of the first that is no entry or isn't legal
+abbrev pub replayed : Digest → Book → ℕ → List (List ℕ) → Result Book ℕ
+replayed digest book place [] = Ok book
+replayed digest book place (payload ∷ payloads) =
+    or_at (place + 1) (read_next digest book (whole (log_entry_code digest) payload)) >>= λ next. replayed digest next (place + 1) payloads
