@@ -6,3 +6,4 @@ pub mod Standing
 pub mod Answering
 pub mod Reading
 pub mod Starting
+pub mod Given

@@ -12,6 +12,7 @@ use crate::status::Status;
 use cat_core::Store;
 use cat_http::write_all;
 use cat_io::{Clock, Disks, Listener, Sink, Source};
+use cat_keeper::MemKeeper;
 use cat_model::limits::Limits;
 use cat_words::{Asked, WordsFault, asked_of};
 use std::alloc::Global;
@@ -96,7 +97,8 @@ fn script<S: Source, K: Sink, C: Clock>(
     ensures read { result ≡ Status.ReadFault → Rose (S.faults source.old) (S.faults source.new) }
     ensures write { result ≡ Status.WriteFault → Rose (K.faults sink.old) (K.faults sink.new) }
 {
-    let Ok(mut store) = Store::new(alloc, Limits::program()) else {
+    let keeper = MemKeeper::new(alloc, Vec::new(alloc));
+    let Ok(mut store) = Store::new(alloc, keeper, Limits::program()) else {
         tell(sink, b"nessie: no memory\n");
         return Status::NoMemory;
     };

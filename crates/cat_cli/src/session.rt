@@ -11,6 +11,7 @@ use crate::ending::Session;
 use cat_core::Store;
 use cat_http::{Buffer, Incoming, read_request};
 use cat_io::{Clock, Sink, Source};
+use cat_keeper::MemKeeper;
 use cat_model::refusal::{Reason, Refusal};
 use cat_rest::Routes;
 use std::alloc::Global;
@@ -23,7 +24,7 @@ const MOST: u64 = 1000;
 fn turn<S: Source, K: Sink, C: Clock>(
     alloc: Global,
     routes: &Routes,
-    store: &mut Store,
+    store: &mut Store<MemKeeper>,
     buffer: &mut Buffer,
     source: &mut S,
     sink: &mut K,
@@ -31,10 +32,10 @@ fn turn<S: Source, K: Sink, C: Clock>(
     left: u64,
 ) -> Option<Session>
     ensures on { IfNone result ((k : Readings) (c : Point) → c.left ≡ left + 1
-        → Stands k c store.old (C.ahead clock.old) (prepend_known buffer.old.unread (S.left source.old)) (K.held sink.old)
-        → (t : Turn) × GoesTo k c left t store.new (C.ahead clock.new) (prepend_known buffer.new.unread (S.left source.new)) (K.held sink.new)) }
+        → Stands k c store.old.book (C.ahead clock.old) (prepend_known buffer.old.unread (S.left source.old)) (K.held sink.old)
+        → (t : Turn) × GoesTo k c left t store.new.book (C.ahead clock.new) (prepend_known buffer.new.unread (S.left source.new)) (K.held sink.new)) }
     ensures ends { IfSome result (λ end. (k : Readings) (c : Point) → c.left ≡ left + 1
-        → Stands k c store.old (C.ahead clock.old) (prepend_known buffer.old.unread (S.left source.old)) (K.held sink.old)
+        → Stands k c store.old.book (C.ahead clock.old) (prepend_known buffer.old.unread (S.left source.old)) (K.held sink.old)
         → (h : List ℕ) × (K.held sink.new ≡ Some h) × EndsAt k c end h) }
     ensures open { result ≢ Some Session.Capped }
     ensures read { result ≡ Some Session.ReadFault → Rose (S.faults source.old) (S.faults source.new) }
@@ -64,12 +65,12 @@ fn turn<S: Source, K: Sink, C: Clock>(
 /// Answers the requests of the source, one after another, on a store that no one else calls.
 pub(crate) fn run_session<S: Source, K: Sink, C: Clock>(
     alloc: Global,
-    store: &mut Store,
+    store: &mut Store<MemKeeper>,
     source: &mut S,
     sink: &mut K,
     clock: &mut C,
 ) -> Session
-    ensures ends { EndsKnown 1000 store.old (C.ahead clock.old) (S.left source.old) (K.held sink.old) result (K.held sink.new) }
+    ensures ends { EndsKnown 1000 store.old.book (C.ahead clock.old) (S.left source.old) (K.held sink.old) result (K.held sink.new) }
     ensures read { result ≡ Session.ReadFault → Rose (S.faults source.old) (S.faults source.new) }
     ensures write { result ≡ Session.WriteFault → Rose (K.faults sink.old) (K.faults sink.new) }
 {

@@ -1,5 +1,5 @@
 -- Commits that stay or are one more.
-use Rattle.std.proofs.Common.{◌≡◌, ℕ, ◌-◌, List, length, drop, sym, ap, subst, arith}
+use Rattle.std.proofs.Common.{◌≡◌, ℕ, ◌-◌, Result, Ok, Err, OnErr, OnOk, List, length, drop, sym, ap, subst, arith}
 use Rattle.cat_model.specs.declared.log_entry.LogEntry.{LogEntry}
 use Rattle.cat_model.specs.declared.reference.Reference.{Reference}
 use Rattle.cat_model.specs.Book.{Book}
@@ -24,3 +24,12 @@ above_taking book after draft e = subst (λ (b : Book). IsAbove book.state.commi
 -- a book whose references alone change, with an entry more
 pub above_entry : (book after : Book) (references : List Reference) (entry : LogEntry) → after ≡ with_entry book (with_references book.state references) entry → IsAbove book.state.commits after.state.commits
 above_entry book after references entry e = subst (λ (b : Book). IsAbove book.state.commits b.state.commits) (sym e) (above_itself book.state.commits)
+
+-- either of them, by what was returned
+pub above_made : {T E : Type 0} (book after : Book) (references : List Reference) (entry : LogEntry) (result : Result T E) → OnOk result (after ≡ with_entry book (with_references book.state references) entry) → OnErr result (after ≡ book) → IsAbove book.state.commits after.state.commits
+above_made book after references entry (Ok x) ok err = above_entry book after references entry ok
+above_made book after references entry (Err why) ok err = above_same book after err
+
+pub above_accepted : {T E : Type 0} (book after : Book) (draft : ℕ) (result : Result T E) → OnOk result (IsAbove book.state.commits after.state.commits) → OnErr result (after ≡ taking book draft) → IsAbove book.state.commits after.state.commits
+above_accepted book after draft (Ok x) ok err = ok
+above_accepted book after draft (Err why) ok err = above_taking book after draft err

@@ -1,6 +1,7 @@
 pub mod Asked
 pub mod Ids
 pub mod Steps
+pub mod Accepts
 pub mod Plain
 pub mod PlainCalls
 pub mod PlainMoves
@@ -13,3 +14,6 @@ pub mod Undrafted
 pub mod Puts
 pub mod Unexpired
 pub mod Growing
+pub mod Keeping
+pub mod Loggable
+pub mod InStep

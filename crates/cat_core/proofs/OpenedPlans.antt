@@ -21,6 +21,7 @@ use Rattle.cat_plans.specs.Drafts.{logged_merge, logged_transplant}
 use Rattle.cat_plans.specs.Outcomes.{ComesTo, IsLoggedAs}
 use Rattle.cat_core.specs.declared.logging.Turn.{Turn}
 use Rattle.cat_core.specs.Drafting.{IsDrafted, IsPlannedFor, drafted_turn}
+use Rattle.cat_core.specs.declared.unmade.Unmade.{Unmade}
 use Rattle.cat_core.specs.Making.{Makes}
 use Rattle.cat_core.proofs.PlainMerges.{plain_merge, plain_transplant}
 
@@ -37,7 +38,7 @@ merge_drafted book m o e d = record { opens = refl; passes = merge_passes book.s
 own_turn : (book : Book) (caller moment : ℕ) (turn : Turn) → turn ≡ drafted_turn caller book moment → turn ≡ drafted_turn turn.caller book turn.moment
 own_turn book caller moment turn t = subst (λ (x : Turn). x ≡ drafted_turn x.caller book x.moment) (sym t) refl
 
-pub makes_in : (book after : Book) (caller moment : ℕ) (turn : Turn) (command : Command) (result : Result Told Failure) → turn ≡ drafted_turn caller book moment → Makes (call_on sha256 turn.caller book command turn.moment) book after result → Makes (call_on sha256 caller book command moment) book after result
+pub makes_in : (book after : Book) (caller moment : ℕ) (turn : Turn) (command : Command) (result : Result Told Unmade) → turn ≡ drafted_turn caller book moment → Makes (call_on sha256 turn.caller book command turn.moment) book after result → Makes (call_on sha256 caller book command moment) book after result
 makes_in book after caller moment turn command result t h = subst (λ (x : Turn). Makes (call_on sha256 x.caller book command x.moment) book after result) t h
 
 -- what a merge comes to is planned for it

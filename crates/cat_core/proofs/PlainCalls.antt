@@ -1,5 +1,5 @@
--- No step refuses for want of memory.
-use Rattle.std.proofs.Common.{ℕ, ◌+◌, length, List, [], ◌∷◌, Option, Some, None, Result, Ok, Err, Bool, nat_lt, nat_le, map, filter_map}
+-- No step refuses for want of memory or for a fault.
+use Rattle.std.proofs.Common.{◌≡◌, true, false, subst, ℕ, ◌+◌, length, List, [], ◌∷◌, Option, Some, None, Result, Ok, Err, Bool, nat_lt, nat_le, map, filter_map, refl}
 use Rattle.sha2.specs.Sha256.{sha256}
 use Rattle.cat_names.specs.declared.hash.Hash.{Hash}
 use Rattle.cat_model.specs.declared.command.CommitRequest.{CommitRequest}
@@ -14,7 +14,7 @@ use Rattle.cat_model.specs.Judge.{judge}
 use Rattle.cat_model.specs.declared.refusal.Refusal.{Refusal}
 use Rattle.cat_model.specs.declared.refusal.Refusal.TheVariants.{BadRequest, RefNotFound, RefExists, ContentNotFound, Conflicts, Expired, RetriesSpent, SweepOpen, Limit, Collision, Fault, Down, NoMemory, NoRoute, WrongMethod, TooLarge, Encoding}
 use Rattle.cat_model.specs.declared.refusal.Refused.{Refused}
-use Rattle.cat_model.specs.Book.{Book, CallRefuses, IsCalled}
+use Rattle.cat_model.specs.Book.{Book, IsCalled}
 use Rattle.cat_model.specs.Calls.{Called}
 use Rattle.cat_model.specs.Chain.{entries}
 use Rattle.cat_model.specs.Commits.{commit_opening, committed, given_ops, or_conflicts, needs_commit_room, puts, request_commit, step_commit}
@@ -24,7 +24,11 @@ use Rattle.cat_model.specs.Formats.{commit_code}
 use Rattle.cat_model.specs.Records.{added, commit_bytes, content_bytes, with_commit, with_content, with_contents}
 use Rattle.cat_model.specs.Refusing.{◌>>=◌, needs, named, pointed}
 use Rattle.cat_model.specs.State.{State, commit_hash, content_hash}
-use Rattle.cat_state.specs.PlainLaws.{IsOther, IsPlain, plain_bind, plain_needs, plain_choice, plain_named, plain_pointed}
+use Rattle.cat_state.specs.PlainLaws.{IsOther, is_other, IsPlain, plain_bind, plain_needs, plain_choice, plain_named, plain_pointed}
+use Rattle.cat_state.specs.declared.failure.Failure.TheVariants as failures
+use Rattle.cat_core.specs.declared.unmade.Unmade.{Unmade}
+use Rattle.cat_core.specs.declared.unmade.Unmade.TheVariants.{Failed, NotKept}
+use Rattle.cat_core.specs.Making.{Answers, Makes, Refuses, unmade_at}
 
 -- ---- changing
 
@@ -32,11 +36,11 @@ pub plain_opening : (state : State) (c : CommitRequest) → IsPlain (commit_open
 unfolding commit_opening
 plain_opening state c =
     plain_bind (named state c.branch) _ (plain_named state c.branch) (λ branch.
-    plain_bind (needs _ (BadRequest _)) _ (plain_needs _ (BadRequest _) (λ e. cc)) (λ u.
+    plain_bind (needs _ (BadRequest _)) _ (plain_needs _ (BadRequest _) refl) (λ u.
     plain_bind (pointed sha256 state (Some branch) c.expected) _ (plain_pointed state (Some branch) c.expected) (λ h. tt)))
 
 pub plain_limit : (b : Bool) (which : Quantity) (number : ℕ) → IsPlain (needs b (Limit which number))
-plain_limit b which number = plain_needs b (Limit which number) (λ e. cc)
+plain_limit b which number = plain_needs b (Limit which number) refl
 
 plain_room : (state : State) (map : Map) (count : ℕ) → IsPlain (needs_commit_room state map count)
 unfolding needs_commit_room
@@ -47,11 +51,11 @@ plain_room state map count =
 
 plain_conflicts : (judged : Result Map (List Conflict)) → IsPlain (or_conflicts judged)
 plain_conflicts (Ok map) = tt
-plain_conflicts (Err conflicts) = λ e. cc
+plain_conflicts (Err conflicts) = refl
 
 plain_added : (state more : State) (hash : Hash) (kept : Option (List ℕ)) (bytes : List ℕ) → IsPlain (added state more hash kept bytes)
 plain_added state more hash None bytes = tt
-plain_added state more hash (Some kept) bytes = plain_choice _ state (Collision hash kept bytes) (λ e. cc)
+plain_added state more hash (Some kept) bytes = plain_choice _ state (Collision hash kept bytes) refl
 
 plain_content : (state : State) (c : Content) → IsPlain (with_content sha256 state c)
 unfolding with_content
@@ -82,21 +86,33 @@ plain_step state c draft moment =
     plain_rest state (judge (entries state.commits expected) (entries state.commits branch.head) ops) (filter_map (λ (x : Op × Option Content). x.1) (given_ops sha256 draft c)) commit (λ more. committed more (record branch { head = commit_hash sha256 commit }) ops)))
 
 -- a call that is refused by a definition
-pub call_refused : (called : Called) (before after : Book) (why : Refusal) (refused : Refused) → IsOther why → IsCalled called before after (Err refused) → CallRefuses called before after why refused
-call_refused called before after (BadRequest x) refused p e = e
-call_refused called before after RefNotFound refused p e = e
-call_refused called before after RefExists refused p e = e
-call_refused called before after (ContentNotFound x) refused p e = e
-call_refused called before after (Conflicts x) refused p e = e
-call_refused called before after (Expired x y) refused p e = e
-call_refused called before after (RetriesSpent x) refused p e = e
-call_refused called before after (SweepOpen x) refused p e = e
-call_refused called before after (Limit x y) refused p e = e
-call_refused called before after (Collision x y z) refused p e = e
-call_refused called before after Fault refused p e = e
-call_refused called before after (Down x) refused p e = e
-call_refused called before after NoMemory refused p e = absurd (p cc)
-call_refused called before after NoRoute refused p e = e
-call_refused called before after (WrongMethod x) refused p e = e
-call_refused called before after TooLarge refused p e = e
-call_refused called before after Encoding refused p e = e
+pub refuses : (called : Called) (before after : Book) (why : Refusal) (refused : Refused) → IsOther why → IsCalled called before after (Err refused) → Refuses called before after why refused
+refuses called before after (BadRequest x) refused p e = e
+refuses called before after RefNotFound refused p e = e
+refuses called before after RefExists refused p e = e
+refuses called before after (ContentNotFound x) refused p e = e
+refuses called before after (Conflicts x) refused p e = e
+refuses called before after (Expired x y) refused p e = e
+refuses called before after (RetriesSpent x) refused p e = e
+refuses called before after (SweepOpen x) refused p e = e
+refuses called before after (Limit x y) refused p e = e
+refuses called before after (Collision x y z) refused p e = e
+refuses called before after Fault refused p e = absurd cc
+refuses called before after (Down x) refused p e = absurd cc
+refuses called before after NoMemory refused p e = absurd cc
+refuses called before after NoRoute refused p e = e
+refuses called before after (WrongMethod x) refused p e = e
+refuses called before after TooLarge refused p e = e
+refuses called before after Encoding refused p e = e
+
+-- a call that made no entry, by why
+pub answers_unmade : (called : Called) (before after : Book) (why : Unmade) → Makes called before after (Err why) → Answers called before after (Err (unmade_at before.state.place why))
+answers_unmade called before after NotKept makes = (refl, makes)
+answers_unmade called before after (Failed failures.NoMemory) makes = makes
+answers_unmade called before after (Failed (failures.Refused why)) makes = refuses called before after why (record { place = Some before.state.place; why = why }) makes.0 makes.1
+
+-- it wasn't refused because the keeper had failed before
+pub never_down : (called : Called) (before after : Book) (place count : ℕ) (why : Unmade) → Makes called before after (Err why) → (unmade_at place why).why ≡ Down count → ⊥
+never_down called before after place count NotKept makes is = cc
+never_down called before after place count (Failed failures.NoMemory) makes is = cc
+never_down called before after place count (Failed (failures.Refused why)) makes is = let no : false ≡ true = subst (λ (w : Refusal). is_other w ≡ true) is makes.0 in cc

@@ -1,5 +1,5 @@
 -- No step of a merge or a transplant refuses for want of memory.
-use Rattle.std.proofs.Common.{ℕ, List, [], ◌∷◌, Option, Some, None, Ok, Err, Bool, true, false, cond}
+use Rattle.std.proofs.Common.{ℕ, List, [], ◌∷◌, Option, Some, None, Ok, Err, Bool, true, false, cond, refl}
 use Rattle.sha2.specs.Sha256.{sha256}
 use Rattle.cat_names.specs.declared.hash.Hash.{Hash}
 use Rattle.cat_model.specs.declared.command.Command.TheVariants as commands
@@ -31,7 +31,7 @@ unfolding merge_opening
 plain_merge_opening state m =
     plain_bind {B = Reference × Hash} (named state m.branch) _ (plain_named state m.branch) (λ branch.
     plain_bind {B = Reference × Hash} (named state m.from) _ (plain_named state m.from) (λ from.
-    plain_bind {B = Reference × Hash} (needs_branch branch) _ (plain_needs _ (BadRequest _) (λ e. cc)) (λ u.
+    plain_bind {B = Reference × Hash} (needs_branch branch) _ (plain_needs _ (BadRequest _) refl) (λ u.
     plain_bind {B = Reference × Hash} (pointed sha256 state (Some branch) m.hash) _ (plain_pointed state (Some branch) m.hash) (λ h.
     plain_bind {B = Reference × Hash} (pointed sha256 state (Some from) (Some m.from_hash)) _ (plain_pointed state (Some from) (Some m.from_hash)) (λ source. tt)))))
 
@@ -55,7 +55,7 @@ plain_applied state ancestor branch ps tried opened moment =
 
 plain_clash : (b : Bool) (state : State) (reply : Reply) (conflicts : List Conflict) → IsPlain {A = State × Reply} (cond b (Ok (state, reply)) (Err (Conflicts conflicts)))
 plain_clash true state reply conflicts = tt
-plain_clash false state reply conflicts = λ e. cc
+plain_clash false state reply conflicts = refl
 
 plain_unless : (state : State) (ancestor : Option Hash) (branch : Reference) (ps : List Planned) (a : Asked) (opened moment : ℕ) (conflicts : List Conflict) → IsPlain (step_unless_conflicts sha256 state ancestor branch ps a opened moment conflicts)
 plain_unless state ancestor branch ps a opened moment [] = plain_applied state ancestor branch ps a.dry_run opened moment
@@ -82,10 +82,10 @@ unfolding transplant_opening
 plain_transplant_opening state t =
     plain_bind {B = Reference} (named state t.branch) _ (plain_named state t.branch) (λ branch.
     plain_bind {B = Reference} (named state t.from) _ (plain_named state t.from) (λ from.
-    plain_bind {B = Reference} (needs_branch branch) _ (plain_needs _ (BadRequest _) (λ e. cc)) (λ u.
+    plain_bind {B = Reference} (needs_branch branch) _ (plain_needs _ (BadRequest _) refl) (λ u.
     plain_bind {B = Reference} (pointed sha256 state (Some branch) t.hash) _ (plain_pointed state (Some branch) t.hash) (λ h.
-    plain_bind {B = Reference} (needs_on_chain state from t.hashes) _ (plain_needs _ RefNotFound (λ e. cc)) (λ u.
-    plain_bind {B = Reference} (needs (are_consecutive state.commits t.hashes) (BadRequest NotConsecutive)) (λ _. Ok branch) (plain_needs (are_consecutive state.commits t.hashes) (BadRequest NotConsecutive) (λ e. cc)) (λ u. tt))))))
+    plain_bind {B = Reference} (needs_on_chain state from t.hashes) _ (plain_needs _ RefNotFound refl) (λ u.
+    plain_bind {B = Reference} (needs (are_consecutive state.commits t.hashes) (BadRequest NotConsecutive)) (λ _. Ok branch) (plain_needs (are_consecutive state.commits t.hashes) (BadRequest NotConsecutive) refl) (λ u. tt))))))
 
 pub plain_transplant : (state : State) (t : Transplant) (opened moment : ℕ) → IsPlain (step_transplant sha256 state t opened moment)
 unfolding step_transplant

@@ -1,6 +1,8 @@
 -- Calls in their drafts, and what is planned for them.
-use Rattle.std.specs.Prelude.{◌≡◌, ℕ, ◌+◌, Result, Ok, true, IfOk}
+use Rattle.std.specs.Prelude.{◌≡◌, ℕ, ◌+◌, Some, Result, Ok, true, IfOk, IsTrue}
 use Rattle.sha2.specs.Sha256.{sha256}
+use Rattle.cat_frames.specs.Entries.{is_logged}
+use Rattle.cat_names.specs.declared.hash.Hash.{Hash}
 use Rattle.cat_model.specs.declared.command.Command.{Command}
 use Rattle.cat_model.specs.declared.reply.Reply.{Reply}
 use Rattle.cat_model.specs.declared.reply.Reply.TheVariants as replies
@@ -14,6 +16,7 @@ use Rattle.cat_state.specs.Adding.{moved_state}
 use Rattle.cat_state.specs.PlainLaws.{IsPlain}
 use Rattle.cat_plans.specs.declared.outcome.Adding.{Adding}
 use Rattle.cat_plans.specs.declared.outcome.Outcome as outcome
+use Rattle.cat_plans.specs.declared.outcome.Outcome.TheVariants as outcomes
 use Rattle.cat_plans.specs.Outcomes.{ComesTo, IsLoggedAs, added_by, target_at}
 use Rattle.cat_core.specs.declared.logging.Turn.{Turn}
 
@@ -39,6 +42,16 @@ pub record IsPlannedFor (book : Book) (turn : Turn) (planned : Result outcome.Ou
   pub comes : ComesTo turn.moment book.state planned (drafted_step book command turn.moment)
   pub logged : IfOk planned (IsLoggedAs (logged_command sha256 (book.draft + 1) command))
   pub head : (reply : Reply) → head_left command reply ≡ head_told reply
+
+-- the call has a spelling in a draft of this number, with whatever head it leaves
+abbrev pub IsLoggable : ℕ → Command → Type 0
+IsLoggable draft command = (place caller moment : ℕ) (head : Hash) → IsTrue (is_logged sha256 (record { place = place; caller = caller; draft = draft; moment = moment; command = command; head = Some head }))
+
+-- so has what was planned, where it is to be made
+abbrev pub MayBeLogged : ℕ → outcome.Outcome → Type 0
+MayBeLogged draft (outcomes.Replied merged) = Unit {0}
+MayBeLogged draft (outcomes.Tried a) = Unit {0}
+MayBeLogged draft (outcomes.Made a command) = IsLoggable draft command
 
 -- the step that adds what was planned, and moves the branch to the last commit
 abbrev pub step_adding : ℕ → State → Adding → Outcome

@@ -4,6 +4,7 @@ use Rattle.std.specs.List.{list_all}
 use Rattle.sha2.specs.Sha256.{sha256}
 use Rattle.cat_model.specs.declared.command.Command.TheVariants as commands
 use Rattle.cat_model.specs.declared.command.CommitRequest.{CommitRequest}
+use Rattle.cat_model.specs.declared.log_entry.LogEntry.{LogEntry}
 use Rattle.cat_model.specs.declared.reference.Reference.{Reference}
 use Rattle.cat_model.specs.declared.reply.Reply.TheVariants as replies
 use Rattle.cat_model.specs.declared.reply.Told.{Told}
@@ -28,9 +29,13 @@ add_step state made =
     with_commit sha256 held made.kept.commit >>= λ more.
     Ok (moved_state more made.moved, replies.Committed (record { added = made.added; target = made.moved }))
 
+-- the entry of what is accepted
+abbrev pub accepted_entry : Book → Turn → Prepared → LogEntry
+accepted_entry book turn made = entry_at book turn (commands.Commit made.request) (Some made.moved.head)
+
 -- the book of a state after what is accepted, with its entry
 abbrev pub accepted_book : Book → State → Turn → Prepared → Book
-accepted_book book after turn made = with_entry (taking book turn.draft) after (entry_at book turn (commands.Commit made.request) (Some made.moved.head))
+accepted_book book after turn made = with_entry (taking book turn.draft) after (accepted_entry book turn made)
 
 -- what is told of it
 abbrev pub accepted_told : Book → Prepared → Told

@@ -1,36 +1,46 @@
 //! What an accepted commit adds to a store.
 
-ghost use Rattle.std.specs.Prelude.{◌≡◌, ◌<◌, ◌+◌, IfOk, OnErr, OnOk};
-ghost use Rattle.cat_core.specs.Making.{taking};
-ghost use Rattle.cat_core.specs.Putting.{accepted_book, accepted_told, add_step, IsMade};
+ghost use Rattle.std.specs.Prelude.{◌≡◌, ◌<◌, ◌+◌, ◌∷◌, [], None, IfOk, IsTrue, OnErr, OnOk};
+ghost use Rattle.sha2.specs.Sha256.{sha256};
+ghost use Rattle.cat_frames.specs.Entries.{is_logged};
+ghost use Rattle.cat_core.specs.Kept.{Keeps};
+ghost use Rattle.cat_model.specs.declared.command.Command.TheVariants as commands;
+ghost use Rattle.cat_core.specs.Making.{ComesAs, entry_at, head_of, taking};
+ghost use Rattle.cat_core.specs.Putting.{accepted_book, accepted_entry, accepted_told, add_step, IsMade};
 ghost use Rattle.cat_state.specs.Adding.{IsAbove};
-ghost use Rattle.cat_state.specs.Giving.{GivesAs};
 
+use crate::ledger::Ledger;
 use crate::logging::{Turn, entry, keep_or_cut_back};
 use crate::preparing::Prepared;
-use crate::store::Store;
+use crate::unmade::Unmade;
+use cat_keeper::Keeper;
 use cat_model::command::Command;
 use cat_model::reply::{Committed, Reply, Told};
-use cat_state::failure::Failure;
 use std::alloc::Global;
 
-impl Store {
+impl Ledger {
     /// Adds what was made, keeps the entry of the call and moves the branch; or changes nothing. The
     /// draft number is taken in either case.
-    pub(crate) fn accept(
+    pub(crate) fn accept<K: Keeper>(
         &mut self,
         alloc: Global,
+        keeper: &mut K,
         turn: Turn,
         made: Prepared,
-    ) -> Result<Told, Failure>
+    ) -> Result<Told, Unmade>
         requires place { self.old.state.place < 4294967295 }
         requires made { IsMade self.old.state made }
-        ensures step { GivesAs (λ told. (self.new.state, told.reply)) result (add_step self.old.state made) }
+        requires logged { IsTrue (is_logged sha256 (accepted_entry self.old turn made)) }
+        requires up { K.down keeper.old ≡ None }
+        requires kept { K.kept keeper.old ≡ self.old.state.place }
+        ensures step { ComesAs (λ told. (self.new.state, told.reply)) self.old.state.place result (add_step self.old.state made) }
         ensures ok { OnOk result (self.new ≡ accepted_book self.old self.new.state turn made) }
         ensures place { OnOk result (self.new.state.place ≡ self.old.state.place + 1) }
         ensures later { OnOk result (IsAbove self.old.state.commits self.new.state.commits) }
         ensures told { IfOk result (λ told. told ≡ accepted_told self.old made) }
         ensures err { OnErr result (self.new ≡ taking self.old turn.draft) }
+        ensures kept { K.kept keeper.new ≡ self.new.state.place }
+        ensures keeps { Keeps K.told K.kept K.down K.in_flight K.faults K.moment K.left_since K.may_leave keeper.old keeper.new (entry_at self.old turn (commands.Commit made.request) (head_of (add_step self.old.state made)) ∷ []) result }
     {
         self.draft = turn.draft;
         let place = self.catalogue.place() + 1;
@@ -44,7 +54,14 @@ impl Store {
         } = made;
         self.catalogue.add_records(alloc, request.contents.as_slice(), hashes.as_slice(), kept)?;
         let commit = entry(place, turn, Command::Commit(request), Some(moved.head));
-        keep_or_cut_back(&mut self.catalogue, &mut self.log, commit, extent)?;
+        keep_or_cut_back(
+            alloc,
+            keeper,
+            &mut self.catalogue,
+            &mut self.log,
+            commit,
+            extent,
+        )?;
         self.catalogue.move_to(&moved);
         Ok(Told {
             place,

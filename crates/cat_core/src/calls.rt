@@ -1,8 +1,8 @@
 //! The calls of a store.
 
-ghost use Rattle.std.specs.Prelude.{◌≡◌, ◌<◌, true, false, IfErr, IfOk, IsTrue, OnOk};
+ghost use Rattle.std.specs.Prelude.{◌≡◌, ◌<◌, None, true, false, IfErr, IfOk, IsTrue, OnOk};
 ghost use Rattle.sha2.specs.Sha256.{sha256};
-ghost use Rattle.cat_model.specs.Book.{Applies, Reads, call_on};
+ghost use Rattle.cat_model.specs.Book.{Reads, call_on};
 ghost use Rattle.cat_model.specs.Calls.{needs_draft};
 ghost use Rattle.cat_model.specs.Commits.{commit_opening};
 ghost use Rattle.cat_model.specs.Distinct.{are_distinct};
@@ -13,10 +13,13 @@ ghost use Rattle.cat_state.specs.Adding.{IsAbove};
 ghost use Rattle.cat_state.specs.Giving.{SaysAs};
 ghost use Rattle.cat_plans.specs.Expiring.{fails_expired, is_expired};
 ghost use Rattle.cat_core.specs.Drafting.{drafted_turn};
-ghost use Rattle.cat_core.specs.Making.{Makes, refused_at, taking};
+ghost use Rattle.cat_core.specs.Kept.{Keeps};
+ghost use Rattle.cat_core.specs.Making.{Makes, refused_at, taking, unmade_expired};
 
+use crate::ledger::Ledger;
 use crate::logging::Turn;
-use crate::store::Store;
+use crate::unmade::Unmade;
+use cat_keeper::Keeper;
 use cat_model::ask::Ask;
 use cat_model::command::{Command, CommitRequest, Merge, Transplant};
 use cat_model::limits::Quantity;
@@ -32,7 +35,7 @@ use cat_state::failure::Failure;
 use std::alloc::Global;
 
 /// A call's refusal at a place; want of memory has none.
-fn refused(place: u32, failure: Failure) -> Refused
+pub(crate) fn refused(place: u32, failure: Failure) -> Refused
     ensures value { result ≡ refused_at place failure }
     ensures there { is_expired result.why ≡ fails_expired failure }
 {
@@ -48,7 +51,7 @@ fn refused(place: u32, failure: Failure) -> Refused
     }
 }
 
-impl Store {
+impl Ledger {
     pub(crate) fn place(&self) -> u32
         ensures { result ≡ self.now.state.place }
     {
@@ -56,7 +59,7 @@ impl Store {
     }
 
     /// Answers a reading call.
-    pub fn read(&self, alloc: Global, ask: &Ask) -> Result<Told, Refused>
+    pub(crate) fn read(&self, alloc: Global, ask: &Ask) -> Result<Told, Refused>
         ensures { Reads sha256 self.now ask.now result }
     {
         match self.catalogue().answer(alloc, ask) {
@@ -107,18 +110,23 @@ impl Store {
 
     /// Commits the operations of a request on distinct keys.
     #[tactic(auto, using(crate::proofs::Growing::above_same, crate::proofs::Growing::above_taking))]
-    fn commit(
+    fn commit<K: Keeper>(
         &mut self,
         alloc: Global,
+        keeper: &mut K,
         caller: u32,
         moment: Moment,
         request: &CommitRequest,
-    ) -> Result<Told, Failure>
+    ) -> Result<Told, Unmade>
         requires distinct { IsTrue (are_distinct request.now.ops) }
         requires contents { IsTrue (have_contents sha256 request.now.ops request.now.contents) }
+        requires up { K.down keeper.old ≡ None }
+        requires kept { K.kept keeper.old ≡ self.old.state.place }
         ensures call { Makes (call_on sha256 caller self.old (commands.Commit request.now) moment) self.old self.new result }
-        ensures there { IfErr result (λ failure. fails_expired failure ≡ false) }
+        ensures there { IfErr result (λ why. unmade_expired why ≡ false) }
         ensures later { IsAbove self.old.state.commits self.new.state.commits }
+        ensures kept { K.kept keeper.new ≡ self.new.state.place }
+        ensures keeps { Keeps K.told K.kept K.down K.in_flight K.faults K.moment K.left_since K.may_leave keeper.old keeper.new (call_on sha256 caller self.old (commands.Commit request.now) moment).logged result }
     {
         let (branch, expected) = self.open(request)?;
         self.needs_draft()?;
@@ -128,10 +136,10 @@ impl Store {
             moment,
         };
         match self.put(alloc, turn, request, branch, &expected) {
-            Ok(made) => Ok(self.accept(alloc, turn, made)?),
+            Ok(made) => Ok(self.accept(alloc, keeper, turn, made)?),
             Err(failure) => {
                 self.take(turn.draft);
-                Err(failure)
+                Err(Unmade::Failed(failure))
             }
         }
     }
@@ -149,86 +157,81 @@ impl Store {
     }
 
     /// Merges a commit of a reference into a branch.
-    fn merge(
+    fn merge<K: Keeper>(
         &mut self,
         alloc: Global,
+        keeper: &mut K,
         caller: u32,
         moment: Moment,
         merge: &Merge,
-    ) -> Result<Told, Failure>
+    ) -> Result<Told, Unmade>
+        requires up { K.down keeper.old ≡ None }
+        requires kept { K.kept keeper.old ≡ self.old.state.place }
         ensures call { Makes (call_on sha256 caller self.old (commands.Merge merge.now) moment) self.old self.new result }
-        ensures there { IfErr result (λ failure. fails_expired failure ≡ false) }
+        ensures there { IfErr result (λ why. unmade_expired why ≡ false) }
         ensures later { IsAbove self.old.state.commits self.new.state.commits }
+        ensures kept { K.kept keeper.new ≡ self.new.state.place }
+        ensures keeps { Keeps K.told K.kept K.down K.in_flight K.faults K.moment K.left_since K.may_leave keeper.old keeper.new (call_on sha256 caller self.old (commands.Merge merge.now) moment).logged result }
     {
         let (branch, source) = open_merge(self.catalogue(), merge)?;
         self.needs_draft()?;
         let turn = self.drafted(caller, moment);
         let planned = merge_outcome(alloc, self.catalogue(), merge, branch, &source);
-        self.make_planned(alloc, turn, planned)
+        self.make_planned(alloc, keeper, turn, planned)
     }
 
     /// Applies commits of a reference to a branch.
-    fn transplant(
+    fn transplant<K: Keeper>(
         &mut self,
         alloc: Global,
+        keeper: &mut K,
         caller: u32,
         moment: Moment,
         transplant: &Transplant,
-    ) -> Result<Told, Failure>
+    ) -> Result<Told, Unmade>
+        requires up { K.down keeper.old ≡ None }
+        requires kept { K.kept keeper.old ≡ self.old.state.place }
         ensures call { Makes (call_on sha256 caller self.old (commands.Transplant transplant.now) moment) self.old self.new result }
-        ensures there { IfErr result (λ failure. fails_expired failure ≡ false) }
+        ensures there { IfErr result (λ why. unmade_expired why ≡ false) }
         ensures later { IsAbove self.old.state.commits self.new.state.commits }
+        ensures kept { K.kept keeper.new ≡ self.new.state.place }
+        ensures keeps { Keeps K.told K.kept K.down K.in_flight K.faults K.moment K.left_since K.may_leave keeper.old keeper.new (call_on sha256 caller self.old (commands.Transplant transplant.now) moment).logged result }
     {
         let branch = open_transplant(self.catalogue(), transplant)?;
         self.needs_draft()?;
         let turn = self.drafted(caller, moment);
         let planned = transplant_outcome(alloc, self.catalogue(), transplant, branch);
-        self.make_planned(alloc, turn, planned)
+        self.make_planned(alloc, keeper, turn, planned)
     }
 
     /// Makes a call, by what it is.
-    #[tactic(auto, using(crate::proofs::Asked::ops_are_distinct, crate::proofs::Asked::have_theirs, crate::proofs::Growing::above_same))]
-    fn make(
+    #[tactic(auto, using(crate::proofs::Asked::ops_are_distinct, crate::proofs::Asked::have_theirs, crate::proofs::Asked::create_points, crate::proofs::Asked::assign_points, crate::proofs::Growing::above_same))]
+    pub(crate) fn make<K: Keeper>(
         &mut self,
         alloc: Global,
+        keeper: &mut K,
         caller: u32,
         moment: Moment,
         command: &Command,
-    ) -> Result<Told, Failure>
-        requires { IsTrue (is_well_made sha256 command.now) }
+    ) -> Result<Told, Unmade>
+        requires well_made { IsTrue (is_well_made sha256 command.now) }
+        requires up { K.down keeper.old ≡ None }
+        requires kept { K.kept keeper.old ≡ self.old.state.place }
         ensures call { Makes (call_on sha256 caller self.old command.now moment) self.old self.new result }
-        ensures there { IfErr result (λ failure. fails_expired failure ≡ false) }
+        ensures there { IfErr result (λ why. unmade_expired why ≡ false) }
         ensures later { IsAbove self.old.state.commits self.new.state.commits }
+        ensures kept { K.kept keeper.new ≡ self.new.state.place }
+        ensures keeps { Keeps K.told K.kept K.down K.in_flight K.faults K.moment K.left_since K.may_leave keeper.old keeper.new (call_on sha256 caller self.old command.now moment).logged result }
     {
         match command {
-            Command::Create(create) => self.create(alloc, caller, moment, create),
-            Command::Assign(assign) => self.assign(alloc, caller, moment, assign),
-            Command::Delete(delete) => self.delete(alloc, caller, moment, delete),
-            Command::Commit(request) => self.commit(alloc, caller, moment, request),
-            Command::Merge(merge) => self.merge(alloc, caller, moment, merge),
+            Command::Create(create) => self.create(alloc, keeper, caller, moment, create),
+            Command::Assign(assign) => self.assign(alloc, keeper, caller, moment, assign),
+            Command::Delete(delete) => self.delete(alloc, keeper, caller, moment, delete),
+            Command::Commit(request) => self.commit(alloc, keeper, caller, moment, request),
+            Command::Merge(merge) => self.merge(alloc, keeper, caller, moment, merge),
             Command::Transplant(transplant) => {
-                self.transplant(alloc, caller, moment, transplant)
+                self.transplant(alloc, keeper, caller, moment, transplant)
             }
-        }
-    }
-
-    /// Makes a call that changes the catalogue.
-    pub fn apply(
-        &mut self,
-        alloc: Global,
-        caller: u32,
-        moment: Moment,
-        command: &Command,
-    ) -> Result<Told, Refused>
-        requires { IsTrue (is_well_made sha256 command.now) }
-        ensures call { Applies (call_on sha256 caller self.old command.now moment) self.old self.new result }
-        ensures there { IfErr result (λ refused. is_expired refused.why ≡ false) }
-        ensures later { IsAbove self.old.state.commits self.new.state.commits }
-    {
-        let place = self.place();
-        match self.make(alloc, caller, moment, command) {
-            Ok(told) => Ok(told),
-            Err(failure) => Err(refused(place, failure)),
         }
     }
 }

@@ -10,17 +10,17 @@ ghost use Rattle.cat_core.specs.Putting.{IsMade, LeadsTo};
 
 use crate::given::with_ids;
 use crate::judging::map_after;
+use crate::ledger::Ledger;
 use crate::logging::Turn;
 use crate::ops::puts;
 use crate::preparing::Prepared;
-use crate::store::Store;
 use cat_model::command::CommitRequest;
 use cat_model::reference::Reference;
 use cat_names::hash::Hash;
 use cat_state::failure::Failure;
 use std::alloc::Global;
 
-impl Store {
+impl Ledger {
     /// What the request adds on the branch.
     pub(crate) fn put(
         &self,

@@ -5,14 +5,14 @@ ghost use Rattle.cat_model.specs.Chain.{entries};
 ghost use Rattle.cat_model.specs.Maps.{entry_of};
 ghost use Rattle.cat_state.specs.Counting.{main_head};
 
-use crate::store::Store;
+use crate::ledger::Ledger;
 use cat_model::entry::Entry;
 use cat_names::key::ContentKey;
 use cat_state::counts::Counts;
 
-impl Store {
+impl Ledger {
     /// How much it holds.
-    pub fn counts(&self) -> Counts
+    pub(crate) fn counts(&self) -> Counts
         ensures place { result.place ≡ self.now.state.place }
         ensures references { result.references ≡ length self.now.state.references }
         ensures commits { result.commits ≡ length self.now.state.commits }
@@ -24,7 +24,7 @@ impl Store {
     }
 
     /// The entry of a key on `main`.
-    pub fn entry_on_main(&self, key: &ContentKey) -> Option<Entry>
+    pub(crate) fn entry_on_main(&self, key: &ContentKey) -> Option<Entry>
         ensures { result ≡ entry_of (entries self.now.state.commits (main_head self.now.state.references)) key.now }
     {
         let head = self.catalogue().main_head();

@@ -1,8 +1,8 @@
-//! A catalogue with its last draft number and the log that led to it, seen as a book of the model.
-//! Each call answers what the model's call on the book does and leaves the book that it leaves, or
-//! is refused for want of memory, which leaves state and log as they were. The entry of a call is
-//! kept once nothing else can refuse it, and before a branch is moved: where it can't be kept, what
-//! was added for it is taken away again. The map at each commit is well-formed.
+//! A store: a catalogue with its last draft number and the log that led to it, seen as a book of the
+//! model, over any keeper of the log. Each call answers what the model's call on the book does and
+//! leaves the book that it leaves, once the keeper has its entry; or is refused for want of memory
+//! or for a fault of the keeper, which leaves state and log as they were. The map at each commit is
+//! well-formed.
 #![tactic(auto)]
 
 mod accepting;
@@ -11,6 +11,7 @@ mod committing;
 mod counts;
 mod given;
 mod judging;
+mod ledger;
 mod logging;
 mod moving;
 mod ops;
@@ -18,6 +19,7 @@ mod planned;
 mod preparing;
 mod referring;
 mod store;
+mod unmade;
 
 pub use cat_state::counts::Counts;
 pub use store::Store;

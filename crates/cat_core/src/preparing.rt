@@ -14,9 +14,9 @@ ghost use Rattle.cat_state.specs.Keeping.{MayBeAdded};
 ghost use Rattle.cat_core.specs.Putting.{IsPrepared};
 
 use crate::given::Given;
+use crate::ledger::Ledger;
 use crate::logging::Turn;
 use crate::ops::added_ids;
-use crate::store::Store;
 use cat_codes::fault::NoMemory;
 use cat_codes::seq::Seq;
 use cat_keymap::key_map::KeyMap;
@@ -81,7 +81,7 @@ fn logged_request(
     Ok((logged, hashes))
 }
 
-impl Store {
+impl Ledger {
     /// The commit of the operations at a head.
     #[tactic(auto, unfolding(cat_model::specs::Commits::request_commit))]
     fn request_commit(

@@ -11,7 +11,7 @@ ghost use Rattle.cat_model.specs.declared.conflict.ConflictKind.TheVariants.{Une
 ghost use Rattle.cat_model.specs.declared.reply.Reply.TheVariants as replies;
 ghost use Rattle.cat_state.specs.Giving.{Gives, GivesAs};
 
-use crate::store::Store;
+use crate::ledger::Ledger;
 use cat_codes::fault::NoMemory;
 use cat_codes::seq::Seq;
 use cat_model::command::{Assign, Create, Delete};
@@ -100,7 +100,7 @@ fn needs_head(alloc: Global, expected: &Option<Hash>, head: &Hash) -> Result<(),
     Err(Failure::Refused(Refusal::Conflicts(conflicts)))
 }
 
-impl Store {
+impl Ledger {
     /// The reference that a call makes at its source.
     #[tactic(auto, unfolding(cat_model::specs::Moves::step_create))]
     pub(crate) fn created(&self, alloc: Global, create: &Create) -> Result<Reference, Failure>

@@ -1,67 +1,179 @@
 //! The store.
 
-ghost use Rattle.std.specs.Prelude.{◌≡◌, ◌≤◌, IfOk, IsTrue};
+ghost use Rattle.std.specs.Prelude.{ℕ, ◌≡◌, ◌≤◌, ◌↔◌, [], Some, None, Err, false, length, reverse, IfErr, IfOk, IfSome, IsTrue};
 ghost use Rattle.sha2.specs.Sha256.{sha256};
-ghost use Rattle.cat_model.specs.Book.{first_book};
+ghost use Rattle.cat_model.specs.Book.{Reads, call_on, first_book};
 ghost use Rattle.cat_model.specs.Chain.{entries};
+ghost use Rattle.cat_model.specs.Maps.{entry_of};
 ghost use Rattle.cat_model.specs.Namespaces.{is_well_formed};
+ghost use Rattle.cat_model.specs.WellMade.{is_well_made};
+ghost use Rattle.cat_model.specs.declared.refusal.Refusal.TheVariants as refusals;
+ghost use Rattle.cat_state.specs.Adding.{IsAbove};
+ghost use Rattle.cat_state.specs.Counting.{main_head};
+ghost use Rattle.cat_plans.specs.Expiring.{is_expired};
+ghost use Rattle.cat_core.specs.Kept.{KeepsTold, Leaves, spellings};
+ghost use Rattle.cat_core.specs.Making.{Answers};
 
+use crate::calls::refused;
+use crate::ledger::Ledger;
+use crate::unmade::Unmade;
 use cat_codes::fault::NoMemory;
+use cat_keeper::Keeper;
+use cat_model::ask::Ask;
+use cat_model::command::Command;
+use cat_model::entry::Entry;
 use cat_model::limits::Limits;
-use cat_model::log_entry::LogEntry;
+use cat_model::moment::Moment;
+use cat_model::refusal::{Refusal, Refused};
+use cat_model::reply::Told;
 use cat_names::hash::Hash;
-use cat_state::catalogue::Catalogue;
+use cat_names::key::ContentKey;
+use cat_state::counts::Counts;
 use std::alloc::Global;
 use std::marker::Model;
 
-/// A catalogue in memory, with the entries that led to it.
+/// A catalogue in memory, and what keeps the entries that led to it: each is kept before its change
+/// is seen. After an append that fails the store is down: it reads on, and makes no call.
 #[derive(Drop)]
-pub struct Store {
-    pub(crate) catalogue: Catalogue,
-    pub(crate) draft: u64,
-    pub(crate) log: Vec<LogEntry>,
+pub struct Store<K: Keeper> {
+    ledger: Ledger,
+    keeper: K,
+    down: Option<u64>,
 }
 
-impl Model for Store {
-    ghost use Rattle.cat_model.specs.Book.{Book};
+impl<K: Keeper> Model for Store<K> {
+    ghost use Rattle.cat_core.specs.Stored.{Stored, IsInStep};
 
-    ghost Value = { Book };
+    ghost Value = { Stored K };
 
-    ghost use Rattle.std.specs.Prelude.{reverse};
+    ghost view = { λ s. record { book = s.ledger; keeper = s.keeper } };
 
-    ghost view = { λ s. record { state = s.catalogue; draft = s.draft; log = reverse s.log.items } };
+    ghost invariant = { λ s. IsInStep K.told K.kept K.down s.ledger s.keeper s.down };
 }
 
-impl Store {
-    /// The store of an empty catalogue: the branch `main` without a commit.
-    pub fn new(alloc: Global, limits: Limits) -> Result<Store, NoMemory>
+impl<K: Keeper> Store<K> {
+    /// The store of an empty catalogue: the branch `main` without a commit, over a keeper of no
+    /// payloads. Where memory runs out the keeper comes back.
+    pub fn new(alloc: Global, keeper: K, limits: Limits) -> Result<Store<K>, (K, NoMemory)>
         requires log { limits.log ≤ 4294967295 }
         requires commits { limits.commits ≤ 4294967295 }
-        ensures { IfOk result (λ store. store ≡ first_book sha256 limits) }
+        requires none_kept { K.kept keeper ≡ 0 }
+        requires none_told { IfSome (K.told keeper) (λ ps. ps ≡ []) }
+        requires up { K.down keeper ≡ None }
+        ensures ok { IfOk result (λ store. store ≡ record { book = first_book sha256 limits; keeper = keeper }) }
+        ensures err { IfErr result (λ e. e.0 ≡ keeper) }
     {
-        Ok(Store {
-            catalogue: Catalogue::new(alloc, limits)?,
-            draft: 0,
-            log: Vec::new(alloc),
-        })
+        match Ledger::new(alloc, limits) {
+            Ok(ledger) => Ok(Store {
+                ledger,
+                keeper,
+                down: None,
+            }),
+            Err(fault) => Err((keeper, fault)),
+        }
+    }
+
+    /// Answers a reading call.
+    pub fn read(&self, alloc: Global, ask: &Ask) -> Result<Told, Refused>
+        ensures { Reads sha256 self.now.book ask.now result }
+    {
+        self.ledger.read(alloc, ask)
+    }
+
+    /// Makes a call that changes the catalogue. `Ok` acknowledges its entry; a `Fault` may have kept
+    /// it or not, and each later call is refused as `Down` at the count of faults then.
+    pub fn apply(
+        &mut self,
+        alloc: Global,
+        caller: u32,
+        moment: Moment,
+        command: &Command,
+    ) -> Result<Told, Refused>
+        requires { IsTrue (is_well_made sha256 command.now) }
+        ensures call { Answers (call_on sha256 caller self.old.book command.now moment) self.old.book self.new.book result }
+        ensures down { (count : ℕ) → (result ≡ Err (record { place = Some self.old.book.state.place; why = refusals.Down count })) ↔ (K.down self.old.keeper ≡ Some count) }
+        ensures idle { (count : ℕ) → K.down self.old.keeper ≡ Some count → self.new ≡ self.old }
+        ensures there { IfErr result (λ refused. is_expired refused.why ≡ false) }
+        ensures later { IsAbove self.old.book.state.commits self.new.book.state.commits }
+        ensures keeps { K.down self.old.keeper ≡ None → KeepsTold K.told K.kept K.down K.in_flight K.faults K.moment K.left_since K.may_leave self.old.keeper self.new.keeper (call_on sha256 caller self.old.book command.now moment).logged result }
+        ensures crash { K.down self.old.keeper ≡ None → Leaves K.told K.moment K.left_since K.may_leave self.old.keeper self.new.keeper (call_on sha256 caller self.old.book command.now moment).logged }
+    {
+        let place = self.ledger.place();
+        if let Some(count) = self.down {
+            return Err(Refused {
+                place: Some(place),
+                why: Refusal::Down(count),
+            });
+        }
+        match self
+            .ledger
+            .make(alloc, &mut self.keeper, caller, moment, command)
+        {
+            Ok(told) => Ok(told),
+            Err(Unmade::Failed(failure)) => Err(refused(place, failure)),
+            Err(Unmade::NotKept) => {
+                self.down = Some(self.keeper.fault_count());
+                Err(Refused {
+                    place: Some(place),
+                    why: Refusal::Fault,
+                })
+            }
+        }
+    }
+
+    /// How much it holds.
+    pub fn counts(&self) -> Counts
+        ensures place { result.place ≡ self.now.book.state.place }
+        ensures references { result.references ≡ length self.now.book.state.references }
+        ensures commits { result.commits ≡ length self.now.book.state.commits }
+        ensures contents { result.contents ≡ length self.now.book.state.present }
+        ensures keys { result.keys ≡ length (entries self.now.book.state.commits (main_head self.now.book.state.references)) }
+        ensures head { result.head ≡ main_head self.now.book.state.references }
+    {
+        self.ledger.counts()
+    }
+
+    /// The entry of a key on `main`.
+    pub fn entry_on_main(&self, key: &ContentKey) -> Option<Entry>
+        ensures { result ≡ entry_of (entries self.now.book.state.commits (main_head self.now.book.state.references)) key.now }
+    {
+        self.ledger.entry_on_main(key)
     }
 
     /// What holds of the map at each commit: the parent of each key is there as a namespace.
     pub fn map_is_well_formed(&self, hash: &Hash)
-        ensures { IsTrue (is_well_formed (entries self.now.state.commits hash.now)) }
+        ensures { IsTrue (is_well_formed (entries self.now.book.state.commits hash.now)) }
     {
-        self.catalogue.map_is_well_formed(hash)
+        self.ledger.map_is_well_formed(hash)
     }
 
-    pub(crate) fn catalogue(&self) -> &Catalogue
-        ensures { result.now ≡ self.now.state }
+    /// What holds of the keeper: it has the entries of the log, the oldest first.
+    pub fn log_is_kept(&self)
+        ensures payloads { IfSome (K.told self.now.keeper) (λ ps. ps ≡ spellings (reverse self.now.book.log)) }
+        ensures number { K.kept self.now.keeper ≡ self.now.book.state.place }
     {
-        &self.catalogue
+        let _ = &self.down;
     }
 
-    pub(crate) fn draft(&self) -> u64
-        ensures { result ≡ self.now.draft }
+    /// How many of the keeper's calls failed.
+    pub fn faults(&self) -> u64
+        ensures { result ≡ K.faults self.now.keeper }
     {
-        self.draft
+        self.keeper.fault_count()
+    }
+
+    /// The count of faults at which an append failed, if one did.
+    pub fn down(&self) -> Option<u64>
+        ensures { result ≡ K.down self.now.keeper }
+    {
+        self.down
+    }
+
+    /// The keeper.
+    pub fn into_keeper(self) -> K
+        ensures { result ≡ self.keeper }
+    {
+        let Store { keeper, .. } = self;
+        keeper
     }
 }

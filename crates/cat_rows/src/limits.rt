@@ -1,6 +1,7 @@
 //! Commits on a store whose limits are low.
 
 use cat_core::Store;
+use cat_keeper::MemKeeper;
 use cat_model::limits::{Limits, Quantity};
 use cat_model::refusal::{Refusal, Refused};
 use cat_model::reply::Told;
@@ -10,12 +11,16 @@ use std::alloc::Global;
 use std::test::Fail;
 
 /// A store of these limits.
-fn store(alloc: Global, limits: Limits) -> Result<Store, Fail> {
+fn store(alloc: Global, limits: Limits) -> Result<Store<MemKeeper>, Fail> {
     let all = Limits::program();
     if limits.log > all.log || limits.commits > all.commits {
         return Err(Fail::from("a limit above the program's"));
     }
-    Ok(Store::new(alloc, limits)?)
+    let keeper = MemKeeper::new(alloc, Vec::new(alloc));
+    match Store::new(alloc, keeper, limits) {
+        Ok(store) => Ok(store),
+        Err(_) => Err(Fail::from("memory")),
+    }
 }
 
 /// Where a call was accepted, or the limit that refused it, and where.

@@ -1,6 +1,7 @@
 //! A transplant of as many commits as it may have.
 
 use cat_core::Store;
+use cat_keeper::MemKeeper;
 use cat_model::limits::Limits;
 use cat_model::refusal::{Reason, Refusal, Refused};
 use cat_model::reply::{Merged, Reply, Told};
@@ -18,7 +19,12 @@ const CREATE_DEV: &str =
 const HEAD: &str = "0409f51da022ed9032c090eda9bc3321d6117f501ae14d8663e115a6257aef38";
 
 /// Commits a table whose location is its key, and gives the branch's new head.
-fn commit_key(alloc: Global, store: &mut Store, branch: &str, key: &str) -> Result<Hash, Fail> {
+fn commit_key(
+    alloc: Global,
+    store: &mut Store<MemKeeper>,
+    branch: &str,
+    key: &str,
+) -> Result<Hash, Fail> {
     let quoted = format!(in alloc; "\"{key}\"")?;
     let operation = new_table(alloc, quoted.as_str(), key)?;
     let request = commit(alloc, branch, operation.as_str())?;
@@ -35,7 +41,7 @@ fn commit_key(alloc: Global, store: &mut Store, branch: &str, key: &str) -> Resu
 
 /// Makes the branch `dev`, commits `other` on `main`, and then `t0` to `t100` on `dev`: the hashes of
 /// these.
-fn prepare(alloc: Global, store: &mut Store) -> Result<Vec<Hash>, Fail> {
+fn prepare(alloc: Global, store: &mut Store<MemKeeper>) -> Result<Vec<Hash>, Fail> {
     if tell(alloc, store, CREATE_DEV)?.is_err() {
         return Err(Fail::from("no branch"));
     }
@@ -80,7 +86,10 @@ fn merged(told: Result<Told, Refused>) -> Result<Merged, Fail> {
 #[test]
 fn a_transplant_takes_a_hundred_commits_and_no_more(rt: HostRuntime) -> Result<(), Fail> {
     let alloc = rt.alloc();
-    let mut store = Store::new(alloc, Limits::program())?;
+    let keeper = MemKeeper::new(alloc, Vec::new(alloc));
+    let Ok(mut store) = Store::new(alloc, keeper, Limits::program()) else {
+        return Err(Fail::from("memory"));
+    };
     let hashes = prepare(alloc, &mut store)?;
     let more = transplant(alloc, &hashes, 101)?;
     let too_long = Refused {

@@ -3,6 +3,7 @@
 use cat_core::Store;
 use cat_http::{Buffer, Incoming, read_request};
 use cat_io::MemorySource;
+use cat_keeper::MemKeeper;
 use cat_model::moment::Moment;
 use cat_model::refusal::Refused;
 use cat_model::reply::Told;
@@ -12,7 +13,11 @@ use std::alloc::Global;
 use std::test::Fail;
 
 /// What a store tells of the change that a request asks for, at the first second.
-pub fn tell(alloc: Global, store: &mut Store, text: &str) -> Result<Result<Told, Refused>, Fail> {
+pub fn tell(
+    alloc: Global,
+    store: &mut Store<MemKeeper>,
+    text: &str,
+) -> Result<Result<Told, Refused>, Fail> {
     let mut source = MemorySource::new(text.as_bytes().to_vec(alloc)?, 4096, Vec::new(alloc));
     let mut buffer = Buffer::new(alloc)?;
     if read_request(&mut source, &mut buffer) != Incoming::Request {

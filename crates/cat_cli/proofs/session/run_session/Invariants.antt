@@ -6,9 +6,9 @@ use Rattle.cat_cli.proofs.session.run_session.Given as goal
 abbrev pub invariant-turns : goal.invariant-turns
 invariant-turns g l = record {
   reached : (k : Readings) (a : Point) → a.left ≡ 1000
-      → Stands k a l.fn.store (g.C.Clock.ahead l.fn.clock) (g.S.Source.left l.fn.source) (g.K.Sink.held l.fn.sink)
+      → Stands k a l.fn.store.book (g.C.Clock.ahead l.fn.clock) (g.S.Source.left l.fn.source) (g.K.Sink.held l.fn.sink)
       → (c : Point) × Reaches k a c × (c.left + l.count ≡ 1000)
-      × Stands k c l.store (g.C.Clock.ahead l.clock) (prepend_known l.buffer.unread (g.S.Source.left l.source)) (g.K.Sink.held l.sink);
+      × Stands k c l.store.book (g.C.Clock.ahead l.clock) (prepend_known l.buffer.unread (g.S.Source.left l.source)) (g.K.Sink.held l.sink);
   later_source : g.S.Source.faults l.fn.source ≤ g.S.Source.faults l.source;
   later_sink : g.K.Sink.faults l.fn.sink ≤ g.K.Sink.faults l.sink;
 }

@@ -8,4 +8,4 @@ returns-in-Ok c = told_book _ _ _ _ c.in-Ok.ensures.call
 
 pub returns : goal.returns
 unfolding after_command
-returns c = refused_book _ _ _ c.in-Err.refused c.in_default.not-NoMemory c.in-Err.ensures.call
+returns c = refused_book _ _ _ c.in-Err.refused c.in_default.not-NoMemory c.in_default.not-Fault c.in_default.not-Down c.in-Err.ensures.call

@@ -8,7 +8,7 @@ use Rattle.cat_state.specs.Giving.{Fails}
 use Rattle.cat_core.proofs.Ids.{still_distinct}
 use Rattle.cat_core.proofs.Puts.{map_held}
 use Rattle.cat_core.proofs.Steps.{AreGiven, judge_at, logged_is, made_of, map_is_after, room_is, step_added, step_conflicts, step_no_room}
-use Rattle.cat_core.proofs.store.Store.put.Goals as goal
+use Rattle.cat_core.proofs.ledger.Ledger.put.Goals as goal
 
 pub returns-in_err-needs_commit_room-clause-step : goal.returns-in_err-needs_commit_room-clause-step
 returns-in_err-needs_commit_room-clause-step c =

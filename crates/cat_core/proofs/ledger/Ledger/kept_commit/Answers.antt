@@ -1,5 +1,5 @@
 use Rattle.cat_core.proofs.Steps.{next_kept}
-use Rattle.cat_core.proofs.store.Store.kept_commit.Goals as goal
+use Rattle.cat_core.proofs.ledger.Ledger.kept_commit.Goals as goal
 
 pub returns-clause-next : goal.returns-clause-next
 returns-clause-next c =
