@@ -16,7 +16,7 @@ use Rattle.cat_model.specs.Step.{opens_draft, opening, logged_command, head_left
 use Rattle.cat_state.specs.declared.failure.Failure.{Failure}
 use Rattle.cat_state.specs.declared.failure.Failure.TheVariants as failures
 use Rattle.cat_state.specs.Giving.{Fails}
-use Rattle.cat_state.specs.PlainLaws.{IsOther, IsPlain}
+use Rattle.cat_core.specs.PlainLaws.{IsOther, IsPlain}
 use Rattle.cat_core.specs.declared.logging.Turn.{Turn}
 use Rattle.cat_core.specs.Drafting.{IsDrafted, drafted_step, drafted_turn}
 use Rattle.cat_core.specs.declared.unmade.Unmade.TheVariants.{Failed}

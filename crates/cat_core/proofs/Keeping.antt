@@ -14,7 +14,7 @@ use Rattle.cat_model.specs.Book.{Book}
 use Rattle.cat_model.specs.Calls.{Called}
 use Rattle.cat_model.specs.Refusing.{Outcome}
 use Rattle.cat_state.specs.declared.failure.Failure.TheVariants as failures
-use Rattle.cat_state.specs.PlainLaws.{IsOther, is_other}
+use Rattle.cat_core.specs.PlainLaws.{IsOther, is_other}
 use Rattle.cat_core.specs.declared.unmade.Unmade.{Unmade}
 use Rattle.cat_core.specs.declared.unmade.Unmade.TheVariants.{Failed, NotKept}
 use Rattle.cat_core.specs.Kept.{Fell, Grew, Keeps, KeepsTold, Leaves, Spares, Stayed, WithOrWithoutAll, spelling, spellings}

@@ -14,7 +14,7 @@ use Rattle.cat_model.specs.Commits.{commit_opening, step_commit, given_request}
 use Rattle.cat_model.specs.State.{State}
 use Rattle.cat_model.specs.Step.{head_left, opening}
 use Rattle.cat_state.specs.Giving.{Fails}
-use Rattle.cat_state.specs.PlainLaws.{IsPlain, plain_bind}
+use Rattle.cat_core.specs.PlainLaws.{IsPlain, plain_bind}
 use Rattle.cat_plans.specs.ExpiringLaws.{unexpired_fails}
 use Rattle.cat_core.specs.declared.preparing.Prepared.{Prepared}
 use Rattle.cat_core.specs.declared.logging.Turn.{Turn}

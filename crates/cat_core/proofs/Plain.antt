@@ -11,7 +11,7 @@ use Rattle.cat_model.specs.Calls.{told_at}
 use Rattle.cat_state.specs.declared.failure.Failure.{Failure}
 use Rattle.cat_state.specs.declared.failure.Failure.TheVariants as failures
 use Rattle.cat_state.specs.Giving.{Fails}
-use Rattle.cat_state.specs.PlainLaws.{IsOther, IsPlain, plain_answer}
+use Rattle.cat_core.specs.PlainLaws.{IsOther, IsPlain, plain_answer}
 use Rattle.cat_core.specs.Making.{refused_at}
 
 read_by : (book : Book) (ask : Ask) (why : Refusal) (refused : Refused) → IsOther why → told_at book.state (answer sha256 book.state ask) ≡ Err refused → ReadRefuses sha256 book ask why refused

@@ -24,7 +24,7 @@ use Rattle.cat_model.specs.Formats.{commit_code}
 use Rattle.cat_model.specs.Records.{added, commit_bytes, content_bytes, with_commit, with_content, with_contents}
 use Rattle.cat_model.specs.Refusing.{◌>>=◌, needs, named, pointed}
 use Rattle.cat_model.specs.State.{State, commit_hash, content_hash}
-use Rattle.cat_state.specs.PlainLaws.{IsOther, is_other, IsPlain, plain_bind, plain_needs, plain_choice, plain_named, plain_pointed}
+use Rattle.cat_core.specs.PlainLaws.{IsOther, is_other, IsPlain, plain_bind, plain_needs, plain_choice, plain_named, plain_pointed}
 use Rattle.cat_state.specs.declared.failure.Failure.TheVariants as failures
 use Rattle.cat_core.specs.declared.unmade.Unmade.{Unmade}
 use Rattle.cat_core.specs.declared.unmade.Unmade.TheVariants.{Failed, NotKept}

@@ -22,7 +22,7 @@ use Rattle.cat_model.specs.Transplants.{are_consecutive, needs_on_chain, step_tr
 use Rattle.cat_model.specs.Refusing.{named, needs, needs_at_most, needs_branch, pointed}
 use Rattle.cat_model.specs.State.{State, commit_hash}
 use Rattle.cat_model.specs.Step.{opening}
-use Rattle.cat_state.specs.PlainLaws.{IsPlain, plain_bind, plain_named, plain_needs, plain_pointed}
+use Rattle.cat_core.specs.PlainLaws.{IsPlain, plain_bind, plain_named, plain_needs, plain_pointed}
 use Rattle.cat_core.proofs.PlainCalls.{plain_commit, plain_limit}
 use Rattle.cat_core.proofs.PlainMoves.{plain_held}
 

@@ -16,7 +16,7 @@ use Rattle.cat_model.specs.Moves.{needs_contents, needs_head, needs_log, needs_n
 use Rattle.cat_model.specs.Records.{expired_keys, needs_no_expired}
 use Rattle.cat_model.specs.Refusing.{named, needs_kind, needs_room, needs_source_kind, perhaps_named, pointed}
 use Rattle.cat_model.specs.State.{State}
-use Rattle.cat_state.specs.PlainLaws.{IsPlain, plain_bind, plain_named, plain_needs, plain_perhaps, plain_pointed}
+use Rattle.cat_core.specs.PlainLaws.{IsPlain, plain_bind, plain_named, plain_needs, plain_perhaps, plain_pointed}
 use Rattle.cat_core.proofs.PlainCalls.{plain_limit}
 
 plain_kind : (kind : Option Kind) (reference : Reference) → IsPlain (needs_kind kind reference)

@@ -20,7 +20,7 @@ use Rattle.cat_core.specs.declared.unmade.Unmade.{Unmade}
 use Rattle.cat_core.specs.declared.unmade.Unmade.TheVariants.{Failed, NotKept}
 use Rattle.cat_core.specs.Making.{IsUnrefused, Makes, entry_at, reference_told, unmade_expired, with_entry}
 use Rattle.cat_core.proofs.Called.{more_is, other}
-use Rattle.cat_state.specs.PlainLaws.{IsPlain}
+use Rattle.cat_core.specs.PlainLaws.{IsPlain}
 
 -- the call opens no draft, and nothing is tested before its step
 pub record IsUndrafted (state : State) (command : Command) : Type 0 where

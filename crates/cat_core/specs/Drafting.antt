@@ -13,7 +13,7 @@ use Rattle.cat_model.specs.State.{State}
 use Rattle.cat_model.specs.Step.{head_told, head_left, logged_command, opening, opens_draft, step}
 use Rattle.cat_state.specs.declared.failure.Failure.{Failure}
 use Rattle.cat_state.specs.Adding.{moved_state}
-use Rattle.cat_state.specs.PlainLaws.{IsPlain}
+use Rattle.cat_core.specs.PlainLaws.{IsPlain}
 use Rattle.cat_plans.specs.declared.outcome.Adding.{Adding}
 use Rattle.cat_plans.specs.declared.outcome.Outcome as outcome
 use Rattle.cat_plans.specs.declared.outcome.Outcome.TheVariants as outcomes

@@ -4,3 +4,4 @@ pub mod Kept
 pub mod Putting
 pub mod Drafting
 pub mod Stored
+pub mod PlainLaws

@@ -18,7 +18,7 @@ use Rattle.cat_model.specs.Step.{head_told}
 use Rattle.cat_state.specs.declared.failure.Failure.{Failure}
 use Rattle.cat_state.specs.declared.failure.Failure.TheVariants as failures
 use Rattle.cat_state.specs.Giving.{Fails}
-use Rattle.cat_state.specs.PlainLaws.{IsOther}
+use Rattle.cat_core.specs.PlainLaws.{IsOther}
 use Rattle.cat_plans.specs.Expiring.{fails_expired}
 use Rattle.cat_core.specs.declared.logging.Turn.{Turn}
 use Rattle.cat_core.specs.declared.unmade.Unmade.{Unmade}
