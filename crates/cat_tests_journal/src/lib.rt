@@ -1,12 +1,10 @@
-//! Tests of log entries, of keepers, and of the journal on disks in memory.
+//! Tests of keepers and of the journal, on disks in memory.
 #![tactic(auto)]
 
 #[cfg(test)]
 mod appends;
 #[cfg(test)]
 mod crashes;
-#[cfg(test)]
-mod entries;
 #[cfg(test)]
 mod journals;
 #[cfg(test)]

@@ -1,6 +1,5 @@
 //! Log entries against bytes from outside.
 
-use crate::journals::{add, journal, opened};
 use cat_codes::fault::FieldFault;
 use cat_frames::{from_bytes, has_reading, to_bytes};
 use std::test::Fail;
@@ -81,21 +80,5 @@ fn other_bytes_are_out_of_range(rt: HostRuntime) -> Result<(), Fail> {
         assert!(rt; matches!(read, Err(FieldFault::Range)), "{text}");
         assert!(rt; !has_reading(alloc, &bytes)?);
     }
-    Ok(())
-}
-
-#[test]
-fn a_journal_of_the_first_commit_has_194_bytes(rt: HostRuntime) -> Result<(), Fail> {
-    let alloc = rt.alloc();
-    let payload = hex::decode(alloc, ENTRIES[3])?;
-    assert_eq!(rt; payload.len(), 172);
-    let mut journal = journal(alloc, &[])?;
-    assert_eq!(rt; add(alloc, &mut journal, &payload)?, Ok(()));
-    let disk = journal.into_disk();
-    let bytes = disk.bytes();
-    assert_eq!(rt; bytes.len(), 194);
-    assert!(rt; bytes[16..21] == [1, 0, 0, 0, 172]);
-    assert_eq!(rt; bytes[193], 0);
-    assert_eq!(rt; opened(alloc, bytes)?, Ok(1));
     Ok(())
 }

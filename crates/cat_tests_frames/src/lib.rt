@@ -1,0 +1,5 @@
+//! Tests of log entries as bytes.
+#![tactic(auto)]
+
+#[cfg(test)]
+mod entries;
