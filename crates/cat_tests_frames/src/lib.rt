@@ -1,5 +1,0 @@
-//! Tests of log entries as bytes.
-#![tactic(auto)]
-
-#[cfg(test)]
-mod entries;
