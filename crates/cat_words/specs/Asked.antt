@@ -6,19 +6,22 @@ use Rattle.cat_words.specs.declared.asked.Asked.TheVariants as asks
 use Rattle.cat_words.specs.Line.{line}
 use Rattle.cat_words.specs.Numbers.{number_of}
 
--- a command: a script with its journal, or a drill with its seed and how many commits it makes
+-- a command: a script or a check with its journal, or a drill with its seed and how many commits it makes
 pub data Task : Type 0 where
   script : List ℕ → Task
+  check : List ℕ → Task
   drill : ℕ → ℕ → Task
 
 -- the command that was read
 abbrev pub task : Asked → Task
 task (asks.Script journal) = script journal.now
+task (asks.Check journal) = check journal.now
 task (asks.Drill seed commits) = drill seed commits
 
 -- how many commits a command makes by itself
 abbrev pub commits_of : Asked → ℕ
 commits_of (asks.Script journal) = 0
+commits_of (asks.Check journal) = 0
 commits_of (asks.Drill seed commits) = commits
 
 -- the text of an argument
@@ -36,6 +39,7 @@ abbrev pub task_of : Option (List ℕ × List Row) → Option Task
 task_of None = None
 task_of (Some p) =
     if bytes_eq p.0 (codes "script") then option_map script (text (codes "journal") p.1)
+    else if bytes_eq p.0 (codes "check") then option_map check (text (codes "journal") p.1)
     else if bytes_eq p.0 (codes "drill") then drill_of p.1
     else None
 

@@ -19,6 +19,10 @@ shape name rules = record (new_shape name) { rules = rules }
 abbrev pub script_shape : Shape
 script_shape = shape (codes "script") (word_rule (codes "journal") ∷ [])
 
+-- `check JOURNAL`
+abbrev pub check_shape : Shape
+check_shape = shape (codes "check") (word_rule (codes "journal") ∷ [])
+
 -- `drill --seed S --commits N`
 abbrev pub drill_shape : Shape
 drill_shape = shape (codes "drill") (option_rule (codes "seed") ∷ option_rule (codes "commits") ∷ [])
@@ -28,4 +32,4 @@ abbrev pub bare_line : App
 bare_line = record { top = record (new_shape (codes "nessie")) { subcommand_required = true }; subs = [] }
 
 abbrev pub line : App
-line = with_subcommand (with_subcommand bare_line script_shape) drill_shape
+line = with_subcommand (with_subcommand (with_subcommand bare_line script_shape) check_shape) drill_shape

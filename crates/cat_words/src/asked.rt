@@ -17,6 +17,8 @@ const MOST_COMMITS: u64 = 1_000_000;
 pub enum Asked<'a> {
     /// One session over the journal of this path.
     Script(&'a str),
+    /// How much the journal of this path holds.
+    Check(&'a str),
     /// So many commits, made from a seed.
     Drill { seed: u64, commits: u64 },
 }
@@ -51,6 +53,7 @@ fn asked_in<'a>(matches: &ArgMatches<'a>) -> Option<Asked<'a>>
     let (name, found) = entered(matches)?;
     match name {
         "script" => Some(Asked::Script(text(found, "journal")?)),
+        "check" => Some(Asked::Check(text(found, "journal")?)),
         "drill" => drill(found),
         _ => None,
     }

@@ -4,7 +4,7 @@ ghost use Rattle.std.specs.Prelude.{◌≡◌, [], IfErr, IfOk, IsErrOf, map, fa
 ghost use Rattle.clap.specs.Words.{app_of, fault_of, kind_of, rule_of, shape_of, subcommand_of, subcommand_rows_of};
 ghost use Rattle.clap.specs.declared.builder.command.Command.TheViews.{out-Command};
 ghost use Rattle.cat_words.specs.Asked.{is_free};
-ghost use Rattle.cat_words.specs.Line.{bare_line, drill_shape, line, option_rule, script_shape, word_rule};
+ghost use Rattle.cat_words.specs.Line.{bare_line, check_shape, drill_shape, line, option_rule, script_shape, word_rule};
 
 use clap::error::ErrorKind;
 use clap::{Arg, ArgAction, ArgMatches, Command, Error};
@@ -42,6 +42,13 @@ fn script<'a>(alloc: Global) -> Result<Command<'a>, AllocError>
     Command::new(alloc, "script").arg(word(alloc, "journal"))
 }
 
+fn check<'a>(alloc: Global) -> Result<Command<'a>, AllocError>
+    ensures shape { IfOk result (λ c. shape_of c ≡ check_shape) }
+    ensures local { IfOk result (λ c. (out-Command c).has_globals ≡ false) }
+{
+    Command::new(alloc, "check").arg(word(alloc, "journal"))
+}
+
 fn drill<'a>(alloc: Global) -> Result<Command<'a>, AllocError>
     ensures shape { IfOk result (λ c. shape_of c ≡ drill_shape) }
     ensures local { IfOk result (λ c. (out-Command c).has_globals ≡ false) }
@@ -61,8 +68,12 @@ fn command<'a>(alloc: Global) -> Result<Command<'a>, AllocError>
     ensures { IfOk result (λ c. app_of c ≡ line) }
 {
     let script = script(alloc)?;
+    let check = check(alloc)?;
     let drill = drill(alloc)?;
-    bare(alloc).subcommand(script)?.subcommand(drill)
+    bare(alloc)
+        .subcommand(script)?
+        .subcommand(check)?
+        .subcommand(drill)
 }
 
 fn parse<'a>(alloc: Global, words: &'a [&'a str]) -> Result<ArgMatches<'a>, Error>
