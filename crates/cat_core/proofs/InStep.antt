@@ -14,11 +14,11 @@ use Rattle.cat_model.specs.State.{State}
 use Rattle.cat_model.specs.Step.{Turn, opening, opens_draft, step}
 use Rattle.cat_state.specs.declared.failure.Failure.{Failure}
 use Rattle.cat_state.specs.declared.failure.Failure.TheVariants as failures
-use Rattle.cat_core.specs.declared.unmade.Unmade.TheVariants.{Failed, NotKept}
-use Rattle.cat_core.specs.Kept.{Fell, Grew, Leaves, Stayed, spelling, spellings}
-use Rattle.cat_core.specs.Making.{Makes}
+use Rattle.cat_ledger.specs.declared.unmade.Unmade.TheVariants.{Failed, NotKept}
+use Rattle.cat_ledger.specs.Kept.{Fell, Grew, Leaves, Stayed, spelling, spellings}
+use Rattle.cat_ledger.specs.Making.{Makes}
 use Rattle.cat_core.specs.Stored.{IsInStep, Stored}
-use Rattle.cat_core.proofs.Keeping.{leaves_any}
+use Rattle.cat_ledger.proofs.Keeping.{leaves_any}
 
 -- ---- a call logs one entry at most, and none where it is refused
 

@@ -1,7 +1,5 @@
-pub mod Ops
 pub mod Making
 pub mod Kept
-pub mod Putting
-pub mod Drafting
 pub mod Stored
-pub mod PlainLaws
+pub mod Counted
+pub mod Opening

@@ -1,7 +1,7 @@
 -- What a store holds, with what keeps its log.
 use Rattle.std.specs.Prelude.{◌≡◌, ℕ, List, Option, IfSome, reverse}
 use Rattle.cat_model.specs.Book.{Book}
-use Rattle.cat_core.specs.Kept.{spellings}
+use Rattle.cat_ledger.specs.Kept.{spellings}
 
 pub record Stored (K : Type 0) : Type 0 where
   pub book : Book

@@ -1,6 +1,6 @@
 //! The store.
 
-ghost use Rattle.std.specs.Prelude.{ℕ, ◌≡◌, ◌≤◌, ◌↔◌, [], Some, None, Err, false, length, reverse, IfErr, IfOk, IfSome, IsTrue};
+ghost use Rattle.std.specs.Prelude.{ℕ, ◌≡◌, ◌≤◌, ◌↔◌, [], Some, None, Err, false, length, reverse, IfErr, IfOk, IfSome, IsTrue, MatchResult};
 ghost use Rattle.sha2.specs.Sha256.{sha256};
 ghost use Rattle.cat_model.specs.Book.{Reads, call_on, first_book};
 ghost use Rattle.cat_model.specs.Chain.{entries};
@@ -8,17 +8,19 @@ ghost use Rattle.cat_model.specs.Maps.{entry_of};
 ghost use Rattle.cat_model.specs.Namespaces.{is_well_formed};
 ghost use Rattle.cat_model.specs.WellMade.{is_well_made};
 ghost use Rattle.cat_model.specs.declared.refusal.Refusal.TheVariants as refusals;
+ghost use Rattle.cat_io.specs.Causes.{Rose};
 ghost use Rattle.cat_state.specs.Adding.{IsAbove};
 ghost use Rattle.cat_state.specs.Counting.{main_head};
 ghost use Rattle.cat_plans.specs.Expiring.{is_expired};
-ghost use Rattle.cat_core.specs.Kept.{KeepsTold, Leaves, spellings};
+ghost use Rattle.cat_core.specs.Kept.{KeepsTold};
+ghost use Rattle.cat_ledger.specs.Kept.{Leaves, Stayed, spellings};
 ghost use Rattle.cat_core.specs.Making.{Answers};
+ghost use Rattle.cat_core.specs.Opening.{IsIllegalAt, IsLedTo};
 
-use crate::calls::refused;
-use crate::ledger::Ledger;
-use crate::unmade::Unmade;
+use crate::opening::{StoreFault, led_to};
 use cat_codes::fault::NoMemory;
 use cat_keeper::Keeper;
+use cat_ledger::{Ledger, Unmade, refused};
 use cat_model::ask::Ask;
 use cat_model::command::Command;
 use cat_model::entry::Entry;
@@ -64,6 +66,30 @@ impl<K: Keeper> Store<K> {
         ensures err { IfErr result (λ e. e.0 ≡ keeper) }
     {
         match Ledger::new(alloc, limits) {
+            Ok(ledger) => Ok(Store {
+                ledger,
+                keeper,
+                down: None,
+            }),
+            Err(fault) => Err((keeper, fault)),
+        }
+    }
+
+    /// Executes every entry of the keeper again: the store of the catalogue that they lead to. With
+    /// each fault the keeper comes back.
+    pub fn open(alloc: Global, keeper: K, limits: Limits) -> Result<Store<K>, (K, StoreFault)>
+        requires log { limits.log ≤ 4294967295 }
+        requires commits { limits.commits ≤ 4294967295 }
+        requires up { K.down keeper ≡ None }
+        ensures opened { IfOk result (λ store. IsLedTo (K.told keeper) (K.kept keeper) limits store.book) }
+        ensures stays { MatchResult result
+            (λ store. Stayed K.told K.kept K.down K.in_flight K.faults K.moment K.left_since K.may_leave keeper store.keeper)
+            (λ e. Stayed K.told K.kept K.down K.in_flight K.faults K.moment K.left_since K.may_leave keeper e.0) }
+        ensures illegal { IfErr result (λ e. (place : ℕ) → e.1 ≡ StoreFault.Illegal place → IsIllegalAt (K.told keeper) limits place) }
+        ensures fault { IfErr result (λ e. e.1 ≡ StoreFault.Fault → Rose (K.faults keeper) (K.faults e.0)) }
+    {
+        let mut keeper = keeper;
+        match led_to(alloc, &mut keeper, limits) {
             Ok(ledger) => Ok(Store {
                 ledger,
                 keeper,

@@ -1,0 +1,29 @@
+//! The drafts of entries.
+
+ghost use Rattle.std.specs.Prelude.{◌≡◌};
+ghost use Rattle.cat_model.specs.Step as step;
+ghost use Rattle.cat_checks.specs.Legal as legal;
+
+use cat_model::command::Command;
+use cat_model::log_entry::LogEntry;
+
+/// Whether a call opens a draft.
+fn opens_draft(command: &Command) -> bool
+    ensures { result ≡ step.opens_draft command.now }
+{
+    match command {
+        Command::Create(_) | Command::Assign(_) | Command::Delete(_) => false,
+        Command::Commit(_) | Command::Merge(_) | Command::Transplant(_) => true,
+    }
+}
+
+/// Whether an entry's draft is 0 exactly where its call opens none.
+pub fn has_its_draft(entry: &LogEntry) -> bool
+    ensures { result ≡ legal.has_its_draft entry.now }
+{
+    if opens_draft(&entry.command) {
+        entry.draft != 0
+    } else {
+        entry.draft == 0
+    }
+}

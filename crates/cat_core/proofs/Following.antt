@@ -1,0 +1,158 @@
+-- Whether an entry leads a book on, by how far its tests come.
+use Rattle.std.proofs.Common.{◌≡◌, ℕ, ◌+◌, ◌<◌, ◌≤◌, List, [], ◌∷◌, ◌++◌, length, reverse, Some, None, Result, Ok, Err, Bool, true, false, ◌&&◌, ◌||◌, not, cond, if◌then◌else◌, nat_eq, nat_lt, refl, sym, ap, subst, ◌∙◌, arith}
+use Rattle.std.specs.List.{list_any}
+use Rattle.std.specs.Str.{bytes_eq}
+use Rattle.std.specs.Cmp.{nat_eq_equiv}
+use Rattle.std.specs.Prelude.{is_ok}
+use Rattle.std.proofs.lemmas.Bool.{ltb-false, ltb-true}
+use Rattle.std.proofs.lemmas.List.{reverse-append, map-append}
+use Rattle.std.proofs.lemmas.Slice.Eq.{bytes_eq-Decides}
+use Rattle.sha2.specs.Sha256.{sha256}
+use Rattle.cat_codes.specs.declared.fault.FieldFault.{FieldFault}
+use Rattle.cat_codes.specs.Code.{whole}
+use Rattle.cat_codes.specs.ListLaws.{and_true}
+use Rattle.cat_checks.specs.Legal.{draft_is_new, has_its_draft, is_just, is_legal, next_book, read_next, replayed_call}
+use Rattle.cat_frames.specs.Entries.{is_logged, log_entry_code}
+use Rattle.cat_model.specs.declared.log_entry.LogEntry.{LogEntry}
+use Rattle.cat_model.specs.Book.{Book, after_call}
+use Rattle.cat_model.specs.Calls.{Called}
+use Rattle.cat_model.specs.WellMade.{is_well_made}
+use Rattle.cat_ledger.specs.Kept.{spelling, spellings}
+use Rattle.cat_core.specs.Opening.{Adds, AreDrafts, IsMadeAgain, NewestIsLogged, ReadsAs, RunsAgain, is_newest, may_follow, next_by}
+use Rattle.cat_core.proofs.Relogged.{IsLogOf, call_logs}
+
+-- ---- draft numbers
+
+-- the numbers decide whether a draft is new
+pub new_by : (numbers : List ℕ) (log : List LogEntry) (draft : ℕ) → AreDrafts numbers log → (nat_eq draft 0 || not (list_any (nat_eq draft) numbers)) ≡ draft_is_new log draft
+new_by numbers log draft are = ap (λ (b : Bool). nat_eq draft 0 || not b) (are draft)
+
+or_first : (b d : Bool) → cond b true d ≡ (b || d)
+or_first true d = refl
+or_first false d = refl
+
+-- with the newest entry's number, they are those of the longer log
+pub more_drafts : (numbers more : List ℕ) (log : List LogEntry) (entry : LogEntry) (draft : ℕ) → entry.draft ≡ draft → AreDrafts numbers log
+    → ((d : ℕ) → list_any (nat_eq d) more ≡ cond (nat_eq draft d) true (list_any (nat_eq d) numbers)) → AreDrafts more (entry ∷ log)
+more_drafts numbers more log entry draft own are added = λ d.
+    let same : nat_eq draft d ≡ nat_eq d entry.draft = nat_eq_equiv.symm draft d ∙ ap (nat_eq d) (sym own) in
+    added d ∙ (λ i. cond (same i) true (are d i)) ∙ or_first (nat_eq d entry.draft) _
+
+-- ---- the tests of an entry
+
+-- what may follow is well made, and has its draft
+pub follows_made : (log : List LogEntry) (entry : LogEntry) → may_follow log entry ≡ true → (is_well_made sha256 entry.command ≡ true) × (has_its_draft entry ≡ true)
+follows_made log entry may =
+    let two = (and_true (is_well_made sha256 entry.command && has_its_draft entry) (draft_is_new log entry.draft) may).0 in
+    and_true (is_well_made sha256 entry.command) (has_its_draft entry) two
+
+unread : (book : Book) (reading : Result LogEntry FieldFault) → is_ok reading ≡ false → read_next sha256 book reading ≡ None
+unread book (Ok entry) e = absurd cc
+unread book (Err fault) e = refl
+
+-- bytes that spell no entry
+pub no_entry : (book after : Book) (payload : List ℕ) → ReadsAs payload None → Adds book after payload false
+no_entry book after payload e = unread book (whole (log_entry_code sha256) payload) e
+
+read_is : (book : Book) (payload : List ℕ) (entry : LogEntry) → ReadsAs payload (Some entry) → next_by book payload ≡ next_book sha256 book entry
+read_is book payload entry reads = ap (read_next sha256 book) reads.0
+
+-- an entry that may not follow
+barred : (book : Book) (entry : LogEntry) → may_follow book.log entry ≡ false → next_book sha256 book entry ≡ None
+unfolding next_book is_legal
+barred book entry may = rw may refl
+
+pub may_not : (book after : Book) (payload : List ℕ) (entry : LogEntry) → ReadsAs payload (Some entry) → may_follow book.log entry ≡ false → Adds book after payload false
+may_not book after payload entry reads may = read_is book payload entry reads ∙ barred book entry may
+
+-- one whose call brings something else
+other : (book : Book) (entry : LogEntry) → is_just sha256 entry (replayed_call sha256 book entry).logged ≡ false → next_book sha256 book entry ≡ None
+unfolding next_book is_legal
+other book entry differs = rw differs (by_test (may_follow book.log entry))
+  where
+    by_test : (b : Bool) → (if b && false then Some (after_call book (replayed_call sha256 book entry)) else None) ≡ None
+    by_test true = refl
+    by_test false = refl
+
+pub none_made : (book after : Book) (payload : List ℕ) (entry : LogEntry) (ran : Bool) → ReadsAs payload (Some entry) → ran ≡ false → RunsAgain (replayed_call sha256 book entry) book after ran → Adds book after payload false
+none_made book after payload entry ran reads is runs =
+    let none : (replayed_call sha256 book entry).logged ≡ [] = subst (RunsAgain (replayed_call sha256 book entry) book after) is runs in
+    read_is book payload entry reads ∙ other book entry (ap (is_just sha256 entry) none)
+
+-- the call was accepted
+pub made_one : (book after : Book) (entry : LogEntry) (ran : Bool) → ran ≡ true → RunsAgain (replayed_call sha256 book entry) book after ran → IsMadeAgain (replayed_call sha256 book entry) book after
+made_one book after entry ran is runs = subst (RunsAgain (replayed_call sha256 book entry) book after) is runs
+
+newest_is : (book after : Book) (called : Called) (made : IsMadeAgain called book after) → after.log ≡ made.entry ∷ book.log
+newest_is book after called made = ap (λ (b : Book). b.log) made.book ∙ ap (λ (l : List LogEntry). l ++ book.log) made.logged
+
+pub other_made : (book after : Book) (payload : List ℕ) (entry : LogEntry) → ReadsAs payload (Some entry) → IsMadeAgain (replayed_call sha256 book entry) book after → is_newest after.log payload ≡ false → Adds book after payload false
+other_made book after payload entry reads made differs =
+    let spelled : bytes_eq (spelling made.entry) payload ≡ false = subst (λ (l : List LogEntry). is_newest l payload ≡ false) (newest_is book after _ made) differs in
+    read_is book payload entry reads ∙ other book entry (ap (is_just sha256 entry) made.logged ∙ ap (bytes_eq (spelling made.entry)) (sym reads.1) ∙ spelled)
+
+-- one whose call brings just this
+legal : (book : Book) (entry : LogEntry) → may_follow book.log entry ≡ true → is_just sha256 entry (replayed_call sha256 book entry).logged ≡ true → next_book sha256 book entry ≡ Some (after_call book (replayed_call sha256 book entry))
+unfolding next_book is_legal
+legal book entry may just = rw (may, just) refl
+
+pub just_made : (book after : Book) (payload : List ℕ) (entry : LogEntry) → ReadsAs payload (Some entry) → may_follow book.log entry ≡ true → IsMadeAgain (replayed_call sha256 book entry) book after → is_newest after.log payload ≡ true → Adds book after payload true
+just_made book after payload entry reads may made is =
+    let spelled : bytes_eq (spelling made.entry) payload ≡ true = subst (λ (l : List LogEntry). is_newest l payload ≡ true) (newest_is book after _ made) is in
+    record {
+      next = read_is book payload entry reads
+          ∙ legal book entry may (ap (is_just sha256 entry) made.logged ∙ ap (bytes_eq (spelling made.entry)) (sym reads.1) ∙ spelled)
+          ∙ ap (λ (b : Book). Some b) (sym made.book);
+      spelled = ap (λ (l : List LogEntry). spellings (reverse l)) (newest_is book after _ made)
+          ∙ ap spellings (reverse-append (made.entry ∷ []) book.log)
+          ∙ map-append spelling (reverse book.log) (made.entry ∷ [])
+          ∙ ap (λ (p : List ℕ). spellings (reverse book.log) ++ p ∷ []) ((bytes_eq-Decides _ _).0 spelled);
+      place = made.place;
+    }
+
+-- ---- the entry that was made
+
+logged_one : (draft : ℕ) (logged : List LogEntry) (e : LogEntry) → IsLogOf draft logged → logged ≡ e ∷ [] → (is_logged sha256 e ≡ true) × (e.draft ≡ draft)
+logged_one draft logged e is same = subst (IsLogOf draft) same is
+
+pub newest_logged : (book after : Book) (entry : LogEntry) → may_follow book.log entry ≡ true → IsMadeAgain (replayed_call sha256 book entry) book after → NewestIsLogged after.log
+newest_logged book after entry may made =
+    let parts = follows_made book.log entry may in
+    subst NewestIsLogged (sym (newest_is book after _ made)) (logged_one entry.draft _ made.entry (call_logs book entry parts.0 parts.1) made.logged).0
+
+-- the numbers of the drafts, with its number
+pub drafts_after : (book after : Book) (entry : LogEntry) (numbers more : List ℕ) → may_follow book.log entry ≡ true → IsMadeAgain (replayed_call sha256 book entry) book after → AreDrafts numbers book.log
+    → ((d : ℕ) → list_any (nat_eq d) more ≡ cond (nat_eq entry.draft d) true (list_any (nat_eq d) numbers)) → AreDrafts more after.log
+drafts_after book after entry numbers more may made are added =
+    let parts = follows_made book.log entry may in
+    subst (AreDrafts more) (sym (newest_is book after _ made))
+    (more_drafts numbers more book.log made.entry entry.draft (logged_one entry.draft _ made.entry (call_logs book entry parts.0 parts.1) made.logged).1 are added)
+
+-- ---- by the place that the book came to
+
+one_by : (draft : ℕ) (logged : List LogEntry) (before after : ℕ) → IsLogOf draft logged → after ≡ before + length logged → before < after → (e : LogEntry) × (logged ≡ e ∷ []) × (after ≡ before + 1)
+one_by draft [] before after is n lt = absurd (omega (arith, n, lt))
+one_by draft (e ∷ []) before after is n lt = (e, refl, omega (arith, n))
+one_by draft (e ∷ f ∷ entries) before after is n lt = absurd is
+
+none_by : (logged : List LogEntry) (before after : ℕ) → after ≡ before + length logged → after ≤ before → logged ≡ []
+none_by [] before after n le = refl
+none_by (e ∷ logged) before after n le = absurd (omega (arith, n, le))
+
+made_again : (book after : Book) (entry : LogEntry) → is_well_made sha256 entry.command ≡ true → has_its_draft entry ≡ true → after ≡ after_call book (replayed_call sha256 book entry)
+    → after.state.place ≡ book.state.place + length (replayed_call sha256 book entry).logged → book.state.place < after.state.place → RunsAgain (replayed_call sha256 book entry) book after true
+made_again book after entry made own is n lt =
+    let one = one_by entry.draft (replayed_call sha256 book entry).logged book.state.place after.state.place (call_logs book entry made own) n lt in
+    record { entry = one.0; logged = one.1; book = is; place = one.2 }
+
+not_again : (book after : Book) (entry : LogEntry) → after.state.place ≡ book.state.place + length (replayed_call sha256 book entry).logged → after.state.place ≤ book.state.place → RunsAgain (replayed_call sha256 book entry) book after false
+not_again book after entry n le = none_by _ book.state.place after.state.place n le
+
+-- a call that was accepted, by whether the place rose
+pub ran_by : (book after : Book) (entry : LogEntry) (before now : ℕ) → is_well_made sha256 entry.command ≡ true → has_its_draft entry ≡ true → after ≡ after_call book (replayed_call sha256 book entry)
+    → after.state.place ≡ book.state.place + length (replayed_call sha256 book entry).logged → before ≡ book.state.place → now ≡ after.state.place → RunsAgain (replayed_call sha256 book entry) book after (nat_lt before now)
+ran_by book after entry before now made own is n b a = by_test (nat_lt before now) refl
+  where
+    by_test : (rose : Bool) → nat_lt before now ≡ rose → RunsAgain (replayed_call sha256 book entry) book after rose
+    by_test true rose = let lt : before < now = ltb-true before now rose in made_again book after entry made own is n (omega (arith, lt, b, a))
+    by_test false rose = let le : now ≤ before = ltb-false before now rose in not_again book after entry n (omega (arith, le, b, a))

@@ -1,0 +1,87 @@
+//! What a keeper's payloads lead to.
+
+ghost use Rattle.std.specs.Prelude.{ℕ, List, ◌≡◌, ◌≤◌, ◌<◌, ◌+◌, None, IfOk, IsErrOf, OnOk};
+ghost use Rattle.cat_io.specs.Causes.{Rose};
+ghost use Rattle.cat_ledger.specs.Kept.{Stayed};
+ghost use Rattle.cat_core.specs.Opening.{AreDrafts, IsAdded, IsIllegalAt, IsLedTo, IsPayloadAt, next_by};
+
+use crate::replay::Replay;
+use cat_codes::fault::NoMemory;
+use cat_keeper::{KeepFault, Keeper};
+use cat_ledger::Ledger;
+use cat_model::limits::Limits;
+use std::alloc::Global;
+
+/// Why a store wasn't opened.
+#[derive(Clone, Copy, Debug, PartialEq, Eq)]
+pub enum StoreFault {
+    /// A fault of the keeper, which it counted.
+    Fault,
+    /// The payload at this place, the first from 1, is the first that is no entry or may not follow
+    /// those before it.
+    Illegal(u64),
+    /// Memory ran out.
+    NoMemory,
+}
+
+impl From<NoMemory> for StoreFault {
+    ghost use Rattle.std.specs.Prelude.{◌≡◌};
+    ghost use Rattle.cat_core.specs.declared.opening.StoreFault.TheVariants as faults;
+
+    ghost from_gives = { λ _ e. e ≡ faults.NoMemory };
+
+    fn from(_: NoMemory) -> StoreFault {
+        StoreFault::NoMemory
+    }
+}
+
+/// Adds the keeper's payload at a place, from 0.
+fn add_payload<K: Keeper>(
+    alloc: Global,
+    keeper: &mut K,
+    replay: &mut Replay,
+    i: u32,
+) -> Result<(), StoreFault>
+    requires there { i < K.kept keeper.old }
+    requires drafts { AreDrafts replay.old.drafts.keys replay.old.ledger.log }
+    ensures added { OnOk result ((payload : List ℕ) × IsPayloadAt (K.told keeper.old) i payload × IsAdded replay.old.ledger replay.new.ledger payload) }
+    ensures drafts { OnOk result (AreDrafts replay.new.drafts.keys replay.new.ledger.log) }
+    ensures illegal { (place : ℕ) → IsErrOf result (StoreFault.Illegal place) → (place ≡ i + 1) × ((payload : List ℕ) × IsPayloadAt (K.told keeper.old) i payload × (next_by replay.old.ledger payload ≡ None)) }
+    ensures fault { IsErrOf result StoreFault.Fault → Rose (K.faults keeper.old) (K.faults keeper.new) }
+    ensures stays { Stayed K.told K.kept K.down K.in_flight K.faults K.moment K.left_since K.may_leave keeper.old keeper.new }
+{
+    match keeper.entry(alloc, i) {
+        Ok(payload) => {
+            if replay.add(alloc, payload.as_slice())? {
+                Ok(())
+            } else {
+                Err(StoreFault::Illegal(u64::from(i) + 1))
+            }
+        }
+        Err(KeepFault::Fault) => Err(StoreFault::Fault),
+        Err(KeepFault::NoMemory) => Err(StoreFault::NoMemory),
+        Err(KeepFault::Down(_)) => unreachable!(),
+    }
+}
+
+/// The ledger that the keeper's payloads lead to.
+pub(crate) fn led_to<K: Keeper>(
+    alloc: Global,
+    keeper: &mut K,
+    limits: Limits,
+) -> Result<Ledger, StoreFault>
+    requires log { limits.log ≤ 4294967295 }
+    requires commits { limits.commits ≤ 4294967295 }
+    ensures led { IfOk result (IsLedTo (K.told keeper.old) (K.kept keeper.old) limits) }
+    ensures place { IfOk result (λ ledger. ledger.state.place ≡ K.kept keeper.old) }
+    ensures illegal { (place : ℕ) → IsErrOf result (StoreFault.Illegal place) → IsIllegalAt (K.told keeper.old) limits place }
+    ensures fault { IsErrOf result StoreFault.Fault → Rose (K.faults keeper.old) (K.faults keeper.new) }
+    ensures stays { Stayed K.told K.kept K.down K.in_flight K.faults K.moment K.left_since K.may_leave keeper.old keeper.new }
+{
+    let mut replay = Replay::new(alloc, limits)?;
+    for i in 0..keeper.count() {
+        add_payload(alloc, keeper, &mut replay, i)?;
+    }
+    let Replay { ledger, .. } = replay;
+    Ok(ledger)
+}

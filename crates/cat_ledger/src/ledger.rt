@@ -1,0 +1,77 @@
+//! A catalogue with the log that led to it.
+
+ghost use Rattle.std.specs.Prelude.{◌≡◌, ◌≤◌, IfOk, IsTrue};
+ghost use Rattle.sha2.specs.Sha256.{sha256};
+ghost use Rattle.cat_model.specs.Book.{first_book};
+ghost use Rattle.cat_model.specs.Chain.{entries};
+ghost use Rattle.cat_model.specs.Namespaces.{is_well_formed};
+ghost use Rattle.cat_model.specs.Pages.{first};
+ghost use Rattle.std.specs.Option.{option_copied};
+
+use cat_codes::fault::NoMemory;
+use cat_model::limits::Limits;
+use cat_model::log_entry::LogEntry;
+use cat_names::hash::Hash;
+use cat_state::catalogue::Catalogue;
+use std::alloc::Global;
+use std::marker::Model;
+
+/// A catalogue in memory, with the entries that led to it.
+#[derive(Drop)]
+pub struct Ledger {
+    pub(crate) catalogue: Catalogue,
+    pub(crate) draft: u64,
+    pub(crate) log: Vec<LogEntry>,
+}
+
+impl Model for Ledger {
+    ghost use Rattle.cat_model.specs.Book.{Book};
+
+    ghost Value = { Book };
+
+    ghost use Rattle.std.specs.Prelude.{reverse};
+
+    ghost view = { λ s. record { state = s.catalogue; draft = s.draft; log = reverse s.log.items } };
+}
+
+impl Ledger {
+    /// The ledger of an empty catalogue: the branch `main` without a commit.
+    pub fn new(alloc: Global, limits: Limits) -> Result<Ledger, NoMemory>
+        requires log { limits.log ≤ 4294967295 }
+        requires commits { limits.commits ≤ 4294967295 }
+        ensures { IfOk result (λ ledger. ledger ≡ first_book sha256 limits) }
+    {
+        Ok(Ledger {
+            catalogue: Catalogue::new(alloc, limits)?,
+            draft: 0,
+            log: Vec::new(alloc),
+        })
+    }
+
+    /// What holds of the map at each commit: the parent of each key is there as a namespace.
+    pub fn map_is_well_formed(&self, hash: &Hash)
+        ensures { IsTrue (is_well_formed (entries self.now.state.commits hash.now)) }
+    {
+        self.catalogue.map_is_well_formed(hash)
+    }
+
+    /// The newest entry of the log.
+    #[tactic(auto, using(crate::proofs::Newest::newest_is))]
+    pub fn last(&self) -> Option<&LogEntry>
+        ensures { option_copied result ≡ first self.now.log }
+    {
+        self.log.as_slice().last()
+    }
+
+    pub(crate) fn catalogue(&self) -> &Catalogue
+        ensures { result.now ≡ self.now.state }
+    {
+        &self.catalogue
+    }
+
+    pub(crate) fn draft(&self) -> u64
+        ensures { result ≡ self.now.draft }
+    {
+        self.draft
+    }
+}
