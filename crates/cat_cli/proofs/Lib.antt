@@ -2,8 +2,11 @@ pub mod Points
 pub mod Told
 pub mod Calls
 pub mod Brought
+pub mod Changed
 pub mod Standing
 pub mod Answering
 pub mod Reading
 pub mod Starting
-pub mod Given
+pub mod Opened
+pub mod Ran
+pub mod Counted

@@ -1,7 +1,6 @@
 -- What a sink tells after it was written to.
-use Rattle.std.proofs.Common.{◌≡◌, ℕ, List, ◌++◌, take, Option, Some, None, ap, sym, ◌∙◌}
-use Rattle.std.specs.Io.KnownBytes.{Appends, Keeps}
-use Rattle.cat_http.specs.Writing.{AppendsFront}
+use Rattle.std.proofs.Common.{◌≡◌, ℕ, List, ◌++◌, Option, Some, None, ap, ◌∙◌}
+use Rattle.std.specs.Io.KnownBytes.{Appends}
 
 pub some_is : (x y : List ℕ) → ◌≡◌ {A = Option (List ℕ)} (Some x) (Some y) → x ≡ y
 some_is x y e = cc

@@ -1,4 +1,8 @@
 pub mod Replies
 pub mod Sessions
+pub mod SessionLaws
 pub mod Answers
+pub mod Lines
+pub mod Journals
 pub mod Runs
+pub mod Opening

@@ -1,55 +1,140 @@
 -- What a run's status says.
-use Rattle.std.specs.Prelude.{ℕ, ◌≡◌, ◌⊎◌, List, ◌++◌, take, Option, Some, Bool, true, false, codes}
-use Rattle.sha2.specs.Sha256.{sha256}
+use Rattle.std.specs.Prelude.{ℕ, ◌≡◌, ◌⊎◌, List, ◌++◌, take, reverse, Option, Some, None, IfSome, Bool, true, false, Ok}
 use Rattle.cat_io.specs.Causes.{Rose}
-use Rattle.cat_model.specs.Limits.{program_limits}
-use Rattle.cat_model.specs.Script.{first_session}
+use Rattle.cat_journal.specs.Frames.{recovered}
+use Rattle.cat_model.specs.declared.log_entry.LogEntry.{LogEntry}
+use Rattle.cat_model.specs.Book.{Book}
+use Rattle.cat_ledger.specs.Kept.{spellings}
+use Rattle.cat_words.specs.Asked.{Task, script, check, drill}
+use Rattle.cat_cli.specs.declared.ending.Session.{Session as End}
 use Rattle.cat_cli.specs.declared.ending.Session.TheVariants as ends
+use Rattle.cat_cli.specs.declared.unopened.Unopened.{Unopened}
 use Rattle.cat_cli.specs.declared.status.Status.{Status}
 use Rattle.cat_cli.specs.declared.status.Status.TheVariants as statuses
-use Rattle.cat_cli.specs.Sessions.{Readings, Point, Ends}
+use Rattle.cat_cli.specs.Journals.{Begins, Holds, StandsFor, unopened_of}
+use Rattle.cat_cli.specs.Lines.{check_line, disk_fault_line, no_memory_line, unopened_line}
+use Rattle.cat_cli.specs.Sessions.{Readings, Point, Standing, Ends}
 
 -- the process's status
 abbrev pub code_of : Status → ℕ
 code_of statuses.Done = 0
 code_of statuses.Usage = 1
+code_of statuses.DiskFault = 2
+code_of statuses.Unreadable = 3
 code_of statuses.NoMemory = 4
 code_of statuses.ReadFault = 5
 code_of statuses.WriteFault = 6
 code_of statuses.Cut = 8
 
-abbrev pub usage_line : List ℕ
-usage_line = codes "nessie: usage\n"
+-- the journal of a command
+abbrev pub journal_of : Task → Option (List ℕ)
+journal_of (script journal) = Some journal
+journal_of (check journal) = Some journal
+journal_of (drill seed commits) = None
 
-abbrev pub no_memory_line : List ℕ
-no_memory_line = codes "nessie: no memory\n"
+-- ---- what is seen of a run
 
--- a session on an empty catalogue, before its first request: it answers 1,000 at most
-abbrev pub start : List ℕ → List ℕ → Point
-start bytes written = record { left = 1000; session = first_session sha256 program_limits; bytes = bytes; written = written }
+-- what the sink held before and after a run, with its counts of faults, and what the journal's disk tells before and after, where it does
+pub record Seen : Type 0 where
+  pub written : List ℕ
+  pub held : List ℕ
+  pub before : ℕ
+  pub now : ℕ
+  pub journal : Option (List ℕ)
+  pub left : Option (List ℕ)
+
+-- a front of the line was written, and the count of faults rose
+abbrev pub IsFront : List ℕ → List ℕ → List ℕ → ℕ → ℕ → Type 0
+IsFront line written held before now = (n : ℕ) × (held ≡ written ++ take n line) × Rose before now
 
 -- the line was written, or a front of it where the count of faults rose
 abbrev pub IsTold : List ℕ → List ℕ → List ℕ → ℕ → ℕ → Type 0
-IsTold line written held before now = (held ≡ written ++ line) ⊎ ((n : ℕ) × (held ≡ written ++ take n line) × Rose before now)
+IsTold line written held before now = (held ≡ written ++ line) ⊎ IsFront line written held before now
 
--- what the sink holds after a run of `script`, by its status; the sink's counts of faults are from before and after it
-abbrev pub Says : Readings → List ℕ → List ℕ → Status → List ℕ → ℕ → ℕ → Type 0
-Says clock bytes written statuses.Done held before now = Ends clock (start bytes written) ends.Closed held
-Says clock bytes written statuses.Usage held before now = ⊥
-Says clock bytes written statuses.NoMemory held before now =
-    Ends clock (start bytes written) ends.NoMemory held ⊎ IsTold no_memory_line written held before now
-Says clock bytes written statuses.ReadFault held before now = Ends clock (start bytes written) ends.ReadFault held
-Says clock bytes written statuses.WriteFault held before now = Ends clock (start bytes written) ends.WriteFault held
-Says clock bytes written statuses.Cut held before now =
-    Ends clock (start bytes written) ends.Capped held
-    ⊎ Ends clock (start bytes written) ends.BadHead held
-    ⊎ Ends clock (start bytes written) ends.TooLarge held
+abbrev pub Tells : List ℕ → Seen → Type 0
+Tells line s = IsTold line s.written s.held s.before s.now
+
+-- ---- no journal was opened
+
+-- what the sink holds then, by the status
+abbrev pub Refuses : Seen → Status → Type 0
+Refuses s statuses.DiskFault = s.held ≡ s.written ++ disk_fault_line
+Refuses s statuses.WriteFault = IsFront disk_fault_line s.written s.held s.before s.now
+Refuses s statuses.Unreadable = (why : Unopened) × unopened_of s.journal why × Tells (unopened_line why) s
+Refuses s statuses.NoMemory = Tells no_memory_line s
+Refuses s _ = ⊥
+
+-- and the journal stands for what it did
+abbrev pub RefusesSo : Seen → Status → Type 0
+RefusesSo s status = Refuses s status × StandsFor s.journal s.left
+
+-- ---- a script
+
+-- a session on a catalogue, before its first request: it answers 1,000 at most
+abbrev pub start : Book → List ℕ → List ℕ → Point
+start book bytes written = record { left = 1000; standing = record { book = book; readings = 0; fallen = None }; bytes = bytes; written = written }
+
+-- a session on the journal's catalogue ended so, and the journal has its entries
+pub record Ran (clock : Readings) (bytes : List ℕ) (s : Seen) (end : End) : Type 0 where
+  pub payloads : List (List ℕ)
+  pub book : Book
+  pub begins : Begins s.journal payloads book
+  pub last : Standing
+  pub ends : Ends clock (start book bytes s.written) end s.held last
+  pub added : List LogEntry
+  pub grows : last.book.log ≡ reverse added ++ book.log
+  pub keeps : IfSome s.left (Holds (payloads ++ spellings added) last.fallen)
+
+-- and no append failed
+abbrev pub RanWell : Readings → List ℕ → Seen → End → Type 0
+RanWell clock bytes s end = (ran : Ran clock bytes s end) × (ran.last.fallen ≡ None)
+
+-- a session was held, by the status
+abbrev pub Answers : Readings → List ℕ → Seen → Status → Type 0
+Answers clock bytes s statuses.Done = RanWell clock bytes s ends.Closed
+Answers clock bytes s statuses.Cut = RanWell clock bytes s ends.Capped ⊎ RanWell clock bytes s ends.BadHead ⊎ RanWell clock bytes s ends.TooLarge
+Answers clock bytes s statuses.DiskFault =
+    Ran clock bytes s ends.Closed ⊎ Ran clock bytes s ends.Capped ⊎ Ran clock bytes s ends.BadHead ⊎ Ran clock bytes s ends.TooLarge
+Answers clock bytes s statuses.ReadFault = Ran clock bytes s ends.ReadFault
+Answers clock bytes s statuses.WriteFault = Ran clock bytes s ends.WriteFault
+Answers clock bytes s statuses.NoMemory = Ran clock bytes s ends.NoMemory
+Answers clock bytes s _ = ⊥
+
+-- what a run of `script` does, by its status
+abbrev pub Says : Readings → List ℕ → Seen → Status → Type 0
+Says clock bytes s status = Answers clock bytes s status ⊎ RefusesSo s status
 
 -- the same where the clock, the source and the sink tell what they have
-abbrev pub SaysKnown : Option Readings → Option (List ℕ) → Option (List ℕ) → Status → Option (List ℕ) → ℕ → ℕ → Type 0
-SaysKnown ahead bytes held status after before now =
+abbrev pub SaysKnown : Option Readings → Option (List ℕ) → Option (List ℕ) → Status → Option (List ℕ) → ℕ → ℕ → Option (List ℕ) → Option (List ℕ) → Type 0
+SaysKnown ahead bytes held status after before now journal left =
     (clock : Readings) (b w : List ℕ) → ahead ≡ Some clock → bytes ≡ Some b → held ≡ Some w
-    → (h : List ℕ) × (after ≡ Some h) × Says clock b w status h before now
+    → (h : List ℕ) × (after ≡ Some h) × Says clock b (record { written = w; held = h; before = before; now = now; journal = journal; left = left }) status
+
+-- ---- a check
+
+-- the journal was opened, and stands for what it did
+pub record Opens (s : Seen) (book : Book) : Type 0 where
+  pub payloads : List (List ℕ)
+  pub begins : Begins s.journal payloads book
+  pub keeps : IfSome s.left (λ bytes. recovered bytes ≡ Ok payloads)
+
+-- its catalogue was counted, by the status
+abbrev pub Counts : Seen → Status → Type 0
+Counts s statuses.Done = (book : Book) × Opens s book × (s.held ≡ s.written ++ check_line book)
+Counts s statuses.WriteFault = (book : Book) × Opens s book × IsFront (check_line book) s.written s.held s.before s.now
+Counts s _ = ⊥
+
+-- what a run of `check` does, by its status
+abbrev pub Checks : Seen → Status → Type 0
+Checks s status = Counts s status ⊎ RefusesSo s status
+
+-- the same where the sink tells what it has
+abbrev pub ChecksKnown : Option (List ℕ) → Status → Option (List ℕ) → ℕ → ℕ → Option (List ℕ) → Option (List ℕ) → Type 0
+ChecksKnown held status after before now journal left =
+    (w : List ℕ) → held ≡ Some w
+    → (h : List ℕ) × (after ≡ Some h) × Checks (record { written = w; held = h; before = before; now = now; journal = journal; left = left }) status
+
+-- ---- lines
 
 -- a line was told, where the sink tells what it has
 abbrev pub TellsKnown : List ℕ → Option (List ℕ) → Option (List ℕ) → ℕ → ℕ → Type 0
@@ -58,11 +143,9 @@ TellsKnown line held after before now = (w : List ℕ) → held ≡ Some w → (
 -- what the sink holds after a run of `drill` whose line this is, by its status
 abbrev pub Drills : List ℕ → List ℕ → Status → List ℕ → ℕ → ℕ → Type 0
 Drills line written statuses.Done held before now = held ≡ written ++ line
-Drills line written statuses.Usage held before now = ⊥
 Drills line written statuses.NoMemory held before now = IsTold no_memory_line written held before now
-Drills line written statuses.ReadFault held before now = ⊥
-Drills line written statuses.WriteFault held before now = (n : ℕ) × (held ≡ written ++ take n line) × Rose before now
-Drills line written statuses.Cut held before now = ⊥
+Drills line written statuses.WriteFault held before now = IsFront line written held before now
+Drills line written _ held before now = ⊥
 
 -- the same where the sink tells what it has
 abbrev pub DrillsKnown : List ℕ → Option (List ℕ) → Status → Option (List ℕ) → ℕ → ℕ → Type 0

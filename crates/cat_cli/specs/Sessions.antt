@@ -1,29 +1,83 @@
 -- A session over one stream of bytes: the requests in turn, the replies to them, and how it ends.
-use Rattle.std.specs.Prelude.{ℕ, ◌+◌, ◌<◌, ◌==◌, ◌≡◌, ◌⊎◌, List, [], ◌∷◌, ◌++◌, take, Option, Some, None, Bool, true, false, ◌||◌}
+use Rattle.std.specs.Prelude.{ℕ, ◌+◌, ◌<◌, ◌==◌, ◌≡◌, ◌⊎◌, List, [], ◌∷◌, ◌++◌, take, Option, Some, None, Bool, true, false, ◌||◌, Result, Ok, Err, option_map}
 use Rattle.sha2.specs.Sha256.{sha256}
 use Rattle.cat_io.specs.Clocks.{from}
-use Rattle.cat_model.specs.declared.refusal.Refusal.TheVariants.{BadRequest, TooLarge}
+use Rattle.cat_model.specs.declared.log_entry.LogEntry.{LogEntry}
+use Rattle.cat_model.specs.declared.refusal.Refusal.{Refusal}
+use Rattle.cat_model.specs.declared.refusal.Refusal.TheVariants.{BadRequest, Down, Fault, TooLarge}
 use Rattle.cat_model.specs.declared.refusal.Reason.TheVariants.{BadHead}
+use Rattle.cat_model.specs.declared.wanted.Wanted.{Wanted}
+use Rattle.cat_model.specs.declared.wanted.Wanted.TheVariants.{Change}
 use Rattle.cat_model.specs.Book.{Book}
-use Rattle.cat_model.specs.Script.{Session, Brought, MayBring}
+use Rattle.cat_model.specs.Script.{Session, Brought, IsGivenUp, MayBring, request}
 use Rattle.cat_http.specs.Message.{Message}
 use Rattle.cat_http.specs.Fields.{closes}
 use Rattle.cat_http.specs.Next.{IsRequest, IsEnd, IsMalformed, IsTooLarge}
 use Rattle.cat_rest.specs.Wanted.{wanted}
+use Rattle.cat_ledger.specs.Kept.{spelling}
+use Rattle.cat_core.specs.Stored.{Stored}
 use Rattle.cat_cli.specs.declared.ending.Session.{Session as End}
 use Rattle.cat_cli.specs.declared.ending.Session.TheVariants as ends
 use Rattle.cat_cli.specs.Replies.{said_bytes, refused_bytes, is_head}
 
--- where a session stands: how many requests it still answers, the catalogue, the bytes to come, and what was written
-pub record Point : Type 0 where
-  pub left : ℕ
-  pub session : Session
-  pub bytes : List ℕ
-  pub written : List ℕ
-
 -- the readings of a clock, the first at 0
 abbrev pub Readings : Type 0
 Readings = ℕ → ℕ
+
+-- ---- one request on a store
+
+-- an append that failed: the count of faults then, and the entry that was to be kept
+pub record Fallen : Type 0 where
+  pub count : ℕ
+  pub entry : LogEntry
+
+-- how a store stands in a session: its book, how many moments were taken, and the append that failed, if one did
+pub record Standing : Type 0 where
+  pub book : Book
+  pub readings : ℕ
+  pub fallen : Option Fallen
+
+-- the session at which it stands
+abbrev pub session_of : Standing → Session
+session_of s = record { state = s.book.state; draft = s.book.draft; readings = s.readings }
+
+-- what a request brought on a store, which it left so
+pub record Went (before after : Standing) (b : Brought) : Type 0 where
+  pub book : after.book ≡ record { state = b.after.state; draft = b.after.draft; log = b.logged ++ before.book.log }
+  pub readings : after.readings ≡ b.after.readings
+
+-- a request while the store is down: a change is told so, once its moment is taken, and all others are answered as ever
+abbrev pub down_request : Readings → Session → ℕ → Result Wanted Refusal → Brought
+down_request clock s count (Ok (Change command)) =
+    record { said = Err (record { place = Some s.state.place; why = Down count }); logged = []; after = record s { readings = s.readings + 1 } }
+down_request clock s count wanted = request sha256 1 clock s wanted
+
+-- the call is accepted and its entry wasn't kept, which is told as a fault: its moment and its draft number are taken, nothing else is changed, and the store is down
+pub record Falls (clock : Readings) (before after : Standing) (wanted : Result Wanted Refusal) (b : Brought) : Type 0 where
+  pub fallen : Fallen
+  pub accepted : (request sha256 1 clock (session_of before) wanted).logged ≡ fallen.entry ∷ []
+  pub said : b.said ≡ Err (record { place = Some before.book.state.place; why = Fault })
+  pub logged : b.logged ≡ []
+  pub after_is : b.after ≡ record { state = before.book.state; draft = (request sha256 1 clock (session_of before) wanted).after.draft; readings = before.readings + 1 }
+  pub went : Went before after b
+  pub down : after.fallen ≡ Some fallen
+
+-- what one request may come to, by whether an append had failed before
+abbrev pub MayComeTo : Readings → Standing → Option Fallen → Result Wanted Refusal → Brought → Standing → Type 0
+MayComeTo clock s None wanted b s' =
+    (MayBring sha256 1 clock (session_of s) wanted b × Went s s' b × (s'.fallen ≡ None))
+    ⊎ Falls clock s s' wanted b
+MayComeTo clock s (Some f) wanted b s' =
+    ((b ≡ down_request clock (session_of s) f.count wanted) ⊎ IsGivenUp (session_of s) b) × Went s s' b × (s'.fallen ≡ Some f)
+
+-- ---- one request after another
+
+-- where a session stands: how many requests it still answers, the store, the bytes to come, and what was written
+pub record Point : Type 0 where
+  pub left : ℕ
+  pub standing : Standing
+  pub bytes : List ℕ
+  pub written : List ℕ
 
 -- the request asks for the end of the session
 abbrev pub asks_to_close : Message → Bool
@@ -38,8 +92,7 @@ pub record Turn : Type 0 where
 -- the next request at a is answered; the reply to the last request that a session answers says that it ends
 pub record Answered (clock : Readings) (a : Point) (t : Turn) : Type 0 where
   pub reads : IsRequest a.bytes t.message t.after.bytes
-  pub brings : MayBring sha256 1 clock a.session (wanted t.message) t.brought
-  pub session : t.after.session ≡ t.brought.after
+  pub brings : MayComeTo clock a.standing a.standing.fallen (wanted t.message) t.brought t.after.standing
   pub left : a.left ≡ t.after.left + 1
   pub written : t.after.written ≡ a.written ++ said_bytes (asks_to_close t.message || t.after.left == 0) (is_head t.message) t.brought.said
 
@@ -51,67 +104,75 @@ GoesOn clock (t ∷ turns) a c = Answered clock a t × (asks_to_close t.message 
 abbrev pub Reaches : Readings → Point → Point → Type 0
 Reaches clock a c = (turns : List Turn) × GoesOn clock turns a c
 
--- ---- how it ends at the point that it reached
+-- ---- how it ends at the point that it reached, and how the store stands then
 
 -- the input ends between two requests
-pub record IsAtEnd (c : Point) (held : List ℕ) : Type 0 where
+pub record IsAtEnd (c : Point) (held : List ℕ) (last : Standing) : Type 0 where
   pub some_left : 0 < c.left
   pub at_end : IsEnd c.bytes
   pub all : held ≡ c.written
+  pub stays : last ≡ c.standing
 
 -- the last request asks for the end
-pub record IsClosedBy (clock : Readings) (c : Point) (t : Turn) (held : List ℕ) : Type 0 where
+pub record IsClosedBy (clock : Readings) (c : Point) (t : Turn) (held : List ℕ) (last : Standing) : Type 0 where
   pub answered : Answered clock c t
   pub asks : asks_to_close t.message ≡ true
   pub all : held ≡ t.after.written
+  pub leaves : last ≡ t.after.standing
 
 -- what comes next is refused by its bytes, and the reply says that the session ends
-pub record IsRefused (c : Point) (cause : Type 0) (bytes : List ℕ) (held : List ℕ) : Type 0 where
+pub record IsRefused (c : Point) (cause : Type 0) (bytes : List ℕ) (held : List ℕ) (last : Standing) : Type 0 where
   pub some_left : 0 < c.left
   pub is_so : cause
   pub all : held ≡ c.written ++ bytes
+  pub stays : last ≡ c.standing
 
--- this is the reply that is due next
-abbrev pub IsDue : Readings → Point → List ℕ → Type 0
-IsDue clock c bytes =
-    ((t : Turn) × Answered clock c t × (t.after.written ≡ c.written ++ bytes))
-    ⊎ (IsMalformed c.bytes × (bytes ≡ refused_bytes (BadRequest BadHead)))
-    ⊎ (IsTooLarge c.bytes × (bytes ≡ refused_bytes TooLarge))
+-- this is the reply that is due next, and so the store stands then
+abbrev pub IsDue : Readings → Point → List ℕ → Standing → Type 0
+IsDue clock c bytes last =
+    ((t : Turn) × Answered clock c t × (t.after.written ≡ c.written ++ bytes) × (last ≡ t.after.standing))
+    ⊎ (IsMalformed c.bytes × (bytes ≡ refused_bytes (BadRequest BadHead)) × (last ≡ c.standing))
+    ⊎ (IsTooLarge c.bytes × (bytes ≡ refused_bytes TooLarge) × (last ≡ c.standing))
 
 -- a front of the reply that was due
-abbrev pub IsCutOff : Readings → Point → List ℕ → Type 0
-IsCutOff clock c held = (bytes : List ℕ) × IsDue clock c bytes × (n : ℕ) × (held ≡ c.written ++ take n bytes)
+abbrev pub IsCutOff : Readings → Point → List ℕ → Standing → Type 0
+IsCutOff clock c held last = (bytes : List ℕ) × IsDue clock c bytes last × (n : ℕ) × (held ≡ c.written ++ take n bytes)
 
--- what the sink holds where the session ended so
-abbrev pub EndsAt : Readings → Point → End → List ℕ → Type 0
-EndsAt clock c ends.Closed held = IsAtEnd c held ⊎ ((t : Turn) × IsClosedBy clock c t held)
-EndsAt clock c ends.Capped held = (c.left ≡ 0) × (held ≡ c.written)
-EndsAt clock c ends.BadHead held = IsRefused c (IsMalformed c.bytes) (refused_bytes (BadRequest BadHead)) held
-EndsAt clock c ends.TooLarge held = IsRefused c (IsTooLarge c.bytes) (refused_bytes TooLarge) held
-EndsAt clock c ends.ReadFault held = held ≡ c.written
-EndsAt clock c ends.WriteFault held = IsCutOff clock c held
-EndsAt clock c ends.NoMemory held = held ≡ c.written
+-- nothing is told, whether or not the next request was answered by the store
+abbrev pub IsUntold : Readings → Point → List ℕ → Standing → Type 0
+IsUntold clock c held last = (held ≡ c.written) × ((last ≡ c.standing) ⊎ ((t : Turn) × Answered clock c t × (last ≡ t.after.standing)))
+
+-- what the sink holds where the session ended so, and how the store stands
+abbrev pub EndsAt : Readings → Point → End → List ℕ → Standing → Type 0
+EndsAt clock c ends.Closed held last = IsAtEnd c held last ⊎ ((t : Turn) × IsClosedBy clock c t held last)
+EndsAt clock c ends.Capped held last = (c.left ≡ 0) × (held ≡ c.written) × (last ≡ c.standing)
+EndsAt clock c ends.BadHead held last = IsRefused c (IsMalformed c.bytes) (refused_bytes (BadRequest BadHead)) held last
+EndsAt clock c ends.TooLarge held last = IsRefused c (IsTooLarge c.bytes) (refused_bytes TooLarge) held last
+EndsAt clock c ends.ReadFault held last = (held ≡ c.written) × (last ≡ c.standing)
+EndsAt clock c ends.WriteFault held last = IsCutOff clock c held last
+EndsAt clock c ends.NoMemory held last = IsUntold clock c held last
 
 -- a session that begins at a ends so
-abbrev pub Ends : Readings → Point → End → List ℕ → Type 0
-Ends clock a end held = (c : Point) × Reaches clock a c × EndsAt clock c end held
+abbrev pub Ends : Readings → Point → End → List ℕ → Standing → Type 0
+Ends clock a end held last = (c : Point) × Reaches clock a c × EndsAt clock c end held last
 
--- ---- what a clock, a source and a sink tell
+-- ---- what a keeper, a clock, a source and a sink tell
 
--- the store and the clock stand at a session
-pub record IsAt (clock : Readings) (s : Session) (store : Book) (ahead : Option Readings) : Type 0 where
-  pub state_is : store.state ≡ s.state
-  pub draft_is : store.draft ≡ s.draft
+-- the store and the clock stand so
+pub record IsAt {K : Type 0} (down : K → Option ℕ) (in_flight : K → Option (List ℕ)) (clock : Readings) (s : Standing) (store : Stored K) (ahead : Option Readings) : Type 0 where
+  pub book_is : store.book ≡ s.book
+  pub down_is : down store.keeper ≡ option_map (λ (f : Fallen). f.count) s.fallen
+  pub flies : in_flight store.keeper ≡ option_map (λ (f : Fallen). spelling f.entry) s.fallen
   pub to_come : ahead ≡ Some (from s.readings clock)
 
 -- the store, the clock, the source and the sink stand at a point
-pub record Stands (clock : Readings) (c : Point) (store : Book) (ahead : Option Readings) (bytes held : Option (List ℕ)) : Type 0 where
-  pub session_at : IsAt clock c.session store ahead
+pub record Stands {K : Type 0} (down : K → Option ℕ) (in_flight : K → Option (List ℕ)) (clock : Readings) (c : Point) (store : Stored K) (ahead : Option Readings) (bytes held : Option (List ℕ)) : Type 0 where
+  pub store_at : IsAt down in_flight clock c.standing store ahead
   pub bytes_are : bytes ≡ Some c.bytes
   pub held_is : held ≡ Some c.written
 
 -- a session that begins so ends so, where the clock, the source and the sink tell what they have
-abbrev pub EndsKnown : ℕ → Book → Option Readings → Option (List ℕ) → Option (List ℕ) → End → Option (List ℕ) → Type 0
-EndsKnown most store ahead bytes held end after =
-    (clock : Readings) (a : Point) → a.left ≡ most → Stands clock a store ahead bytes held
-    → (h : List ℕ) × (after ≡ Some h) × Ends clock a end h
+abbrev pub EndsKnown : {K : Type 0} → (K → Option ℕ) → (K → Option (List ℕ)) → ℕ → Stored K → Stored K → Option Readings → Option Readings → Option (List ℕ) → Option (List ℕ) → End → Option (List ℕ) → Type 0
+EndsKnown down in_flight most store store' ahead ahead' bytes held end after =
+    (clock : Readings) (a : Point) → a.left ≡ most → Stands down in_flight clock a store ahead bytes held
+    → (h : List ℕ) × (after ≡ Some h) × (last : Standing) × Ends clock a end h last × IsAt down in_flight clock last store' ahead'

@@ -1,14 +1,11 @@
 //! The replies to single requests.
 
-ghost use Rattle.std.specs.Prelude.{◌≡◌, ◌≢◌, ◌≤◌, ◌==◌, ◌||◌, ℕ, List, IfNone, IfSome, IsTrue, Some, None, Err, OnOk};
+ghost use Rattle.std.specs.Prelude.{◌≡◌, ◌≢◌, ◌≤◌, ◌==◌, ◌||◌, ℕ, List, IfNone, IfSome, Some, None, Err, OnOk};
 ghost use Rattle.cat_io.specs.Causes.{Rose};
-ghost use Rattle.cat_cli.specs.Sessions.{Readings, Point, Turn, EndsAt};
+ghost use Rattle.cat_cli.specs.Sessions.{Readings, Point, Turn};
 ghost use Rattle.std.specs.Io.KnownBytes.{Appends};
 ghost use Rattle.cat_http.specs.Writing.{AppendsFront};
-ghost use Rattle.sha2.specs.Sha256.{sha256};
-ghost use Rattle.cat_model.specs.Book.{Applies, call_on};
-ghost use Rattle.cat_model.specs.WellMade.{is_well_made};
-ghost use Rattle.cat_cli.specs.Answers.{SaysTo, IsAsked, IsAnswered, given_up};
+ghost use Rattle.cat_cli.specs.Answers.{SaysTo, FallsByFault, IsAsked, IsAnswered, LeavesAt, change_stands};
 ghost use Rattle.cat_cli.specs.Replies.{is_head, refused_bytes};
 
 use crate::ending::Session;
@@ -16,8 +13,7 @@ use crate::reply::{Said, refusal_reply, response, send};
 use cat_core::Store;
 use cat_http::Request;
 use cat_io::{Clock, Sink};
-use cat_keeper::MemKeeper;
-use cat_model::command::Command;
+use cat_keeper::Keeper;
 use cat_model::moment::Moment;
 use cat_model::refusal::{Refusal, Refused};
 use cat_model::reply::Told;
@@ -28,80 +24,66 @@ use std::alloc::Global;
 /// The caller of the only session.
 const CALLER: u32 = 1;
 
-/// The refusal of a call that was given up for want of memory.
-fn given_up() -> Refused
-    ensures { result ≡ given_up }
+// Whether the reply must tell it: a change that was made, or that may have been kept.
+fn change_stands(told: &Result<Told, Refused>) -> bool
+    ensures { result ≡ change_stands told.now }
 {
-    Refused {
-        place: None,
-        why: Refusal::NoMemory,
-    }
-}
-
-// A log in memory meets no fault, which the keeper's type doesn't say: it would be told as want of
-// memory, as the call made no entry.
-fn made(
-    alloc: Global,
-    store: &mut Store<MemKeeper>,
-    moment: Moment,
-    command: &Command,
-) -> Result<Told, Refused>
-    requires { IsTrue (is_well_made sha256 command.now) }
-    ensures { Applies (call_on sha256 1 store.old.book command.now moment) store.old.book store.new.book result }
-{
-    match store.apply(alloc, CALLER, moment, command) {
-        Ok(told) => Ok(told),
+    match told {
+        Ok(_) => true,
         Err(refused) => match refused.why {
-            Refusal::Fault => Err(given_up()),
-            Refusal::Down(_) => Err(given_up()),
-            _ => Err(refused),
+            Refusal::Fault => true,
+            _ => false,
         },
     }
 }
 
-fn said_to<C: Clock>(
+fn said_to<K0: Keeper, C: Clock>(
     alloc: Global,
     routes: &Routes,
-    store: &mut Store<MemKeeper>,
+    store: &mut Store<K0>,
     clock: &mut C,
     request: &Request<'_>,
 ) -> Said
-    ensures { SaysTo request.now store.old.book (C.ahead clock.old) result.told result.may_change store.new.book (C.ahead clock.new) }
+    ensures says { SaysTo K0.down K0.in_flight request.now store.old (C.ahead clock.old) result.told result.stands store.new (C.ahead clock.new) }
+    ensures up { FallsByFault K0.down K0.faults store.old.keeper store.new.keeper }
+    ensures later { K0.faults store.old.keeper ≤ K0.faults store.new.keeper }
 {
     match to_command(alloc, routes, request) {
         Ok(Wanted::Read(ask)) => Said {
             told: store.read(alloc, &ask),
-            may_change: false,
+            stands: false,
         },
         Ok(Wanted::Change(command)) => {
             let moment = Moment::from_micros(clock.now());
-            let told = made(alloc, store, moment, &command);
-            let may_change = told.is_ok();
-            Said { told, may_change }
+            let told = store.apply(alloc, CALLER, moment, &command);
+            let stands = change_stands(&told);
+            Said { told, stands }
         }
         Err(refused) => Said {
             told: Err(refused),
-            may_change: false,
+            stands: false,
         },
     }
 }
 
 /// Answers a request, behind which so many may follow. None: the session goes on.
-pub(crate) fn answer<K: Sink, C: Clock>(
+pub(crate) fn answer<K0: Keeper, K: Sink, C: Clock>(
     alloc: Global,
     routes: &Routes,
-    store: &mut Store<MemKeeper>,
+    store: &mut Store<K0>,
     request: &Request<'_>,
     sink: &mut K,
     clock: &mut C,
     left: u64,
 ) -> Option<Session>
     ensures on { IfNone result ((k : Readings) (c : Point) (rest : List ℕ)
-        → IsAsked k c left request.now rest store.old.book (C.ahead clock.old) (K.held sink.old)
-        → (t : Turn) × IsAnswered k c left rest t store.new.book (C.ahead clock.new) (K.held sink.new)) }
+        → IsAsked K0.down K0.in_flight k c left request.now rest store.old (C.ahead clock.old) (K.held sink.old)
+        → (t : Turn) × IsAnswered K0.down K0.in_flight k c left rest t store.new (C.ahead clock.new) (K.held sink.new)) }
     ensures ends { IfSome result (λ end. (k : Readings) (c : Point) (rest : List ℕ)
-        → IsAsked k c left request.now rest store.old.book (C.ahead clock.old) (K.held sink.old)
-        → (h : List ℕ) × (K.held sink.new ≡ Some h) × EndsAt k c end h) }
+        → IsAsked K0.down K0.in_flight k c left request.now rest store.old (C.ahead clock.old) (K.held sink.old)
+        → LeavesAt K0.down K0.in_flight k c end store.new (C.ahead clock.new) (K.held sink.new)) }
+    ensures up { FallsByFault K0.down K0.faults store.old.keeper store.new.keeper }
+    ensures later_store { K0.faults store.old.keeper ≤ K0.faults store.new.keeper }
     ensures open { result ≢ Some Session.Capped }
     ensures read { result ≢ Some Session.ReadFault }
     ensures write { result ≡ Some Session.WriteFault → Rose (K.faults sink.old) (K.faults sink.new) }

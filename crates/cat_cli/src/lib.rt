@@ -1,15 +1,21 @@
 //! The program. `run` does all that the program does, over disks, a source, a sink, a clock and a
-//! listener: with `script` it answers the requests of the source one after another, and what it
-//! writes is the rendered replies of the catalogue to the requests in the bytes that it reads; with
-//! `drill` it writes the line of the catalogue that a seed makes.
+//! listener. `script` answers the requests of the source one after another on the catalogue of a
+//! journal: what it writes is the rendered replies of the catalogue to the requests in the bytes that
+//! it reads, and the journal has the entries of what they changed. `check` writes the line of that
+//! catalogue, and `drill` the line of the catalogue that a seed makes.
 #![tactic(auto)]
 
 mod answer;
+mod checking;
 mod ending;
+mod journal;
 mod program;
 mod reply;
+mod scripting;
 mod session;
 mod status;
+mod telling;
+mod unopened;
 
 pub use ending::Session;
 pub use program::run;

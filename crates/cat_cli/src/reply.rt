@@ -15,35 +15,36 @@ use cat_rest::{refusal_to_json, status_of, to_json};
 use http::StatusCode;
 use std::alloc::Global;
 
-/// What the catalogue tells a request, and whether it may have changed by it.
+/// What the catalogue tells a request, and whether the reply must tell it.
 #[derive(Drop)]
 pub(crate) struct Said {
     pub told: Result<Told, Refused>,
-    pub may_change: bool,
+    pub stands: bool,
 }
 
-/// The reply to a request. Where no memory is left for its text, it tells so if nothing was changed.
+/// The reply to a request. Where no memory is left for its text, it tells so in place of what
+/// needn't be told.
 pub(crate) fn response(
     alloc: Global,
     close: bool,
     head_only: bool,
     said: Said,
 ) -> Result<Response, NoMemory>
-    ensures reply { IfOk result (λ r. RepliesTo close head_only said.told said.may_change (render r)) }
-    ensures told { said.may_change ≡ false → IsOk result }
+    ensures reply { IfOk result (λ r. RepliesTo close head_only said.told said.stands (render r)) }
+    ensures told { said.stands ≡ false → IsOk result }
 {
     match told_response(alloc, close, head_only, &said.told) {
         Ok(response) => Ok(response),
-        Err(NoMemory) => or_no_memory(close, head_only, said.may_change),
+        Err(NoMemory) => or_no_memory(close, head_only, said.stands),
     }
 }
 
 #[tactic(auto, unfolding(crate::specs::Replies::said_bytes))]
-fn or_no_memory(close: bool, head_only: bool, may_change: bool) -> Result<Response, NoMemory>
-    ensures reply { IfOk result (λ r. (may_change ≡ false) × (render r ≡ said_bytes close head_only (Err given_up))) }
-    ensures told { may_change ≡ false → IsOk result }
+fn or_no_memory(close: bool, head_only: bool, stands: bool) -> Result<Response, NoMemory>
+    ensures reply { IfOk result (λ r. (stands ≡ false) × (render r ≡ said_bytes close head_only (Err given_up))) }
+    ensures told { stands ≡ false → IsOk result }
 {
-    if may_change {
+    if stands {
         return Err(NoMemory);
     }
     Ok(Response::no_memory(close, head_only))

@@ -10,6 +10,10 @@ pub enum Status {
     Done,
     /// The words aren't the command's.
     Usage,
+    /// A disk failed, or the disks did.
+    DiskFault,
+    /// The journal has another version, or is damaged, or an entry of it isn't legal.
+    Unreadable,
     NoMemory,
     /// The source failed.
     ReadFault,
@@ -27,6 +31,8 @@ impl Status {
         match self {
             Status::Done => 0,
             Status::Usage => 1,
+            Status::DiskFault => 2,
+            Status::Unreadable => 3,
             Status::NoMemory => 4,
             Status::ReadFault => 5,
             Status::WriteFault => 6,

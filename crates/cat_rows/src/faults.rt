@@ -14,7 +14,7 @@ fn each_failing_read_is_a_read_fault(rt: HostRuntime) -> Result<(), Fail> {
             failing_reads: &[call],
             failing_writes: &[],
         };
-        let ran = run_words(&rt, rt.alloc(), &["nessie", "script", "a"], &input)?;
+        let ran = run_words(&rt, rt.alloc(), &["nessie", "script", "a.journal"], &input)?;
         assert_eq!(rt; ran.status, Status::ReadFault, "call {call}");
     }
     Ok(())
@@ -29,7 +29,7 @@ fn each_failing_write_is_a_write_fault(rt: HostRuntime) -> Result<(), Fail> {
             failing_reads: &[],
             failing_writes: &[call],
         };
-        let ran = run_words(&rt, rt.alloc(), &["nessie", "script", "a"], &input)?;
+        let ran = run_words(&rt, rt.alloc(), &["nessie", "script", "a.journal"], &input)?;
         assert_eq!(rt; ran.status, Status::WriteFault, "call {call}");
     }
     Ok(())

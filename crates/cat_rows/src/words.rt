@@ -1,7 +1,7 @@
 //! The words of the program.
 
 use cat_cli::Status;
-use cat_runs::runs::{Input, run_words};
+use cat_runs::runs::{Input, empty_disk, run_on, run_words};
 use std::test::Fail;
 
 const NOTHING: Input<'static> = Input {
@@ -13,7 +13,7 @@ const NOTHING: Input<'static> = Input {
 
 #[test]
 fn other_words_are_told_the_usage(rt: HostRuntime) -> Result<(), Fail> {
-    let table: [&[&str]; 34] = [
+    let table: [&[&str]; 35] = [
         &[],
         &["nessie"],
         &["nessie", "script"],
@@ -28,7 +28,8 @@ fn other_words_are_told_the_usage(rt: HostRuntime) -> Result<(), Fail> {
         &["nessie", "help", "script"],
         &["nessie", "script", "--help"],
         &["nessie", "--version"],
-        &["nessie", "check", "a"],
+        &["nessie", "check"],
+        &["nessie", "check", "a", "b"],
         &["nessie", "drill"],
         &["nessie", "dril", "--seed", "7", "--commits", "1"],
         &["nessie", "drill", "--seed", "7"],
@@ -122,14 +123,15 @@ fn options_stand_in_any_order_and_form(rt: HostRuntime) -> Result<(), Fail> {
 
 #[test]
 fn a_journal_may_have_any_name(rt: HostRuntime) -> Result<(), Fail> {
-    let table: [&[&str]; 4] = [
-        &["nessie", "script", "a.journal"],
-        &["nessie", "script", ""],
-        &["nessie", "script", "-"],
-        &["nessie", "script", "--", "-a"],
+    let table: [(&str, &[&str]); 4] = [
+        ("a.journal", &["nessie", "script", "a.journal"]),
+        ("", &["nessie", "script", ""]),
+        ("-", &["nessie", "script", "-"]),
+        ("-a", &["nessie", "script", "--", "-a"]),
     ];
-    for words in table {
-        let ran = run_words(&rt, rt.alloc(), words, &NOTHING)?;
+    for (name, words) in table {
+        let mut disks = empty_disk(rt.alloc(), name)?;
+        let ran = run_on(&rt, rt.alloc(), words, &NOTHING, &mut disks)?;
         assert_eq!(rt; ran.status, Status::Done, "{words:?}");
         assert!(rt; ran.sink.bytes().is_empty());
     }

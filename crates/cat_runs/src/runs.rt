@@ -3,7 +3,7 @@
 ghost use Rattle.std.specs.Prelude.{◌<◌};
 
 use cat_cli::{Status, run};
-use cat_io::{MemoryClock, MemorySink, MemorySource, NoDisks, NoListener};
+use cat_io::{MemoryClock, MemoryDisk, MemoryDisks, MemorySink, MemorySource, NoListener};
 use std::alloc::{AllocError, Global};
 use std::sync::Wait;
 use std::thread::Threads;
@@ -24,12 +24,32 @@ pub struct Ran {
     pub sink: MemorySink,
 }
 
-/// A run with these words.
+/// Disks in memory, one of them under a name, without bytes.
+pub fn empty_disk(alloc: Global, name: &str) -> Result<MemoryDisks, AllocError> {
+    let disk = MemoryDisk::new(alloc, Vec::new(alloc), 1_000_000, 10_000)?;
+    MemoryDisks::new(alloc).with(alloc, name, disk)
+}
+
+/// A run with these words, where `a.journal` is an empty disk.
 pub fn run_words<R: Threads + Wait + Sync>(
     rt: &R,
     alloc: Global,
     words: &[&str],
     input: &Input<'_>,
+) -> Result<Ran, AllocError>
+    requires { 0 < input.now.piece }
+{
+    let mut disks = empty_disk(alloc, "a.journal")?;
+    run_on(rt, alloc, words, input, &mut disks)
+}
+
+/// A run with these words on these disks.
+pub fn run_on<R: Threads + Wait + Sync>(
+    rt: &R,
+    alloc: Global,
+    words: &[&str],
+    input: &Input<'_>,
+    disks: &mut MemoryDisks,
 ) -> Result<Ran, AllocError>
     requires { 0 < input.now.piece }
 {
@@ -46,7 +66,7 @@ pub fn run_words<R: Threads + Wait + Sync>(
         rt,
         alloc,
         words,
-        &mut NoDisks::new(),
+        disks,
         &mut source,
         &mut sink,
         &mut clock,

@@ -1,8 +1,9 @@
-//! The program: the real streams and the real clock, handed to `cat_cli::run`.
+//! The program: the real streams, files and clock, handed to `cat_cli::run`.
 #![tactic(auto)]
 
 use cat_cli::{Status, run};
-use cat_io::{NoDisks, NoListener, ReaderSource, SystemClock, WriterSink};
+use cat_io::{Folder, NoListener, ReaderSource, SystemClock, WriterSink};
+use std::fs::{File, Files};
 use std::process::ExitCode;
 use std::rt::Runtime;
 use std::sync::Wait;
@@ -13,7 +14,10 @@ fn main(rt: HostRuntime) -> ExitCode {
     ExitCode::from(outcome(&rt).code())
 }
 
-fn outcome<R: Runtime + AllocGlobal + Threads + Wait + Sync>(rt: &R) -> Status {
+fn outcome<R>(rt: &R) -> Status
+where
+    R: Runtime + Files<File = File> + AllocGlobal + Threads + Wait + Sync,
+{
     let alloc = rt.alloc();
     // A word that is no text is no command's: the program is run without words then.
     let Ok(all) = env::args(rt) else {
@@ -34,7 +38,10 @@ fn outcome<R: Runtime + AllocGlobal + Threads + Wait + Sync>(rt: &R) -> Status {
     run_with(rt, &words)
 }
 
-fn run_with<R: Runtime + AllocGlobal + Threads + Wait + Sync>(rt: &R, words: &[&str]) -> Status {
+fn run_with<R>(rt: &R, words: &[&str]) -> Status
+where
+    R: Runtime + Files<File = File> + AllocGlobal + Threads + Wait + Sync,
+{
     let mut source = ReaderSource::new(rt.reader());
     let mut sink = WriterSink::new(io::writer(rt));
     let mut clock = SystemClock::new(rt);
@@ -42,7 +49,7 @@ fn run_with<R: Runtime + AllocGlobal + Threads + Wait + Sync>(rt: &R, words: &[&
         rt,
         rt.alloc(),
         words,
-        &mut NoDisks::new(),
+        &mut Folder::new(rt),
         &mut source,
         &mut sink,
         &mut clock,

@@ -1,0 +1,78 @@
+-- A journal that was opened, counted and given back.
+use Rattle.std.proofs.Common.{◌≡◌, ℕ, List, [], ◌++◌, Option, Some, None, IfSome, Ok, Bool, true, false, sym, ◌∙◌, ap, subst, inl, inr}
+use Rattle.cat_io.specs.Causes.{Rose}
+use Rattle.cat_io.specs.Places.{stood, taken}
+use Rattle.cat_core.specs.Stored.{Stored}
+use Rattle.cat_journal.specs.Frames.{recovered}
+use Rattle.cat_cli.specs.declared.status.Status.{Status}
+use Rattle.cat_cli.specs.declared.status.Status.TheVariants as statuses
+use Rattle.cat_cli.specs.Journals.{DiskRose, StandsFor, told_at}
+use Rattle.cat_cli.specs.Lines.{check_line, no_memory_line}
+use Rattle.cat_cli.specs.Opening.{Counted, CountedKnown, HoldsLog, IsOpened, IsClosed}
+use Rattle.cat_cli.specs.Runs.{Checks, Opens, Seen, TellsKnown}
+use Rattle.cat_cli.proofs.Opened.{begins_at, disk_rose, left_at}
+use Rattle.cat_cli.proofs.Told.{some_is, not_none}
+
+stands_both : (told after : Option (List ℕ)) (payloads : List (List ℕ)) → IfSome told (λ bytes. recovered bytes ≡ Ok payloads) → IfSome after (λ bytes. recovered bytes ≡ Ok payloads) → StandsFor told after
+stands_both None after payloads a b before now e f some = absurd (not_none before e)
+stands_both (Some x) None payloads a b before now e f some = absurd (not_none now f)
+stands_both (Some x) (Some y) payloads a b before now e f some = ap recovered (sym (some_is y now f)) ∙ b ∙ sym a ∙ ap recovered (some_is x before e)
+
+module _ {D K : Type 0} (told : D → Option (List ℕ)) (faults : D → ℕ) (down : K → Option ℕ) (in_flight : K → Option (List ℕ)) (kept_faults : K → ℕ)
+    (place mid place' : Option (Option D)) (count : ℕ) (store : Stored K) (held after : Option (List ℕ)) (before now : ℕ)
+    (opened : IsOpened told faults place mid count store.book (down store.keeper) (kept_faults store.keeper)) (idle : in_flight store.keeper ≡ None)
+    (closed : IsClosed faults mid place' (kept_faults store.keeper) (λ disk. HoldsLog down in_flight store.keeper store.book (told disk))) where
+  there : place' ≡ stood closed.disk (taken place)
+  there = closed.back ∙ ap (stood closed.disk) opened.out
+
+  -- what is seen of it
+  abbrev pub seen : List ℕ → List ℕ → Seen
+  seen w h = record { written = w; held = h; before = before; now = now; journal = told_at told place; left = told_at told place' }
+
+  pub opens : (w h : List ℕ) → Opens (seen w h) store.book
+  opens w h = record {
+    payloads = opened.stored.payloads;
+    begins = begins_at told place opened.disk opened.stored.payloads store.book opened.was opened.stored.begins;
+    keeps =
+        subst (λ (q : Option (Option D)). IfSome (told_at told q) (λ bytes. recovered bytes ≡ Ok opened.stored.payloads)) (sym there)
+        (left_at told place closed.disk (λ bytes. recovered bytes ≡ Ok opened.stored.payloads)
+        (subst (λ (l : List (List ℕ)). IfSome (told closed.disk) (λ bytes. recovered bytes ≡ Ok l)) (sym opened.stored.spelled) (closed.has None opened.stored.up idle)));
+  }
+
+  pub stands : StandsFor (told_at told place) (told_at told place')
+  stands = let o = opens [] [] in stands_both (told_at told place) (told_at told place') o.payloads o.begins.recovers o.keeps
+
+  counts : (line w h : List ℕ) → line ≡ check_line store.book → (rose : Bool) (status : Status) → Counted line rose w status h before now → Checks (seen w h) status
+  counts line w h is false statuses.Done p = inl (store.book, opens w h, p ∙ ap (λ (l : List ℕ). w ++ l) is)
+  counts line w h is false statuses.WriteFault p = inl (store.book, opens w h, subst (λ (l : List ℕ). Counted l false w statuses.WriteFault h before now) is p)
+  counts line w h is false statuses.DiskFault p = absurd p
+  counts line w h is false statuses.Usage p = absurd p
+  counts line w h is false statuses.Unreadable p = absurd p
+  counts line w h is false statuses.NoMemory p = absurd p
+  counts line w h is false statuses.ReadFault p = absurd p
+  counts line w h is false statuses.Cut p = absurd p
+  counts line w h is true statuses.DiskFault p = inr (p, stands)
+  counts line w h is true statuses.WriteFault p = inr (p, stands)
+  counts line w h is true statuses.Done p = absurd p
+  counts line w h is true statuses.Usage p = absurd p
+  counts line w h is true statuses.Unreadable p = absurd p
+  counts line w h is true statuses.NoMemory p = absurd p
+  counts line w h is true statuses.ReadFault p = absurd p
+  counts line w h is true statuses.Cut p = absurd p
+
+  -- what the check says
+  pub checks : (line w : List ℕ) (rose : Bool) (status : Status) → line ≡ check_line store.book → CountedKnown line rose held status after before now → held ≡ Some w
+      → (h : List ℕ) × (after ≡ Some h) × Checks (seen w h) status
+  checks line w rose status is told e = let x = told w e in (x.0, x.1, counts line w x.0 is rose status x.2)
+
+  -- or that memory ran out
+  pub checks_none : (w : List ℕ) (status : Status) → status ≡ statuses.NoMemory → TellsKnown no_memory_line held after before now → held ≡ Some w
+      → (h : List ℕ) × (after ≡ Some h) × Checks (seen w h) status
+  checks_none w status is told e = let x = told w e in (x.0, x.1, subst (λ (st : Status). Checks (seen w x.0) st) (sym is) (inr (x.2, stands)))
+
+  -- its disk failed
+  pub failed : Rose count (kept_faults store.keeper) → DiskRose faults place place'
+  failed rose =
+      let by_disk : Rose (faults opened.disk) (faults closed.disk) =
+      subst (λ (n : ℕ). Rose n (faults closed.disk)) opened.counted (subst (λ (n : ℕ). Rose count n) (sym closed.counted) rose) in
+      subst (λ (q : Option (Option D)). DiskRose faults place q) (sym there) (disk_rose faults place opened.disk closed.disk opened.was by_disk)

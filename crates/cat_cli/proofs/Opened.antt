@@ -1,0 +1,216 @@
+-- What a journal that was opened, or wasn't, says of its disk.
+use Rattle.std.proofs.Common.{◌≡◌, ◌⊎◌, ℕ, ◌<◌, ◌≤◌, List, [], ◌∷◌, ◌++◌, length, reverse, Option, Some, None, IfSome, Result, Ok, Err, refl, sym, ◌∙◌, ap, subst, inl, inr, ⊎_elim, arith}
+use Rattle.std.specs.Option.{option_map}
+use Rattle.sha2.specs.Sha256.{sha256}
+use Rattle.cat_io.specs.Causes.{Rose}
+use Rattle.cat_io.specs.Crashes.{Told}
+use Rattle.cat_io.specs.Places.{stood, taken}
+use Rattle.cat_checks.specs.Legal.{replayed}
+use Rattle.cat_core.specs.declared.opening.StoreFault.{StoreFault}
+use Rattle.cat_core.specs.declared.opening.StoreFault.TheVariants as store_faults
+use Rattle.cat_ledger.specs.Kept.{spelling, spellings}
+use Rattle.cat_core.specs.Opening.{IsIllegalAt, IsLedTo}
+use Rattle.cat_journal.specs.declared.fault.OpenFault.{OpenFault}
+use Rattle.cat_journal.specs.declared.fault.OpenFault.TheVariants as faults
+use Rattle.cat_journal.specs.Frames.{recovered}
+use Rattle.cat_journal.specs.Held.{outcome, outcome_of}
+use Rattle.cat_journal.specs.Reading.{IsFaultOf}
+use Rattle.cat_keeper.specs.Keeping.{WithOrWithout}
+use Rattle.cat_model.specs.declared.limits.Limits.{Limits}
+use Rattle.cat_model.specs.Book.{Book, first_book}
+use Rattle.cat_model.specs.Limits.{program_limits}
+use Rattle.cat_cli.specs.declared.status.Status.{Status}
+use Rattle.cat_cli.specs.declared.status.Status.TheVariants as statuses
+use Rattle.cat_cli.specs.declared.unopened.Unopened.{Unopened}
+use Rattle.cat_cli.specs.declared.unopened.Unopened.TheVariants as whys
+use Rattle.cat_cli.specs.Journals.{Begins, DiskRose, Holds, IsBack, StandsFor, told_at}
+use Rattle.cat_cli.specs.Opening.{FaultKnown, FaultTold, IsReason, IsStored, Refused, RefusedKnown, by_journal, by_store}
+use Rattle.cat_cli.specs.Sessions.{Fallen}
+use Rattle.cat_cli.proofs.Told.{some_is, not_none}
+
+-- ---- counts of faults
+
+pub rose_later : (a b c : ℕ) → a ≤ b → Rose b c → Rose a c
+rose_later a b c le rose = omega (arith, le, rose)
+
+-- ---- bytes, and the payloads that they recover to
+
+-- the bytes recover to the payloads that are told
+pub recovers : (told : Option (List ℕ)) (ps : Option (List (List ℕ))) (payloads : List (List ℕ)) → Told told ps (λ bytes l. recovered bytes ≡ Ok l) → IfSome ps (λ l. l ≡ payloads)
+    → IfSome told (λ bytes. recovered bytes ≡ Ok payloads)
+recovers None ps payloads t are = tt
+recovers (Some bytes) None payloads t are = absurd t
+recovers (Some bytes) (Some l) payloads t are = t ∙ ap (λ (x : List (List ℕ)). Ok x) are
+
+-- and once more, at the disk that comes back
+pub recovers_back : (ps : Option (List (List ℕ))) (told : Option (List ℕ)) (payloads : List (List ℕ)) → Told ps told (λ l bytes. recovered bytes ≡ Ok l) → IfSome ps (λ l. l ≡ payloads)
+    → IfSome told (λ bytes. recovered bytes ≡ Ok payloads)
+recovers_back ps None payloads t are = tt
+recovers_back None (Some bytes) payloads t are = absurd t
+recovers_back (Some l) (Some bytes) payloads t are = t ∙ ap (λ (x : List (List ℕ)). Ok x) are
+
+-- what was opened and given back stands for what it did
+pub stands_through : (told : Option (List ℕ)) (ps : Option (List (List ℕ))) (after : Option (List ℕ)) → Told told ps (λ bytes l. recovered bytes ≡ Ok l) → Told ps after (λ l bytes. recovered bytes ≡ Ok l)
+    → StandsFor told after
+stands_through None ps after a b before now e f some = absurd (not_none before e)
+stands_through (Some x) None after a b before now e f some = absurd a
+stands_through (Some x) (Some l) None a b before now e f some = absurd b
+stands_through (Some x) (Some l) (Some y) a b before now e f some = ap recovered (sym (some_is y now f)) ∙ b ∙ sym a ∙ ap recovered (some_is x before e)
+
+-- and so does what wasn't written
+pub stands_unwritten : (told after : Option (List ℕ)) (P : Type 0) → IfSome told (λ bytes. 0 < length bytes → P) → (P → Told told after (λ a b. b ≡ a)) → StandsFor told after
+stands_unwritten None after P h same before now e f some = absurd (not_none before e)
+stands_unwritten (Some x) None P h same before now e f some = absurd (not_none now f)
+stands_unwritten (Some x) (Some y) P h same before now e f some =
+    let is : y ≡ x = same (h (subst (λ (l : List ℕ). 0 < length l) (sym (some_is x before e)) some)) in
+    ap recovered (sym (some_is y now f) ∙ is ∙ some_is x before e)
+
+pub stands_untouched : (told : Option (List ℕ)) → StandsFor told told
+stands_untouched told before now e f some = ap recovered (some_is now before (sym f ∙ e))
+
+-- ---- why a journal isn't opened
+
+pub reason_of_bytes : (told after : Option (List ℕ)) (fault : OpenFault) → Told told after (λ before now. IsFaultOf before fault) → IsReason told (by_journal fault)
+reason_of_bytes told after faults.Fault t is = absurd cc
+reason_of_bytes told after faults.NoMemory t is = absurd cc
+reason_of_bytes None after (faults.Version n) t is = tt
+reason_of_bytes (Some x) None (faults.Version n) t is = absurd t
+reason_of_bytes (Some x) (Some y) (faults.Version n) t is = t
+reason_of_bytes None after (faults.Damaged o) t is = tt
+reason_of_bytes (Some x) None (faults.Damaged o) t is = absurd t
+reason_of_bytes (Some x) (Some y) (faults.Damaged o) t is = t
+
+pub reason_of_entries : (told : Option (List ℕ)) (ps : Option (List (List ℕ))) (limits : Limits) (fault : StoreFault) → limits ≡ program_limits → Told told ps (λ bytes l. recovered bytes ≡ Ok l)
+    → ((place : ℕ) → fault ≡ store_faults.Illegal place → IsIllegalAt ps limits place) → IsReason told (by_store fault)
+reason_of_entries told ps limits store_faults.Fault program t illegal is = absurd cc
+reason_of_entries told ps limits store_faults.NoMemory program t illegal is = absurd cc
+reason_of_entries told ps limits (store_faults.Illegal place) program t illegal is =
+    let i = illegal place refl in
+    record {
+      payloads = i.payloads;
+      recovers = recovers told ps i.payloads t i.are;
+      refused = subst (λ (l : Limits). replayed sha256 (first_book sha256 l) 0 i.payloads ≡ Err place) program i.refused;
+    }
+
+-- less is told
+reason_untold : (told : Option (List ℕ)) (why : Unopened) → IsReason told why → IsReason None why
+reason_untold told whys.Fault r is = r is
+reason_untold told whys.NoMemory r is = r is
+reason_untold told (whys.Version n) r is = tt
+reason_untold told (whys.Damaged o) r is = tt
+reason_untold told (whys.Illegal p) r is = let i = r is in record { payloads = i.payloads; recovers = tt; refused = i.refused }
+
+pub journal_failed : (fault : OpenFault) → by_journal fault ≡ whys.Fault → fault ≡ faults.Fault
+journal_failed faults.Fault e = refl
+journal_failed faults.NoMemory e = cc
+journal_failed (faults.Version n) e = cc
+journal_failed (faults.Damaged o) e = cc
+
+pub store_failed : (fault : StoreFault) → by_store fault ≡ whys.Fault → fault ≡ store_faults.Fault
+store_failed store_faults.Fault e = refl
+store_failed store_faults.NoMemory e = cc
+store_failed (store_faults.Illegal p) e = cc
+
+-- a disk's fault is one of the reasons
+refused_fault : (w h : List ℕ) (status : Status) (before now : ℕ) → FaultTold w status h before now → Refused whys.Fault w status h before now
+refused_fault w h statuses.DiskFault before now p = p
+refused_fault w h statuses.WriteFault before now p = p
+refused_fault w h statuses.Done before now p = absurd p
+refused_fault w h statuses.Usage before now p = absurd p
+refused_fault w h statuses.Unreadable before now p = absurd p
+refused_fault w h statuses.NoMemory before now p = absurd p
+refused_fault w h statuses.ReadFault before now p = absurd p
+refused_fault w h statuses.Cut before now p = absurd p
+
+pub refused_known : (held after : Option (List ℕ)) (status : Status) (before now : ℕ) → FaultKnown held status after before now → RefusedKnown whys.Fault held status after before now
+refused_known held after status before now told w e = let x = told w e in (x.0, x.1, refused_fault w x.0 status before now x.2)
+
+-- ---- the store that is opened
+
+pub stored : (told : Option (List ℕ)) (ps : Option (List (List ℕ))) (kept : ℕ) (limits : Limits) (book : Book) (down : Option ℕ) (before now : ℕ)
+    → limits ≡ program_limits → Told told ps (λ bytes l. recovered bytes ≡ Ok l) → IsLedTo ps kept limits book → down ≡ None → before ≤ now → IsStored told book down before now
+stored told ps kept limits book down before now program t led up later = record {
+  payloads = led.payloads;
+  begins = record {
+    recovers = recovers told ps led.payloads t led.are;
+    led = subst (λ (l : Limits). replayed sha256 (first_book sha256 l) 0 led.payloads ≡ Ok book) program led.led;
+  };
+  spelled = led.spelled;
+  up = up;
+  later = later;
+}
+
+-- ---- its disk
+
+outcome_ok : (r : Result (List (List ℕ)) OpenFault) (ps : List (List ℕ)) → outcome_of r ≡ Some ps → r ≡ Ok ps
+outcome_ok (Ok l) ps e = ap (λ (x : List (List ℕ)). Ok x) (same l ps e)
+  where
+    same : (l ps : List (List ℕ)) → ◌≡◌ {A = Option (List (List ℕ))} (Some l) (Some ps) → l ≡ ps
+    same l ps e = cc
+outcome_ok (Err f) ps e = cc
+
+-- a torn append
+torn : (ps : Option (List (List ℕ))) (told : Option (List ℕ)) (payloads : List (List ℕ)) (p : List ℕ) → Told ps told (λ l bytes. WithOrWithout l p (outcome bytes)) → IfSome ps (λ l. l ≡ payloads)
+    → IfSome told (λ bytes. (recovered bytes ≡ Ok payloads) ⊎ (recovered bytes ≡ Ok (payloads ++ p ∷ [])))
+torn ps None payloads p t are = tt
+torn None (Some bytes) payloads p t are = absurd t
+torn (Some l) (Some bytes) payloads p t are =
+    ⊎_elim (λ (e : outcome bytes ≡ Some l). inl (outcome_ok (recovered bytes) l e ∙ ap (λ (x : List (List ℕ)). Ok x) are))
+    (λ (e : outcome bytes ≡ Some (l ++ p ∷ [])). inr (outcome_ok (recovered bytes) (l ++ p ∷ []) e ∙ ap (λ (x : List (List ℕ)). Ok (x ++ p ∷ [])) are)) t
+
+pub holds_log : (ps : Option (List (List ℕ))) (told : Option (List ℕ)) (book : Book) (down : Option ℕ) (in_flight : Option (List ℕ))
+    → IfSome ps (λ l. l ≡ spellings (reverse book.log))
+    → (down ≡ None → Told ps told (λ l bytes. recovered bytes ≡ Ok l))
+    → ((p : List ℕ) → in_flight ≡ Some p → Told ps told (λ l bytes. WithOrWithout l p (outcome bytes)))
+    → (fallen : Option Fallen) → down ≡ option_map (λ (f : Fallen). f.count) fallen → in_flight ≡ option_map (λ (f : Fallen). spelling f.entry) fallen
+    → IfSome told (Holds (spellings (reverse book.log)) fallen)
+holds_log ps told book down in_flight are at_rest flies None is_up idle = recovers_back ps told (spellings (reverse book.log)) (at_rest is_up) are
+holds_log ps told book down in_flight are at_rest flies (Some f) is_down fly = torn ps told (spellings (reverse book.log)) (spelling f.entry) (flies (spelling f.entry) fly) are
+
+-- ---- the place of the disk
+
+module _ {D : Type 0} (told : D → Option (List ℕ)) where
+  none_stands : (disk : D) → ◌≡◌ {A = Option D} None (Some disk) → ⊥
+  none_stands disk e = cc
+
+  -- what a disk at a path tells, as far as the disks tell
+  pub reason_at : (place : Option (Option D)) (disk : D) (why : Unopened) → IfSome place (λ p. p ≡ Some disk) → IsReason (told disk) why → IsReason (told_at told place) why
+  reason_at None disk why is r = reason_untold (told disk) why r
+  reason_at (Some None) disk why is r = absurd (none_stands disk is)
+  reason_at (Some (Some d)) disk why is r = subst (λ (p : Option D). IsReason (told_at told (Some p)) why) (sym is) r
+
+  pub stands_at : (place : Option (Option D)) (disk again : D) → IfSome place (λ p. p ≡ Some disk) → StandsFor (told disk) (told again) → StandsFor (told_at told place) (told_at told (stood again (taken place)))
+  stands_at None disk again is s before now e f some = absurd (not_none before e)
+  stands_at (Some None) disk again is s before now e f some = absurd (none_stands disk is)
+  stands_at (Some (Some d)) disk again is s before now e f some = subst (λ (p : Option D). StandsFor (told_at told (Some p)) (told again)) (sym is) s before now e f some
+
+  pub begins_at : (place : Option (Option D)) (disk : D) (payloads : List (List ℕ)) (book : Book) → IfSome place (λ p. p ≡ Some disk) → Begins (told disk) payloads book → Begins (told_at told place) payloads book
+  begins_at None disk payloads book is b = record { recovers = tt; led = b.led }
+  begins_at (Some None) disk payloads book is b = absurd (none_stands disk is)
+  begins_at (Some (Some d)) disk payloads book is b = subst (λ (p : Option D). Begins (told_at told (Some p)) payloads book) (sym is) b
+
+  -- and what stands there once a disk was given back
+  pub left_at : (place : Option (Option D)) (again : D) (P : List ℕ → Type 0) → IfSome (told again) P → IfSome (told_at told (stood again (taken place))) P
+  left_at None again P p = tt
+  left_at (Some place) again P p = p
+
+module _ {D : Type 0} where
+  nothing_stands : (disk : D) → ◌≡◌ {A = Option D} None (Some disk) → ⊥
+  nothing_stands disk e = cc
+
+  pub is_back : (place : Option (Option D)) (disk again : D) → IfSome place (λ p. p ≡ Some disk) → IsBack place (stood again (taken place))
+  is_back None disk again is = refl
+  is_back (Some None) disk again is = absurd (nothing_stands disk is)
+  is_back (Some (Some d)) disk again is = (again, refl)
+
+  pub is_back_untouched : (place : Option (Option D)) → IsBack place place
+  is_back_untouched None = refl
+  is_back_untouched (Some None) = refl
+  is_back_untouched (Some (Some d)) = (d, refl)
+
+  pub is_there : (place : Option (Option D)) (again : D) → IfSome (stood again (taken place)) (λ p. p ≡ Some again)
+  is_there None again = tt
+  is_there (Some place) again = refl
+
+  pub disk_rose : (faults : D → ℕ) (place : Option (Option D)) (disk again : D) → IfSome place (λ p. p ≡ Some disk) → Rose (faults disk) (faults again) → DiskRose faults place (stood again (taken place))
+  disk_rose faults place disk again is rose = record { opened = disk; again = again; was = is; is = is_there place again; rose = rose }

@@ -1,0 +1,154 @@
+-- A session on the catalogue of a journal that was opened, and is given back.
+use Rattle.std.proofs.Common.{◌≡◌, ℕ, List, ◌++◌, reverse, Option, Some, None, IfSome, Bool, true, false, refl, sym, ◌∙◌, ap, subst, inl, inr}
+use Rattle.std.specs.Option.{option_map}
+use Rattle.std.proofs.lemmas.List.{reverse-append, reverse-reverse, map-append}
+use Rattle.cat_io.specs.Causes.{Rose}
+use Rattle.cat_io.specs.Places.{stood, taken}
+use Rattle.cat_ledger.specs.Kept.{spelling, spellings}
+use Rattle.cat_core.specs.Stored.{Stored}
+use Rattle.cat_model.specs.declared.log_entry.LogEntry.{LogEntry}
+use Rattle.cat_model.specs.Book.{Book}
+use Rattle.cat_cli.specs.declared.ending.Session.{Session as End}
+use Rattle.cat_cli.specs.declared.ending.Session.TheVariants as ends
+use Rattle.cat_cli.specs.declared.status.Status.{Status}
+use Rattle.cat_cli.specs.declared.status.Status.TheVariants as statuses
+use Rattle.cat_cli.specs.Journals.{DiskRose, Holds, told_at}
+use Rattle.cat_cli.specs.Opening.{HoldsLog, IsOpened, IsClosed, status_of}
+use Rattle.cat_cli.specs.Runs.{Answers, Ran, Says, Seen, start}
+use Rattle.cat_cli.specs.Sessions.{Readings, Fallen, EndsKnown}
+use Rattle.cat_cli.specs.SessionLaws.{log_grows}
+use Rattle.cat_cli.proofs.Opened.{begins_at, disk_rose, left_at, rose_later}
+use Rattle.cat_cli.proofs.Starting.{started}
+
+-- the entries of a log that grew
+log_of : (payloads : List (List ℕ)) (before after news : List LogEntry) → payloads ≡ spellings (reverse before) → after ≡ news ++ before → spellings (reverse after) ≡ payloads ++ spellings (reverse news)
+log_of payloads before after news is grew =
+    ap (λ (l : List LogEntry). spellings (reverse l)) grew
+    ∙ ap spellings (reverse-append news before)
+    ∙ map-append spelling (reverse before) (reverse news)
+    ∙ ap (λ (l : List (List ℕ)). l ++ spellings (reverse news)) (sym is)
+
+-- by how it ended, and whether the disk failed
+pub answers : (clock : Readings) (bytes : List ℕ) (s : Seen) (end : End) (rose : Bool) (ran : Ran clock bytes s end) → (rose ≡ false → ran.last.fallen ≡ None) → Answers clock bytes s (status_of end rose)
+answers clock bytes s ends.NoMemory rose ran well = ran
+answers clock bytes s ends.WriteFault rose ran well = ran
+answers clock bytes s ends.ReadFault rose ran well = ran
+answers clock bytes s ends.Closed true ran well = inl ran
+answers clock bytes s ends.Closed false ran well = (ran, well refl)
+answers clock bytes s ends.Capped true ran well = inr (inl ran)
+answers clock bytes s ends.Capped false ran well = inl (ran, well refl)
+answers clock bytes s ends.BadHead true ran well = inr (inr (inl ran))
+answers clock bytes s ends.BadHead false ran well = inr (inl (ran, well refl))
+answers clock bytes s ends.TooLarge true ran well = inr (inr (inr ran))
+answers clock bytes s ends.TooLarge false ran well = inr (inr (ran, well refl))
+
+pub read_failed : (end : End) (rose : Bool) → status_of end rose ≡ statuses.ReadFault → end ≡ ends.ReadFault
+read_failed ends.NoMemory rose e = cc
+read_failed ends.WriteFault rose e = cc
+read_failed ends.ReadFault rose e = refl
+read_failed ends.Closed true e = cc
+read_failed ends.Closed false e = cc
+read_failed ends.Capped true e = cc
+read_failed ends.Capped false e = cc
+read_failed ends.BadHead true e = cc
+read_failed ends.BadHead false e = cc
+read_failed ends.TooLarge true e = cc
+read_failed ends.TooLarge false e = cc
+
+pub write_failed : (end : End) (rose : Bool) → status_of end rose ≡ statuses.WriteFault → end ≡ ends.WriteFault
+write_failed ends.NoMemory rose e = cc
+write_failed ends.WriteFault rose e = refl
+write_failed ends.ReadFault rose e = cc
+write_failed ends.Closed true e = cc
+write_failed ends.Closed false e = cc
+write_failed ends.Capped true e = cc
+write_failed ends.Capped false e = cc
+write_failed ends.BadHead true e = cc
+write_failed ends.BadHead false e = cc
+write_failed ends.TooLarge true e = cc
+write_failed ends.TooLarge false e = cc
+
+pub disk_failed : (end : End) (rose : Bool) → status_of end rose ≡ statuses.DiskFault → rose ≡ true
+disk_failed end true e = refl
+disk_failed ends.NoMemory false e = cc
+disk_failed ends.WriteFault false e = cc
+disk_failed ends.ReadFault false e = cc
+disk_failed ends.Closed false e = cc
+disk_failed ends.Capped false e = cc
+disk_failed ends.BadHead false e = cc
+disk_failed ends.TooLarge false e = cc
+
+pub not_usage : (end : End) (rose : Bool) → status_of end rose ≡ statuses.Usage → ⊥
+not_usage ends.NoMemory rose e = cc
+not_usage ends.WriteFault rose e = cc
+not_usage ends.ReadFault rose e = cc
+not_usage ends.Closed true e = cc
+not_usage ends.Closed false e = cc
+not_usage ends.Capped true e = cc
+not_usage ends.Capped false e = cc
+not_usage ends.BadHead true e = cc
+not_usage ends.BadHead false e = cc
+not_usage ends.TooLarge true e = cc
+not_usage ends.TooLarge false e = cc
+
+-- no append failed where the disk didn't
+none_fell : (down : Option ℕ) (fallen : Option Fallen) → down ≡ option_map (λ (f : Fallen). f.count) fallen → ((c : ℕ) → down ≡ Some c → ⊥) → fallen ≡ None
+none_fell down None is up = refl
+none_fell down (Some f) is up = absurd (up f.count is)
+
+module _ {D K : Type 0} (told : D → Option (List ℕ)) (faults : D → ℕ) (down : K → Option ℕ) (in_flight : K → Option (List ℕ)) (kept_faults : K → ℕ)
+    (place mid place' : Option (Option D)) (count : ℕ) (old new : Stored K) (ahead ahead' : Option Readings) (bytes held after : Option (List ℕ)) (before now : ℕ) (end : End)
+    (opened : IsOpened told faults place mid count old.book (down old.keeper) (kept_faults old.keeper)) (idle : in_flight old.keeper ≡ None)
+    (session : EndsKnown down in_flight 1000 old new ahead ahead' bytes held end after)
+    (closed : IsClosed faults mid place' (kept_faults new.keeper) (λ disk. HoldsLog down in_flight new.keeper new.book (told disk))) where
+  there : place' ≡ stood closed.disk (taken place)
+  there = closed.back ∙ ap (stood closed.disk) opened.out
+
+  -- what is seen of it
+  abbrev pub seen : List ℕ → List ℕ → Seen
+  seen w h = record { written = w; held = h; before = before; now = now; journal = told_at told place; left = told_at told place' }
+
+  -- how it went
+  pub ran : (clock : Readings) (b w : List ℕ) → ahead ≡ Some clock → bytes ≡ Some b → held ≡ Some w
+      → (h : List ℕ) × (after ≡ Some h) × (r : Ran clock b (seen w h) end) × (down new.keeper ≡ option_map (λ (f : Fallen). f.count) r.last.fallen)
+  ran clock b w a e f =
+      let x = session clock (start old.book b w) refl (started down in_flight old ahead bytes held clock b w opened.stored.up idle a e f) in
+      let grew = log_grows clock (start old.book b w) end x.0 x.2 x.3 in
+      let holds : IfSome (told closed.disk) (Holds (spellings (reverse new.book.log)) x.2.fallen) = closed.has x.2.fallen x.4.down_is x.4.flies in
+      let log : spellings (reverse new.book.log) ≡ opened.stored.payloads ++ spellings (reverse grew.0) =
+      log_of opened.stored.payloads old.book.log new.book.log grew.0 opened.stored.spelled (ap (λ (book : Book). book.log) x.4.book_is ∙ grew.1) in (
+        x.0,
+        x.1,
+        record {
+          payloads = opened.stored.payloads;
+          book = old.book;
+          begins = begins_at told place opened.disk opened.stored.payloads old.book opened.was opened.stored.begins;
+          last = x.2;
+          ends = x.3;
+          added = reverse grew.0;
+          grows = grew.1 ∙ ap (λ (l : List LogEntry). l ++ old.book.log) (sym (reverse-reverse grew.0));
+          keeps =
+              subst (λ (q : Option (Option D)). IfSome (told_at told q) (Holds (opened.stored.payloads ++ spellings (reverse grew.0)) x.2.fallen)) (sym there)
+              (left_at told place closed.disk (Holds (opened.stored.payloads ++ spellings (reverse grew.0)) x.2.fallen)
+              (subst (λ (l : List (List ℕ)). IfSome (told closed.disk) (Holds l x.2.fallen)) log holds));
+        },
+        x.4.down_is,
+      )
+
+  -- and what it says, by the status
+  pub says : (clock : Readings) (b w : List ℕ) (rose : Bool) (status : Status) → status ≡ status_of end rose
+      → (down old.keeper ≡ None → (c : ℕ) → down new.keeper ≡ Some c → Rose (kept_faults old.keeper) (kept_faults new.keeper))
+      → (rose ≡ false → Rose count (kept_faults new.keeper) → ⊥)
+      → ahead ≡ Some clock → bytes ≡ Some b → held ≡ Some w → (h : List ℕ) × (after ≡ Some h) × Says clock b (seen w h) status
+  says clock b w rose status is up stays a e f =
+      let x = ran clock b w a e f in
+      let well : rose ≡ false → x.2.last.fallen ≡ None =
+      λ still. none_fell (down new.keeper) x.2.last.fallen x.3 (λ c down_at. stays still (rose_later count (kept_faults old.keeper) (kept_faults new.keeper) opened.stored.later (up opened.stored.up c down_at))) in
+      (x.0, x.1, inl (subst (λ (st : Status). Answers clock b (seen w x.0) st) (sym is) (answers clock b (seen w x.0) end rose x.2 well)))
+
+  -- its disk failed
+  pub failed : Rose count (kept_faults new.keeper) → DiskRose faults place place'
+  failed rose =
+      let by_disk : Rose (faults opened.disk) (faults closed.disk) =
+      subst (λ (n : ℕ). Rose n (faults closed.disk)) opened.counted (subst (λ (n : ℕ). Rose count n) (sym closed.counted) rose) in
+      subst (λ (q : Option (Option D)). DiskRose faults place q) (sym there) (disk_rose faults place opened.disk closed.disk opened.was by_disk)

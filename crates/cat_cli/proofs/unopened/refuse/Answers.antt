@@ -1,0 +1,5 @@
+use Rattle.cat_cli.proofs.Opened.{refused_known}
+use Rattle.cat_cli.proofs.unopened.refuse.Goals as goal
+
+pub returns-in-Fault-clause-told : goal.returns-in-Fault-clause-told
+returns-in-Fault-clause-told g c = rw c.in-Fault.is (refused_known _ _ _ _ _ c.tell_disk_fault.ensures.told)

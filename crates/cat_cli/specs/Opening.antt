@@ -1,0 +1,118 @@
+-- What opening a store over a journal does, and what is told where none is opened.
+use Rattle.std.specs.Prelude.{ℕ, ◌≡◌, ◌≤◌, List, ◌++◌, Option, Some, None, IfSome, Bool, true, false, reverse, if◌then◌else◌}
+use Rattle.std.specs.Option.{option_map}
+use Rattle.cat_io.specs.Places.{stood, taken}
+use Rattle.cat_core.specs.declared.opening.StoreFault.{StoreFault}
+use Rattle.cat_core.specs.declared.opening.StoreFault.TheVariants as store_faults
+use Rattle.cat_ledger.specs.Kept.{spelling, spellings}
+use Rattle.cat_journal.specs.declared.fault.OpenFault.{OpenFault}
+use Rattle.cat_journal.specs.declared.fault.OpenFault.TheVariants as faults
+use Rattle.cat_model.specs.Book.{Book}
+use Rattle.cat_cli.specs.declared.ending.Session.{Session as End}
+use Rattle.cat_cli.specs.declared.ending.Session.TheVariants as ends
+use Rattle.cat_cli.specs.declared.status.Status.{Status}
+use Rattle.cat_cli.specs.declared.status.Status.TheVariants as statuses
+use Rattle.cat_cli.specs.declared.unopened.Unopened.{Unopened}
+use Rattle.cat_cli.specs.declared.unopened.Unopened.TheVariants as whys
+use Rattle.cat_cli.specs.Journals.{Begins, Holds, unopened_of}
+use Rattle.cat_cli.specs.Lines.{disk_fault_line, no_memory_line, unopened_line}
+use Rattle.cat_cli.specs.Runs.{IsFront, IsTold}
+use Rattle.cat_cli.specs.Sessions.{Fallen}
+
+-- ---- why none is opened
+
+abbrev pub by_journal : OpenFault → Unopened
+by_journal faults.Fault = whys.Fault
+by_journal (faults.Version number) = whys.Version number
+by_journal (faults.Damaged offset) = whys.Damaged offset
+by_journal faults.NoMemory = whys.NoMemory
+
+abbrev pub by_store : StoreFault → Unopened
+by_store store_faults.Fault = whys.Fault
+by_store (store_faults.Illegal place) = whys.Illegal place
+by_store store_faults.NoMemory = whys.NoMemory
+
+-- it is for what the journal holds
+abbrev pub is_unreadable : Unopened → Bool
+is_unreadable whys.Fault = false
+is_unreadable whys.NoMemory = false
+is_unreadable _ = true
+
+-- the reason is that of the bytes, if it is for what they are
+abbrev pub IsReason : Option (List ℕ) → Unopened → Type 0
+IsReason told why = is_unreadable why ≡ true → unopened_of told why
+
+-- what is told of the reason, by the run's status
+abbrev pub Refused : Unopened → List ℕ → Status → List ℕ → ℕ → ℕ → Type 0
+Refused why written statuses.DiskFault held before now = held ≡ written ++ disk_fault_line
+Refused why written statuses.WriteFault held before now = IsFront disk_fault_line written held before now
+Refused why written statuses.Unreadable held before now = (is_unreadable why ≡ true) × IsTold (unopened_line why) written held before now
+Refused why written statuses.NoMemory held before now = IsTold no_memory_line written held before now
+Refused why written _ held before now = ⊥
+
+-- the same where the sink tells what it has
+abbrev pub RefusedKnown : Unopened → Option (List ℕ) → Status → Option (List ℕ) → ℕ → ℕ → Type 0
+RefusedKnown why held status after before now =
+    (w : List ℕ) → held ≡ Some w → (h : List ℕ) × (after ≡ Some h) × Refused why w status h before now
+
+-- what is told of a disk's fault, by the run's status
+abbrev pub FaultTold : List ℕ → Status → List ℕ → ℕ → ℕ → Type 0
+FaultTold written statuses.DiskFault held before now = held ≡ written ++ disk_fault_line
+FaultTold written statuses.WriteFault held before now = IsFront disk_fault_line written held before now
+FaultTold written _ held before now = ⊥
+
+-- the same where the sink tells what it has
+abbrev pub FaultKnown : Option (List ℕ) → Status → Option (List ℕ) → ℕ → ℕ → Type 0
+FaultKnown held status after before now =
+    (w : List ℕ) → held ≡ Some w → (h : List ℕ) × (after ≡ Some h) × FaultTold w status h before now
+
+-- what is told of a journal that was opened and has this line, by whether the disk failed, and by the run's status
+abbrev pub Counted : List ℕ → Bool → List ℕ → Status → List ℕ → ℕ → ℕ → Type 0
+Counted line true written status held before now = FaultTold written status held before now
+Counted line false written statuses.Done held before now = held ≡ written ++ line
+Counted line false written statuses.WriteFault held before now = IsFront line written held before now
+Counted line false written _ held before now = ⊥
+
+-- the same where the sink tells what it has
+abbrev pub CountedKnown : List ℕ → Bool → Option (List ℕ) → Status → Option (List ℕ) → ℕ → ℕ → Type 0
+CountedKnown line rose held status after before now =
+    (w : List ℕ) → held ≡ Some w → (h : List ℕ) × (after ≡ Some h) × Counted line rose w status h before now
+
+-- the status after a session, by whether the disk's count of faults rose
+abbrev pub status_of : End → Bool → Status
+status_of ends.NoMemory rose = statuses.NoMemory
+status_of ends.WriteFault rose = statuses.WriteFault
+status_of ends.ReadFault rose = statuses.ReadFault
+status_of ends.Closed rose = if rose then statuses.DiskFault else statuses.Done
+status_of _ rose = if rose then statuses.DiskFault else statuses.Cut
+
+-- ---- a store that is opened
+
+-- the book is the one that the journal's payloads lead to, over a keeper of them that is up
+pub record IsStored (told : Option (List ℕ)) (book : Book) (down : Option ℕ) (before now : ℕ) : Type 0 where
+  pub payloads : List (List ℕ)
+  pub begins : Begins told payloads book
+  pub spelled : payloads ≡ spellings (reverse book.log)
+  pub up : down ≡ None
+  pub later : before ≤ now
+
+-- the disk was taken from its path, where it had this count of faults
+pub record IsOpened {D : Type 0} (told : D → Option (List ℕ)) (faults : D → ℕ) (before after : Option (Option D)) (count : ℕ) (book : Book) (down : Option ℕ) (now : ℕ) : Type 0 where
+  pub disk : D
+  pub was : IfSome before (λ place. place ≡ Some disk)
+  pub out : after ≡ taken before
+  pub counted : count ≡ faults disk
+  pub stored : IsStored (told disk) book down count now
+
+-- what the disk of a store holds: the entries of the log, and where an append failed, maybe the one that it was to keep
+abbrev pub HoldsLog : {K : Type 0} → (K → Option ℕ) → (K → Option (List ℕ)) → K → Book → Option (List ℕ) → Type 0
+HoldsLog down in_flight keeper book told =
+    (fallen : Option Fallen) → down keeper ≡ option_map (λ (f : Fallen). f.count) fallen → in_flight keeper ≡ option_map (λ (f : Fallen). spelling f.entry) fallen
+    → IfSome told (Holds (spellings (reverse book.log)) fallen)
+
+-- the disk was given back
+pub record IsClosed {D : Type 0} (faults : D → ℕ) (before after : Option (Option D)) (now : ℕ) (holds : D → Type 0) : Type 0 where
+  pub disk : D
+  pub back : after ≡ stood disk before
+  pub counted : faults disk ≡ now
+  pub has : holds disk

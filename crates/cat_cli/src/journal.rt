@@ -1,0 +1,89 @@
+//! The journal of a run: a store over it, and its disk, which goes back where it stood.
+
+ghost use Rattle.std.specs.Prelude.{◌≡◌, ◌≢◌, ◌≤◌, ◌⊎◌, None, Some, IfErr, IfOk, false, true};
+ghost use Rattle.cat_io.specs.Causes.{Rose};
+ghost use Rattle.cat_io.specs.Places.{OthersStay};
+ghost use Rattle.cat_cli.specs.Journals.{DiskRose, IsBack, StandsFor, told_at};
+ghost use Rattle.cat_cli.specs.Opening.{HoldsLog, IsClosed, IsOpened, IsReason, IsStored};
+
+use crate::unopened::Unopened;
+use cat_core::Store;
+use cat_io::{Disk, Disks};
+use cat_journal::Journal;
+use cat_keeper::Keeper;
+use cat_model::limits::Limits;
+use std::alloc::Global;
+use std::marker::Send;
+
+// The store of a journal's catalogue, over the journal.
+fn store_on<D: Disk + Send>(alloc: Global, disk: D) -> Result<Store<Journal<D>>, (D, Unopened)>
+    ensures stored { IfOk result (λ store. IsStored (D.told disk) store.book (⟦<Journal<D> as Keeper>⟧.down store.keeper) (D.faults disk) (⟦<Journal<D> as Keeper>⟧.faults store.keeper)) }
+    ensures reason { IfErr result (λ e. IsReason (D.told disk) e.1) }
+    ensures stands { IfErr result (λ e. StandsFor (D.told disk) (D.told e.0)) }
+    ensures cause { IfErr result (λ e. e.1 ≡ Unopened.Fault → Rose (D.faults disk) (D.faults e.0)) }
+{
+    match Journal::open(alloc, disk) {
+        Ok(journal) => match Store::open(alloc, journal, Limits::program()) {
+            Ok(store) => Ok(store),
+            Err((journal, fault)) => Err((journal.into_disk(), Unopened::from(fault))),
+        },
+        Err((disk, fault)) => Err((disk, Unopened::from(fault))),
+    }
+}
+
+/// The store of the journal at a path, and how many faults its disk had counted before. Where none
+/// is opened the disk is given back.
+pub(crate) fn open<O: Disks>(
+    alloc: Global,
+    disks: &mut O,
+    path: &str,
+) -> Result<(Store<Journal<O::D>>, u64), Unopened>
+    ensures opened { IfOk result (λ r. IsOpened O.D.told O.D.faults (O.at_path disks.old path.now) (O.at_path disks.new path.now) r.1 r.0.book
+        (⟦<Journal<O::D> as Keeper>⟧.down r.0.keeper) (⟦<Journal<O::D> as Keeper>⟧.faults r.0.keeper)) }
+    ensures reason { IfErr result (λ why. IsReason (told_at O.D.told (O.at_path disks.old path.now)) why) }
+    ensures stands { IfErr result (λ why. StandsFor (told_at O.D.told (O.at_path disks.old path.now)) (told_at O.D.told (O.at_path disks.new path.now))) }
+    ensures cause { IfErr result (λ why. why ≡ Unopened.Fault → Rose (O.faults disks.old) (O.faults disks.new) ⊎ DiskRose O.D.faults (O.at_path disks.old path.now) (O.at_path disks.new path.now)) }
+    ensures back { IfErr result (λ why. IsBack (O.at_path disks.old path.now) (O.at_path disks.new path.now)) }
+    ensures others { OthersStay path.now (O.at_path disks.old) (O.at_path disks.new) }
+{
+    let Ok(disk) = disks.open(path) else {
+        return Err(Unopened::Fault);
+    };
+    let faults = disk.fault_count();
+    match store_on(alloc, disk) {
+        Ok(store) => Ok((store, faults)),
+        Err((disk, why)) => {
+            disks.back(path, disk);
+            Err(why)
+        }
+    }
+}
+
+// Whether a count of faults rose, or stands at its type's end.
+fn rose(before: u64, now: u64) -> bool
+    ensures rose { result ≡ true → Rose before now }
+    ensures stays { result ≡ false → Rose before now → ⊥ }
+{
+    before < now || now == u64::MAX
+}
+
+/// Gives the disk of a store back to its path, and says whether its count of faults rose.
+pub(crate) fn close<O: Disks>(
+    disks: &mut O,
+    path: &str,
+    store: Store<Journal<O::D>>,
+    faults: u64,
+) -> bool
+    ensures closed { IsClosed O.D.faults (O.at_path disks.old path.now) (O.at_path disks.new path.now) (⟦<Journal<O::D> as Keeper>⟧.faults store.keeper)
+        (λ disk. HoldsLog ⟦<Journal<O::D> as Keeper>⟧.down ⟦<Journal<O::D> as Keeper>⟧.in_flight store.keeper store.book (O.D.told disk)) }
+    ensures others { OthersStay path.now (O.at_path disks.old) (O.at_path disks.new) }
+    ensures rose { result ≡ true → Rose faults (⟦<Journal<O::D> as Keeper>⟧.faults store.keeper) }
+    ensures stays { result ≡ false → Rose faults (⟦<Journal<O::D> as Keeper>⟧.faults store.keeper) → ⊥ }
+    ensures later { O.faults disks.new ≡ O.faults disks.old }
+{
+    store.log_is_kept();
+    let disk = store.into_keeper().into_disk();
+    let now = disk.fault_count();
+    disks.back(path, disk);
+    rose(faults, now)
+}

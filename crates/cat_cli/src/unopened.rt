@@ -1,0 +1,106 @@
+//! Why a journal isn't opened, and what is told of it.
+
+ghost use Rattle.std.specs.Prelude.{◌≡◌, ◌≢◌, IfOk, string_bytes, true};
+ghost use Rattle.cat_io.specs.Causes.{Rose};
+ghost use Rattle.cat_cli.specs.Lines.{unopened_line};
+ghost use Rattle.cat_cli.specs.Opening.{RefusedKnown, is_unreadable};
+
+use crate::status::Status;
+use crate::telling::{tell, tell_disk_fault, tell_no_memory};
+use cat_core::StoreFault;
+use cat_io::Sink;
+use cat_journal::OpenFault;
+use std::alloc::{AllocError, Global};
+
+/// Why a journal isn't opened.
+#[derive(Clone, Copy, Debug, PartialEq, Eq)]
+pub(crate) enum Unopened {
+    /// The disk failed, or the disks did.
+    Fault,
+    /// It has another version.
+    Version(u32),
+    /// The offset of the first damage.
+    Damaged(u64),
+    /// The place of the first entry that isn't legal.
+    Illegal(u64),
+    NoMemory,
+}
+
+impl From<OpenFault> for Unopened {
+    ghost use Rattle.std.specs.Prelude.{◌≡◌};
+    ghost use Rattle.cat_cli.specs.Opening.{by_journal};
+
+    ghost from_gives = { λ fault why. why ≡ by_journal fault };
+
+    fn from(fault: OpenFault) -> Unopened {
+        match fault {
+            OpenFault::Fault => Unopened::Fault,
+            OpenFault::Version(number) => Unopened::Version(number),
+            OpenFault::Damaged(offset) => Unopened::Damaged(offset),
+            OpenFault::NoMemory => Unopened::NoMemory,
+        }
+    }
+}
+
+impl From<StoreFault> for Unopened {
+    ghost use Rattle.std.specs.Prelude.{◌≡◌};
+    ghost use Rattle.cat_cli.specs.Opening.{by_store};
+
+    ghost from_gives = { λ fault why. why ≡ by_store fault };
+
+    fn from(fault: StoreFault) -> Unopened {
+        match fault {
+            StoreFault::Fault => Unopened::Fault,
+            StoreFault::Illegal(place) => Unopened::Illegal(place),
+            StoreFault::NoMemory => Unopened::NoMemory,
+        }
+    }
+}
+
+#[tactic(auto, unfolding(crate::specs::Lines::unopened_line))]
+fn line(alloc: Global, why: Unopened) -> Result<String, AllocError>
+    ensures { IfOk result (λ line. string_bytes line ≡ unopened_line why) }
+{
+    match why {
+        Unopened::Fault => String::from_str(alloc, "nessie: disk fault\n"),
+        Unopened::Version(number) => format!(in alloc; "nessie: version {number}\n"),
+        Unopened::Damaged(offset) => format!(in alloc; "nessie: damaged at {offset}\n"),
+        Unopened::Illegal(place) => format!(in alloc; "nessie: illegal entry {place}\n"),
+        Unopened::NoMemory => String::from_str(alloc, "nessie: no memory\n"),
+    }
+}
+
+// Tells what keeps a journal from being read.
+fn tell_unreadable<K: Sink>(alloc: Global, why: Unopened, sink: &mut K) -> Status
+    requires { is_unreadable why ≡ true }
+    ensures told { RefusedKnown why (K.held sink.old) result (K.held sink.new) (K.faults sink.old) (K.faults sink.new) }
+    ensures fault { result ≢ Status.DiskFault }
+    ensures write { result ≢ Status.WriteFault }
+    ensures taken { result ≢ Status.Usage }
+    ensures unread { result ≢ Status.ReadFault }
+{
+    match line(alloc, why) {
+        Ok(line) => {
+            tell(sink, line.as_bytes());
+            Status::Unreadable
+        }
+        Err(_) => tell_no_memory(sink),
+    }
+}
+
+/// Tells why no journal is opened.
+pub(crate) fn refuse<K: Sink>(alloc: Global, why: Unopened, sink: &mut K) -> Status
+    ensures told { RefusedKnown why (K.held sink.old) result (K.held sink.new) (K.faults sink.old) (K.faults sink.new) }
+    ensures fault { result ≡ Status.DiskFault → why ≡ Unopened.Fault }
+    ensures write { result ≡ Status.WriteFault → Rose (K.faults sink.old) (K.faults sink.new) }
+    ensures taken { result ≢ Status.Usage }
+    ensures unread { result ≢ Status.ReadFault }
+{
+    match why {
+        Unopened::Fault => tell_disk_fault(sink),
+        Unopened::NoMemory => tell_no_memory(sink),
+        Unopened::Version(_) => tell_unreadable(alloc, why, sink),
+        Unopened::Damaged(_) => tell_unreadable(alloc, why, sink),
+        Unopened::Illegal(_) => tell_unreadable(alloc, why, sink),
+    }
+}
