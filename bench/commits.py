@@ -11,6 +11,7 @@ import json
 import os
 import subprocess
 import sys
+import tempfile
 import time
 
 HERE = os.path.dirname(os.path.abspath(__file__))
@@ -28,7 +29,9 @@ def put(key):
 
 class Session:
     def __init__(self):
-        self.process = subprocess.Popen([PROGRAM, "script", "bench.journal"], stdin=subprocess.PIPE, stdout=subprocess.PIPE)
+        self.folder = tempfile.TemporaryDirectory()
+        journal = os.path.join(self.folder.name, "bench.journal")
+        self.process = subprocess.Popen([PROGRAM, "script", journal], stdin=subprocess.PIPE, stdout=subprocess.PIPE)
 
     def ask(self, sent):
         began = time.perf_counter()
@@ -48,6 +51,7 @@ class Session:
     def end(self):
         self.process.stdin.close()
         self.process.wait()
+        self.folder.cleanup()
 
 
 def measured(session, operations):

@@ -6,9 +6,11 @@ for tool in python3 curl; do
     command -v "$tool" >/dev/null || { echo "curl_session: $tool is missing" >&2; exit 77; }
 done
 exec python3 - "$top" <<'PYTHON'
-import json, socket, subprocess, sys, threading
+import json, os, socket, subprocess, sys, tempfile, threading
 
 top = sys.argv[1]
+folder = tempfile.TemporaryDirectory()
+journal = os.path.join(folder.name, "curl.journal")
 listener = socket.create_server(("127.0.0.1", 0))
 base = f"http://127.0.0.1:{listener.getsockname()[1]}/api/v2"
 
@@ -16,7 +18,7 @@ base = f"http://127.0.0.1:{listener.getsockname()[1]}/api/v2"
 def serve():
     connection, _ = listener.accept()
     with connection:
-        subprocess.run([top + "/nessie", "script", "curl.journal"], stdin=connection, stdout=connection)
+        subprocess.run([top + "/nessie", "script", journal], stdin=connection, stdout=connection)
 
 
 thread = threading.Thread(target=serve)
@@ -32,5 +34,6 @@ words = ["curl", "-sS", *shown, base + "/config", "--next", "-sS", *shown, base 
 words += [base + "/trees/main/history/commit", "--next", "-sS", *shown, base + "/trees/main/contents/orders"]
 done = subprocess.run(words)
 thread.join(timeout=30)
+folder.cleanup()
 sys.exit(done.returncode)
 PYTHON
