@@ -5,7 +5,7 @@ use Rattle.cat_merge.specs.declared.transplant.Step.{Step}
 use Rattle.cat_merge.specs.Planned.{step_of}
 use Rattle.cat_plans.specs.Drafts.{steps_are_held}
 use Rattle.cat_plans.proofs.Transplanted.{steps_held, transplant_drafted}
-use Rattle.cat_plans.proofs.transplanting.draft.Goals as goal
+use Rattle.cat_plans.proofs.transplanting.draft_transplant.Goals as goal
 
 pub plan_onto-requires : goal.plan_onto-requires
 plan_onto-requires c =

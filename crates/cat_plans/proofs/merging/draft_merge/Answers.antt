@@ -1,7 +1,7 @@
 use Rattle.std.proofs.Common.{List, [], ◌∷◌, ◌++◌, Some, refl, ap, ◌∙◌}
 use Rattle.cat_merge.specs.declared.plan.Planned.{Planned}
 use Rattle.cat_plans.proofs.Drafted.{merge_drafted}
-use Rattle.cat_plans.proofs.merging.draft.Goals as goal
+use Rattle.cat_plans.proofs.merging.draft_merge.Goals as goal
 
 pub returns : goal.returns
 returns c =
