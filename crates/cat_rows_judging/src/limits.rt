@@ -1,24 +1,35 @@
 //! Commits on a store whose limits are low.
 
+ghost use Rattle.std.specs.Prelude.{IfOk};
+ghost use Rattle.cat_work.specs.Passes.{IsReady};
+
 use cat_core::Store;
+use cat_desk::{Desk, Pass};
 use cat_keeper::MemKeeper;
 use cat_model::limits::{Limits, Quantity};
 use cat_model::refusal::{Refusal, Refused};
 use cat_model::reply::Told;
 use cat_runs::commits::{commit, new_table};
 use cat_runs::stores::tell;
+use cat_work::hold;
 use std::alloc::Global;
+use std::sync::Wait;
 use std::test::Fail;
 
-/// A store of these limits.
-fn store(alloc: Global, limits: Limits) -> Result<Store<MemKeeper>, Fail> {
+/// A desk over a store of these limits, and its pass.
+fn desk_of(alloc: Global, limits: Limits) -> Result<(Desk<Store<MemKeeper>>, Pass), Fail>
+    ensures { IfOk result (λ t. IsReady t.0 t.1) }
+{
     let all = Limits::program();
     if limits.log > all.log || limits.commits > all.commits {
         return Err(Fail::from("a limit above the program's"));
     }
     let keeper = MemKeeper::new(alloc, Vec::new(alloc));
     match Store::new(alloc, keeper, limits) {
-        Ok(store) => Ok(store),
+        Ok(store) => match hold(alloc, store) {
+            Ok((desk, pass)) => Ok((desk, pass)),
+            Err(_) => Err(Fail::from("memory")),
+        },
         Err(_) => Err(Fail::from("memory")),
     }
 }
@@ -44,22 +55,32 @@ fn met(told: &Result<Told, Refused>) -> Outcome {
     }
 }
 
+/// What two changes meet on a pass, one after the other.
+fn meet<R: Wait>(
+    rt: &R,
+    alloc: Global,
+    desk: &Desk<Store<MemKeeper>>,
+    pass: &mut Pass,
+    one: &str,
+    two: &str,
+) -> Result<(Outcome, Outcome), Fail>
+    requires { IsReady desk.now pass.old }
+{
+    let first = met(&tell(rt, alloc, desk, pass, one)?);
+    let second = met(&tell(rt, alloc, desk, pass, two)?);
+    Ok((first, second))
+}
+
 /// What is met by a commit of `t1`, and by one of `t2` after it, on a store of these limits.
-fn met_by_two(alloc: Global, limits: Limits) -> Result<(Outcome, Outcome), Fail> {
+fn met_by_two<R: Wait>(rt: &R, alloc: Global, limits: Limits) -> Result<(Outcome, Outcome), Fail> {
     let t1 = new_table(alloc, "\"t1\"", "m1")?;
     let t2 = new_table(alloc, "\"t2\"", "m1")?;
-    let mut store = store(alloc, limits)?;
-    let first = met(&tell(
-        alloc,
-        &mut store,
-        commit(alloc, "main", t1.as_str())?.as_str(),
-    )?);
-    let second = met(&tell(
-        alloc,
-        &mut store,
-        commit(alloc, "main", t2.as_str())?.as_str(),
-    )?);
-    Ok((first, second))
+    let one = commit(alloc, "main", t1.as_str())?;
+    let two = commit(alloc, "main", t2.as_str())?;
+    let (desk, mut pass) = desk_of(alloc, limits)?;
+    let both = meet(rt, alloc, &desk, &mut pass, one.as_str(), two.as_str());
+    desk.give_up(pass);
+    both
 }
 
 #[test]
@@ -73,7 +94,7 @@ fn a_limit_of_one_lets_one_pass(rt: HostRuntime) -> Result<(), Fail> {
         (Limits { drafts: 1, ..all }, Quantity::Drafts),
     ];
     for (limits, which) in table {
-        let (first, second) = met_by_two(rt.alloc(), limits)?;
+        let (first, second) = met_by_two(&rt, rt.alloc(), limits)?;
         assert_eq!(rt; first, Outcome::Accepted(1), "{which:?}");
         assert_eq!(rt; second, Outcome::Full(which, 1, Some(1)), "{which:?}");
     }
@@ -116,9 +137,10 @@ fn the_puts_of_a_commit_count_together(rt: HostRuntime) -> Result<(), Fail> {
         ),
     ];
     for (limits, expected) in table {
-        let mut store = store(alloc, limits)?;
-        let told = tell(alloc, &mut store, both.as_str())?;
-        assert_eq!(rt; met(&told), expected);
+        let (desk, mut pass) = desk_of(alloc, limits)?;
+        let told = tell(&rt, alloc, &desk, &mut pass, both.as_str());
+        desk.give_up(pass);
+        assert_eq!(rt; met(&told?), expected);
     }
     Ok(())
 }

@@ -1,7 +1,6 @@
 //! Commits of several operations, and their conflicts.
 
-use crate::texts::BAD_BODY;
-use cat_runs::commits::{commit, committed, conflict, new_table, table};
+use cat_runs::commits::{BAD_BODY, commit, committed, conflict, new_table, table};
 use cat_runs::runs::answers;
 use std::alloc::{AllocError, Global};
 use std::test::Fail;
