@@ -6,4 +6,3 @@ pub mod Lines
 pub mod Journals
 pub mod Runs
 pub mod Opening
-pub mod Stores

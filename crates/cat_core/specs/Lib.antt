@@ -1,6 +1,5 @@
-pub mod Stored
-pub mod Drafts
-pub mod Made
+pub mod Making
 pub mod Kept
+pub mod Stored
 pub mod Counted
 pub mod Opening

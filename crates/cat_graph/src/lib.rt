@@ -7,6 +7,5 @@
 
 pub mod add_fault;
 mod base;
-mod copying;
 mod front;
 pub mod graph;

@@ -1,4 +1,4 @@
-pub mod Sharing
+pub mod Ops
 pub mod Making
 pub mod Occasions
 pub mod Remaking

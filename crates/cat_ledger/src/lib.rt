@@ -7,8 +7,10 @@
 
 mod accepting;
 mod calls;
+mod committing;
 mod counts;
-mod drafting;
+mod given;
+mod judging;
 mod ledger;
 mod logging;
 mod moving;
@@ -18,8 +20,6 @@ mod planned;
 mod preparing;
 mod referring;
 mod replaying;
-mod settling;
-mod shared;
 mod unmade;
 
 pub use calls::refused;

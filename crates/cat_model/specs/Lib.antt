@@ -34,5 +34,3 @@ pub mod Drafts
 pub mod Mark
 pub mod Turns
 pub mod TurnLaws
-pub mod Later
-pub mod Naming

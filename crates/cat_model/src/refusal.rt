@@ -77,7 +77,7 @@ pub enum Refusal {
     },
     /// The journal couldn't be written.
     Fault,
-    /// The journal couldn't be written earlier; it had counted so many faults then.
+    /// The journal couldn't be written earlier, when it had so many entries.
     Down(u64),
     NoMemory,
     /// No route has the path.

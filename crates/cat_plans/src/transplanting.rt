@@ -111,7 +111,7 @@ fn plan_onto(
 }
 
 /// What a transplant plans onto its branch.
-pub fn draft_transplant(
+fn draft(
     alloc: Global,
     catalogue: &Catalogue,
     transplant: &Transplant,
@@ -143,22 +143,21 @@ pub fn draft_transplant(
     })
 }
 
-/// What the draft of a transplant comes to.
-pub fn settle_transplant(
+/// What a transplant comes to.
+pub fn transplant_outcome(
     alloc: Global,
     catalogue: &Catalogue,
     transplant: &Transplant,
     branch: &Reference,
-    draft: Draft,
 ) -> Result<Outcome, Failure>
     requires opened { transplant_opening sha256 catalogue.now transplant.now ≡ Ok branch.now }
-    requires drafted { IsTransplantDraft catalogue.now transplant.now branch.now draft }
+    requires known { IsTrue (is_known sha256 catalogue.now branch.now.head) }
     ensures step { (moment : ℕ) → ComesTo moment catalogue.now result (step_transplant sha256 catalogue.now transplant.now catalogue.now.place moment) }
     ensures made { IfOk result (MayBeMade catalogue.now) }
     ensures logged { IfOk result (IsLoggedAs (logged_transplant transplant.now)) }
     ensures there { IfErr result (λ failure. fails_expired failure ≡ false) }
     ensures place { OnOk result (catalogue.now.place < 4294967295) }
 {
-    let _ = transplant;
+    let draft = draft(alloc, catalogue, transplant, branch)?;
     settle(alloc, catalogue, branch, draft)
 }

@@ -1,5 +1,4 @@
 pub mod LookUps
 pub mod ReferenceLaws
 pub mod References
-pub mod TableLaws
 pub mod Tables

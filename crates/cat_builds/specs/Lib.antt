@@ -1,4 +1,0 @@
-pub mod Ops
-pub mod Views
-pub mod Builds
-pub mod BuildLaws

@@ -1,4 +1,0 @@
-pub mod Passes
-pub mod Answers
-pub mod Turns
-pub mod BookLaws
