@@ -3,28 +3,29 @@ use Rattle.std.proofs.Common.{◌≡◌, ℕ, ◌==◌, List, ◌++◌, Bool, �
 use Rattle.cat_model.specs.declared.refusal.Refused.{Refused}
 use Rattle.cat_model.specs.declared.reply.Told.{Told}
 use Rattle.cat_http.specs.Message.{Message}
-use Rattle.cat_core.specs.Stored.{Stored}
+use Rattle.cat_desk.specs.Pass.{DeskId}
+use Rattle.cat_desk.specs.declared.pass.Pass.{Pass}
 use Rattle.cat_cli.specs.declared.ending.Session.TheVariants as ends
 use Rattle.cat_cli.specs.Replies.{is_head, said_bytes}
 use Rattle.cat_cli.specs.Sessions.{Readings, Point, Turn, Answered, IsAt, asks_to_close}
 use Rattle.cat_cli.specs.Answers.{SaysTo, RepliesTo, IsAsked, LeavesAt}
 use Rattle.cat_cli.proofs.Points.{tells, turn_of, answered_by}
 
-module _ {K : Type 0} (down : K → Option ℕ) (in_flight : K → Option (List ℕ)) where
+module _ (desk : DeskId) where
   -- the turn whose reply is these bytes
-  pub record IsMade (k : Readings) (c : Point) (left : ℕ) (m : Message) (rest bytes : List ℕ) (store : Stored K) (ahead : Option Readings) (t : Turn) : Type 0 where
+  pub record IsMade (k : Readings) (c : Point) (left : ℕ) (m : Message) (rest bytes : List ℕ) (pass : Pass) (ahead : Option Readings) (t : Turn) : Type 0 where
     pub answered : Answered k c t
     pub message_is : t.message ≡ m
     pub left_is : t.after.left ≡ left
     pub bytes_are : t.after.bytes ≡ rest
     pub written_is : t.after.written ≡ c.written ++ bytes
-    pub store_at : IsAt down in_flight k t.after.standing store ahead
+    pub pass_at : IsAt desk k t.after.standing pass ahead
 
-  pub made : (k : Readings) (c : Point) (left : ℕ) (m : Message) (rest bytes : List ℕ) (store store' : Stored K) (ahead ahead' : Option Readings) (held : Option (List ℕ)) (told : Result Told Refused) (stands : Bool)
-      → IsAsked down in_flight k c left m rest store ahead held → SaysTo down in_flight m store ahead told stands store' ahead' → RepliesTo (asks_to_close m || left == 0) (is_head m) told stands bytes
-      → (t : Turn) × IsMade k c left m rest bytes store' ahead' t
-  made k c left m rest bytes store store' ahead ahead' held told stands asked says replies =
-      let said = says k c.standing asked.store_at in
+  pub made : (k : Readings) (c : Point) (left : ℕ) (m : Message) (rest bytes : List ℕ) (pass pass' : Pass) (ahead ahead' : Option Readings) (held : Option (List ℕ)) (told : Result Told Refused) (stands : Bool)
+      → IsAsked desk k c left m rest pass ahead held → SaysTo desk m pass ahead told stands pass' ahead' → RepliesTo (asks_to_close m || left == 0) (is_head m) told stands bytes
+      → (t : Turn) × IsMade k c left m rest bytes pass' ahead' t
+  made k c left m rest bytes pass pass' ahead ahead' held told stands asked says replies =
+      let said = says k c.standing asked.pass_at in
       let t = tells k c.standing m (asks_to_close m || left == 0) told stands said.0 said.1 bytes said.2 replies in (
         turn_of m left rest (c.written ++ bytes) t.0 said.1,
         record {
@@ -33,13 +34,13 @@ module _ {K : Type 0} (down : K → Option ℕ) (in_flight : K → Option (List 
           left_is = refl;
           bytes_are = refl;
           written_is = refl;
-          store_at = said.3;
+          pass_at = said.3;
         },
       )
 
   -- a request was answered by the store, and no memory is left for its reply
-  pub untold : (k : Readings) (c : Point) (left : ℕ) (m : Message) (rest : List ℕ) (store store' : Stored K) (ahead ahead' : Option Readings) (held : Option (List ℕ)) (told : Result Told Refused) (stands : Bool)
-      → IsAsked down in_flight k c left m rest store ahead held → SaysTo down in_flight m store ahead told stands store' ahead' → LeavesAt down in_flight k c ends.NoMemory store' ahead' held
-  untold k c left m rest store store' ahead ahead' held told stands asked says =
-      let t = made k c left m rest (said_bytes (asks_to_close m || left == 0) (is_head m) told) store store' ahead ahead' held told stands asked says (inl refl) in
-      (c.written, asked.held_is, t.0.after.standing, (refl, inr (t.0, t.1.answered, refl)), t.1.store_at)
+  pub untold : (k : Readings) (c : Point) (left : ℕ) (m : Message) (rest : List ℕ) (pass pass' : Pass) (ahead ahead' : Option Readings) (held : Option (List ℕ)) (told : Result Told Refused) (stands : Bool)
+      → IsAsked desk k c left m rest pass ahead held → SaysTo desk m pass ahead told stands pass' ahead' → LeavesAt desk k c ends.NoMemory pass' ahead' held
+  untold k c left m rest pass pass' ahead ahead' held told stands asked says =
+      let t = made k c left m rest (said_bytes (asks_to_close m || left == 0) (is_head m) told) pass pass' ahead ahead' held told stands asked says (inl refl) in
+      (c.written, asked.held_is, t.0.after.standing, (refl, inr (t.0, t.1.answered, refl)), t.1.pass_at)

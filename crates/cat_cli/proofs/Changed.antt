@@ -83,15 +83,20 @@ called k s m command after told at w p =
       ));
     }
 
+-- a call that was given up, by whether an append had failed before
+gives_up : (k : Readings) (s : Standing) (fallen : Option Fallen) (m : Message) (b : Brought) (s' : Standing) → s'.fallen ≡ fallen → IsGivenUp (session_of s) b → Went s s' b → MayComeTo k s fallen (wanted m) b s'
+gives_up k s None m b s' at given went = inl (inr given, went, at)
+gives_up k s (Some f) m b s' at given went = (inr given, went, at)
+
 -- the call was given up for want of memory
-pub given_up_change : (k : Readings) (s : Standing) (m : Message) (after : Book) (place : Option ℕ) → s.fallen ≡ None
-    → LeavesBook s.book after (record { place = place; why = NoMemory }) → Brings k s m (no_memory_at place) false (left_so s (no_memory_at place) after.state after.draft) (after_change s after None)
-given_up_change k s m after place at p =
-    let went : (told : Result Told Refused) → Went s (after_change s after None) (left_so s told after.state after.draft) = λ told. record { book = book_is after after.state after.draft s.book.log refl refl p.log; readings = refl } in
+pub given_up_change : (k : Readings) (s : Standing) (m : Message) (after : Book) (place : Option ℕ)
+    → LeavesBook s.book after (record { place = place; why = NoMemory }) → Brings k s m (no_memory_at place) false (left_so s (no_memory_at place) after.state after.draft) (after_change s after s.fallen)
+given_up_change k s m after place p =
+    let went : (told : Result Told Refused) → Went s (after_change s after s.fallen) (left_so s told after.state after.draft) = λ told. record { book = book_is after after.state after.draft s.book.log refl refl p.log; readings = refl } in
     record {
-      comes = at_fallen k s None m _ _ at (inl (inr (given_up_is s (no_memory_at place) after.state after.draft (ap no_memory_at p.place) p.state p.draft_kept p.draft_taken), went _, refl));
+      comes = gives_up k s s.fallen m _ _ refl (given_up_is s (no_memory_at place) after.state after.draft (ap no_memory_at p.place) p.state p.draft_kept p.draft_taken) (went _);
       said = refl;
-      or_given_up = λ h. at_fallen k s None m _ _ at (inl (inr (given_up_is s (Err given_up) after.state after.draft refl p.state p.draft_kept p.draft_taken), went _, refl));
+      or_given_up = λ h. gives_up k s s.fallen m _ _ refl (given_up_is s (Err given_up) after.state after.draft refl p.state p.draft_kept p.draft_taken) (went _);
     }
 
 true_stands : true ≡ false → ⊥

@@ -9,7 +9,8 @@ use Rattle.cat_cli.specs.declared.status.Status.TheVariants as statuses
 use Rattle.cat_cli.specs.Journals.{DiskRose, StandsFor, told_at}
 use Rattle.cat_cli.specs.Lines.{check_line, no_memory_line}
 use Rattle.cat_cli.specs.Opening.{Counted, CountedKnown, HoldsLog, IsOpened, IsClosed}
-use Rattle.cat_cli.specs.Runs.{Checks, Opens, Seen, TellsKnown}
+use Rattle.cat_cli.specs.Runs.{Checks, Opens, RefusesSo, Says, Seen, TellsKnown}
+use Rattle.cat_cli.specs.Sessions.{Readings}
 use Rattle.cat_cli.proofs.Opened.{begins_at, disk_rose, left_at}
 use Rattle.cat_cli.proofs.Told.{some_is, not_none}
 
@@ -66,9 +67,18 @@ module _ {D K : Type 0} (told : D → Option (List ℕ)) (faults : D → ℕ) (d
   checks line w rose status is told e = let x = told w e in (x.0, x.1, counts line w x.0 is rose status x.2)
 
   -- or that memory ran out
+  tells_none : (w : List ℕ) (status : Status) → status ≡ statuses.NoMemory → TellsKnown no_memory_line held after before now → held ≡ Some w
+      → (h : List ℕ) × (after ≡ Some h) × RefusesSo (seen w h) status
+  tells_none w status is told e = let x = told w e in (x.0, x.1, subst (λ (st : Status). RefusesSo (seen w x.0) st) (sym is) (x.2, stands))
+
   pub checks_none : (w : List ℕ) (status : Status) → status ≡ statuses.NoMemory → TellsKnown no_memory_line held after before now → held ≡ Some w
       → (h : List ℕ) × (after ≡ Some h) × Checks (seen w h) status
-  checks_none w status is told e = let x = told w e in (x.0, x.1, subst (λ (st : Status). Checks (seen w x.0) st) (sym is) (inr (x.2, stands)))
+  checks_none w status is told e = let x = tells_none w status is told e in (x.0, x.1, inr x.2)
+
+  -- where it ran out before a session on the catalogue began
+  pub says_none : (clock : Readings) (b w : List ℕ) (status : Status) → status ≡ statuses.NoMemory → TellsKnown no_memory_line held after before now → held ≡ Some w
+      → (h : List ℕ) × (after ≡ Some h) × Says clock b (seen w h) status
+  says_none clock b w status is told e = let x = tells_none w status is told e in (x.0, x.1, inr x.2)
 
   -- its disk failed
   pub failed : Rose count (kept_faults store.keeper) → DiskRose faults place place'

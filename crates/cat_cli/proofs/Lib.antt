@@ -7,6 +7,7 @@ pub mod Standing
 pub mod Answering
 pub mod Reading
 pub mod Starting
+pub mod Left
 pub mod Opened
 pub mod Ran
 pub mod Counted

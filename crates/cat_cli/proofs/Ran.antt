@@ -7,7 +7,6 @@ use Rattle.cat_io.specs.Places.{stood, taken}
 use Rattle.cat_ledger.specs.Kept.{spelling, spellings}
 use Rattle.cat_core.specs.Stored.{Stored}
 use Rattle.cat_model.specs.declared.log_entry.LogEntry.{LogEntry}
-use Rattle.cat_model.specs.Book.{Book}
 use Rattle.cat_cli.specs.declared.ending.Session.{Session as End}
 use Rattle.cat_cli.specs.declared.ending.Session.TheVariants as ends
 use Rattle.cat_cli.specs.declared.status.Status.{Status}
@@ -15,10 +14,10 @@ use Rattle.cat_cli.specs.declared.status.Status.TheVariants as statuses
 use Rattle.cat_cli.specs.Journals.{DiskRose, Holds, told_at}
 use Rattle.cat_cli.specs.Opening.{HoldsLog, IsOpened, IsClosed, status_of}
 use Rattle.cat_cli.specs.Runs.{Answers, Ran, Says, Seen, start}
-use Rattle.cat_cli.specs.Sessions.{Readings, Fallen, EndsKnown}
+use Rattle.cat_cli.specs.Sessions.{Readings, Fallen}
 use Rattle.cat_cli.specs.SessionLaws.{log_grows}
+use Rattle.cat_cli.specs.Stores.{RunsKnown}
 use Rattle.cat_cli.proofs.Opened.{begins_at, disk_rose, left_at, rose_later}
-use Rattle.cat_cli.proofs.Starting.{started}
 
 -- the entries of a log that grew
 log_of : (payloads : List (List ℕ)) (before after news : List LogEntry) → payloads ≡ spellings (reverse before) → after ≡ news ++ before → spellings (reverse after) ≡ payloads ++ spellings (reverse news)
@@ -97,9 +96,9 @@ none_fell down None is up = refl
 none_fell down (Some f) is up = absurd (up f.count is)
 
 module _ {D K : Type 0} (told : D → Option (List ℕ)) (faults : D → ℕ) (down : K → Option ℕ) (in_flight : K → Option (List ℕ)) (kept_faults : K → ℕ)
-    (place mid place' : Option (Option D)) (count : ℕ) (old new : Stored K) (ahead ahead' : Option Readings) (bytes held after : Option (List ℕ)) (before now : ℕ) (end : End)
-    (opened : IsOpened told faults place mid count old.book (down old.keeper) (kept_faults old.keeper)) (idle : in_flight old.keeper ≡ None)
-    (session : EndsKnown down in_flight 1000 old new ahead ahead' bytes held end after)
+    (place mid place' : Option (Option D)) (count : ℕ) (old new : Stored K) (ahead : Option Readings) (bytes held after : Option (List ℕ)) (before now : ℕ) (end : End)
+    (opened : IsOpened told faults place mid count old.book (down old.keeper) (kept_faults old.keeper))
+    (session : RunsKnown down in_flight old ahead bytes held end new after)
     (closed : IsClosed faults mid place' (kept_faults new.keeper) (λ disk. HoldsLog down in_flight new.keeper new.book (told disk))) where
   there : place' ≡ stood closed.disk (taken place)
   there = closed.back ∙ ap (stood closed.disk) opened.out
@@ -112,11 +111,11 @@ module _ {D K : Type 0} (told : D → Option (List ℕ)) (faults : D → ℕ) (d
   pub ran : (clock : Readings) (b w : List ℕ) → ahead ≡ Some clock → bytes ≡ Some b → held ≡ Some w
       → (h : List ℕ) × (after ≡ Some h) × (r : Ran clock b (seen w h) end) × (down new.keeper ≡ option_map (λ (f : Fallen). f.count) r.last.fallen)
   ran clock b w a e f =
-      let x = session clock (start old.book b w) refl (started down in_flight old ahead bytes held clock b w opened.stored.up idle a e f) in
+      let x = session clock b w a e f in
       let grew = log_grows clock (start old.book b w) end x.0 x.2 x.3 in
       let holds : IfSome (told closed.disk) (Holds (spellings (reverse new.book.log)) x.2.fallen) = closed.has x.2.fallen x.4.down_is x.4.flies in
       let log : spellings (reverse new.book.log) ≡ opened.stored.payloads ++ spellings (reverse grew.0) =
-      log_of opened.stored.payloads old.book.log new.book.log grew.0 opened.stored.spelled (ap (λ (book : Book). book.log) x.4.book_is ∙ grew.1) in (
+      log_of opened.stored.payloads old.book.log new.book.log grew.0 opened.stored.spelled (x.4.log_is ∙ grew.1) in (
         x.0,
         x.1,
         record {
@@ -137,13 +136,13 @@ module _ {D K : Type 0} (told : D → Option (List ℕ)) (faults : D → ℕ) (d
 
   -- and what it says, by the status
   pub says : (clock : Readings) (b w : List ℕ) (rose : Bool) (status : Status) → status ≡ status_of end rose
-      → (down old.keeper ≡ None → (c : ℕ) → down new.keeper ≡ Some c → Rose (kept_faults old.keeper) (kept_faults new.keeper))
+      → old.began ≡ kept_faults old.keeper → ((c : ℕ) → down new.keeper ≡ Some c → Rose old.began (kept_faults new.keeper))
       → (rose ≡ false → Rose count (kept_faults new.keeper) → ⊥)
       → ahead ≡ Some clock → bytes ≡ Some b → held ≡ Some w → (h : List ℕ) × (after ≡ Some h) × Says clock b (seen w h) status
-  says clock b w rose status is up stays a e f =
+  says clock b w rose status is began rises stays a e f =
       let x = ran clock b w a e f in
       let well : rose ≡ false → x.2.last.fallen ≡ None =
-      λ still. none_fell (down new.keeper) x.2.last.fallen x.3 (λ c down_at. stays still (rose_later count (kept_faults old.keeper) (kept_faults new.keeper) opened.stored.later (up opened.stored.up c down_at))) in
+      λ still. none_fell (down new.keeper) x.2.last.fallen x.3 (λ c down_at. stays still (rose_later count (kept_faults old.keeper) (kept_faults new.keeper) opened.stored.later (subst (λ (n : ℕ). Rose n (kept_faults new.keeper)) began (rises c down_at)))) in
       (x.0, x.1, inl (subst (λ (st : Status). Answers clock b (seen w x.0) st) (sym is) (answers clock b (seen w x.0) end rose x.2 well)))
 
   -- its disk failed

@@ -7,7 +7,8 @@ use Rattle.cat_http.specs.Reading.{IncomingIs, IncomingOf}
 use Rattle.cat_http.specs.Writing.{AppendsFront}
 use Rattle.cat_http.specs.declared.buffer.Incoming.{Incoming}
 use Rattle.cat_http.specs.declared.buffer.Incoming.TheVariants as incoming
-use Rattle.cat_core.specs.Stored.{Stored}
+use Rattle.cat_desk.specs.Pass.{DeskId}
+use Rattle.cat_desk.specs.declared.pass.Pass.{Pass}
 use Rattle.cat_cli.specs.declared.ending.Session.{Session as End}
 use Rattle.cat_cli.specs.declared.ending.Session.TheVariants as ends
 use Rattle.cat_cli.specs.Sessions.{Readings, Standing, Point, Turn, Stands, IsDue, IsRefused, EndsAt}
@@ -50,49 +51,49 @@ pub map_some : (P Q : End → Type 0) (r : Option End) → IfSome r P → ((e : 
 map_some P Q None p f = tt
 map_some P Q (Some e) p f = f e p
 
-module _ {K : Type 0} (down : K → Option ℕ) (in_flight : K → Option (List ℕ)) where
+module _ (desk : DeskId) where
   -- a request is asked where a session stands
-  pub asked : (k : Readings) (c : Point) (left : ℕ) (m : Message) (old now : Buffered) (after : Option (List ℕ)) (rest : List ℕ) (store : Stored K) (ahead : Option Readings) (before held : Option (List ℕ))
-      → m ≡ now.message → IsRead incoming.Request c.bytes old now after rest → c.left ≡ left + 1 → Stands down in_flight k c store ahead before held → IsAsked down in_flight k c left m rest store ahead held
-  asked k c left m old now after rest store ahead before held is r one s = record {
+  pub asked : (k : Readings) (c : Point) (left : ℕ) (m : Message) (old now : Buffered) (after : Option (List ℕ)) (rest : List ℕ) (pass : Pass) (ahead : Option Readings) (before held : Option (List ℕ))
+      → m ≡ now.message → IsRead incoming.Request c.bytes old now after rest → c.left ≡ left + 1 → Stands desk k c pass ahead before held → IsAsked desk k c left m rest pass ahead held
+  asked k c left m old now after rest pass ahead before held is r one s = record {
     reads = subst (λ x. IsRequest c.bytes x rest) (sym is) (request_is c old now after rest r);
     one_more = one;
-    store_at = s.store_at;
+    pass_at = s.pass_at;
     held_is = s.held_is;
   }
 
   -- and is answered
-  pub goes_to : (k : Readings) (c : Point) (left : ℕ) (rest : List ℕ) (t : Turn) (store : Stored K) (ahead : Option Readings) (bytes held : Option (List ℕ))
-      → IsAnswered down in_flight k c left rest t store ahead held → bytes ≡ Some rest → GoesTo down in_flight k c left t store ahead bytes held
-  goes_to k c left rest t store ahead bytes held a e = record {
+  pub goes_to : (k : Readings) (c : Point) (left : ℕ) (rest : List ℕ) (t : Turn) (pass : Pass) (ahead : Option Readings) (bytes held : Option (List ℕ))
+      → IsAnswered desk k c left rest t pass ahead held → bytes ≡ Some rest → GoesTo desk k c left t pass ahead bytes held
+  goes_to k c left rest t pass ahead bytes held a e = record {
     answered = a.answered;
     goes_on = a.goes_on;
     left_is = a.left_is;
-    stands = record { store_at = a.store_at; bytes_are = e ∙ ap Some (sym a.bytes_are); held_is = a.held_is };
+    stands = record { pass_at = a.pass_at; bytes_are = e ∙ ap Some (sym a.bytes_are); held_is = a.held_is };
   }
 
   -- ---- ends without a request
 
   -- a refusal by the bytes was written whole
-  pub told_refused : (k : Readings) (c : Point) (left : ℕ) (cause : Type 0) (bytes : List ℕ) (end : End) (store : Stored K) (ahead : Option Readings) (before held after : Option (List ℕ))
-      → ((h : List ℕ) (last : Standing) → IsRefused c cause bytes h last → EndsAt k c end h last) → c.left ≡ left + 1 → cause → Stands down in_flight k c store ahead before held → Appends held after bytes
-      → LeavesAt down in_flight k c end store ahead after
-  told_refused k c left cause bytes end store ahead before held after ends one is s written =
-      (c.written ++ bytes, appended held after c.written bytes s.held_is written, c.standing, ends _ _ (record { some_left = some_left left c.left one; is_so = is; all = refl; stays = refl }), s.store_at)
+  pub told_refused : (k : Readings) (c : Point) (left : ℕ) (cause : Type 0) (bytes : List ℕ) (end : End) (pass : Pass) (ahead : Option Readings) (before held after : Option (List ℕ))
+      → ((h : List ℕ) (last : Standing) → IsRefused c cause bytes h last → EndsAt k c end h last) → c.left ≡ left + 1 → cause → Stands desk k c pass ahead before held → Appends held after bytes
+      → LeavesAt desk k c end pass ahead after
+  told_refused k c left cause bytes end pass ahead before held after ends one is s written =
+      (c.written ++ bytes, appended held after c.written bytes s.held_is written, c.standing, ends _ _ (record { some_left = some_left left c.left one; is_so = is; all = refl; stays = refl }), s.pass_at)
 
   -- or a front of what was due
-  pub told_front : (k : Readings) (c : Point) (bytes : List ℕ) (store : Stored K) (ahead : Option Readings) (before held after : Option (List ℕ))
-      → IsDue k c bytes c.standing → Stands down in_flight k c store ahead before held → AppendsFront held after bytes → LeavesAt down in_flight k c ends.WriteFault store ahead after
-  told_front k c bytes store ahead before held after due s front =
-      (c.written ++ take front.0 bytes, appended held after c.written (take front.0 bytes) s.held_is front.1, c.standing, (bytes, due, front.0, refl), s.store_at)
+  pub told_front : (k : Readings) (c : Point) (bytes : List ℕ) (pass : Pass) (ahead : Option Readings) (before held after : Option (List ℕ))
+      → IsDue k c bytes c.standing → Stands desk k c pass ahead before held → AppendsFront held after bytes → LeavesAt desk k c ends.WriteFault pass ahead after
+  told_front k c bytes pass ahead before held after due s front =
+      (c.written ++ take front.0 bytes, appended held after c.written (take front.0 bytes) s.held_is front.1, c.standing, (bytes, due, front.0, refl), s.pass_at)
 
   -- the input ended between two requests
-  pub at_end : (k : Readings) (c : Point) (left : ℕ) (store : Stored K) (ahead : Option Readings) (before held : Option (List ℕ))
-      → c.left ≡ left + 1 → IsEnd c.bytes → Stands down in_flight k c store ahead before held → LeavesAt down in_flight k c ends.Closed store ahead held
-  at_end k c left store ahead before held one is s = (c.written, s.held_is, c.standing, inl (record { some_left = some_left left c.left one; at_end = is; all = refl; stays = refl }), s.store_at)
+  pub at_end : (k : Readings) (c : Point) (left : ℕ) (pass : Pass) (ahead : Option Readings) (before held : Option (List ℕ))
+      → c.left ≡ left + 1 → IsEnd c.bytes → Stands desk k c pass ahead before held → LeavesAt desk k c ends.Closed pass ahead held
+  at_end k c left pass ahead before held one is s = (c.written, s.held_is, c.standing, inl (record { some_left = some_left left c.left one; at_end = is; all = refl; stays = refl }), s.pass_at)
 
-  pub cut_short : (k : Readings) (c : Point) (store : Stored K) (ahead : Option Readings) (before held : Option (List ℕ)) → Stands down in_flight k c store ahead before held → LeavesAt down in_flight k c ends.ReadFault store ahead held
-  cut_short k c store ahead before held s = (c.written, s.held_is, c.standing, (refl, refl), s.store_at)
+  pub cut_short : (k : Readings) (c : Point) (pass : Pass) (ahead : Option Readings) (before held : Option (List ℕ)) → Stands desk k c pass ahead before held → LeavesAt desk k c ends.ReadFault pass ahead held
+  cut_short k c pass ahead before held s = (c.written, s.held_is, c.standing, (refl, refl), s.pass_at)
 
-  pub unanswered : (k : Readings) (c : Point) (store : Stored K) (ahead : Option Readings) (before held : Option (List ℕ)) → Stands down in_flight k c store ahead before held → LeavesAt down in_flight k c ends.NoMemory store ahead held
-  unanswered k c store ahead before held s = (c.written, s.held_is, c.standing, (refl, inl refl), s.store_at)
+  pub unanswered : (k : Readings) (c : Point) (pass : Pass) (ahead : Option Readings) (before held : Option (List ℕ)) → Stands desk k c pass ahead before held → LeavesAt desk k c ends.NoMemory pass ahead held
+  unanswered k c pass ahead before held s = (c.written, s.held_is, c.standing, (refl, inl refl), s.pass_at)

@@ -1,177 +1,144 @@
--- What a store and a clock do at a request, from where they stand.
-use Rattle.std.proofs.Common.{◌≡◌, ◌⊎◌, ◌↔◌, ℕ, ◌+◌, ◌≤◌, List, Bool, true, false, Option, Some, None, Result, Ok, Err, refl, sym, ◌∙◌, ap, subst, inl, inr, arith}
-use Rattle.std.specs.Prelude.{option_map}
+-- What a pass and a clock do at a request, from where they stand.
+use Rattle.std.proofs.Common.{◌≡◌, ℕ, ◌+◌, List, Bool, false, Option, Some, None, Result, Ok, Err, refl, sym, ◌∙◌, ap, ap₂, subst}
 use Rattle.sha2.specs.Sha256.{sha256}
-use Rattle.cat_io.specs.Causes.{Rose}
 use Rattle.cat_io.specs.Clocks.{from, Ticks, ticks_on}
 use Rattle.cat_model.specs.declared.ask.Ask.{Ask}
 use Rattle.cat_model.specs.declared.command.Command.{Command}
-use Rattle.cat_model.specs.declared.log_entry.LogEntry.{LogEntry}
 use Rattle.cat_model.specs.declared.refusal.Refusal.{Refusal}
-use Rattle.cat_model.specs.declared.refusal.Refusal.TheVariants.{Down, Fault, NoMemory}
+use Rattle.cat_model.specs.declared.refusal.Refusal.TheVariants.{Down, Expired, Fault, NoMemory, RetriesSpent}
 use Rattle.cat_model.specs.declared.refusal.Refused.{Refused}
 use Rattle.cat_model.specs.declared.reply.Told.{Told}
 use Rattle.cat_model.specs.declared.wanted.Wanted.{Wanted}
 use Rattle.cat_model.specs.declared.wanted.Wanted.TheVariants.{Read, Change}
 use Rattle.cat_model.specs.Book.{Book, Reads, call_on}
+use Rattle.cat_model.specs.Mark.{FailedAppend}
 use Rattle.cat_model.specs.Script.{Brought, said_only}
 use Rattle.cat_http.specs.Message.{Message}
 use Rattle.cat_rest.specs.Wanted.{wanted}
 use Rattle.cat_rest.specs.Faults.{Answers}
-use Rattle.cat_core.specs.Kept.{KeepsTold}
-use Rattle.cat_core.specs.Making.{Refuses}
-use Rattle.cat_core.specs.Making as making
-use Rattle.cat_core.specs.Stored.{Stored}
-use Rattle.cat_cli.specs.Sessions.{Readings, Fallen, Standing, IsAt, session_of}
-use Rattle.cat_cli.specs.Answers.{Brings, FallsByFault, change_stands, refusal_stands}
+use Rattle.cat_ledger.specs.Kept.{spelling}
+use Rattle.cat_desk.specs.Pass.{DeskId, IsFree, Keeps, mark_of, number_of}
+use Rattle.cat_desk.specs.declared.pass.Pass.{Pass}
+use Rattle.cat_work.specs.Answers.{AnswersAlone, RefusesAlone}
+use Rattle.cat_work.specs.Passes.{IsAlone, IsReady, book_of}
+use Rattle.cat_cli.specs.Sessions.{Readings, Fallen, Standing, IsAt, seen_failed, seen_fallen, session_of}
+use Rattle.cat_cli.specs.Answers.{Brings, change_stands, refusal_stands}
 use Rattle.cat_cli.proofs.Brought.{read, refused_by_bytes}
 use Rattle.cat_cli.proofs.Changed.{after_change, called, down, falls, given_up_change}
 
--- what a request brings, and where store and clock stand then
-abbrev pub BringsOn : {K : Type 0} → (K → Option ℕ) → (K → Option (List ℕ)) → Readings → Standing → Message → Result Told Refused → Bool → Stored K → Option Readings → Type 0
-BringsOn down in_flight k s m told stands store ahead = (b : Brought) × (s' : Standing) × Brings k s m told stands b s' × IsAt down in_flight k s' store ahead
-
-not_fault : (why : Refusal) → refusal_stands why ≡ false → why ≡ Fault → ⊥
-not_fault why other is = let no : true ≡ false = subst (λ (w : Refusal). refusal_stands w ≡ false) is other in cc
-
-fault_or_not : (why : Refusal) → (why ≡ Fault) ⊎ (why ≡ Fault → ⊥)
-fault_or_not Fault = inl refl
-fault_or_not why = inr (not_fault why refl)
-
-none_some : {A : Type 0} (o : Option A) (x : A) → o ≡ None → o ≡ Some x → ⊥
-none_some o x p q = cc
-
--- ---- requests that change nothing
-
-pub from_reading : {K : Type 0} (down : K → Option ℕ) (in_flight : K → Option (List ℕ)) (k : Readings) (s : Standing) (m : Message) (store : Stored K) (ahead : Option Readings) (ask : Ask) (result : Result Told Refused) → IsAt down in_flight k s store ahead
-    → wanted m ≡ Ok (Read ask) → Reads sha256 store.book ask result → BringsOn down in_flight k s m result false store ahead
-from_reading down in_flight k s m store ahead ask result at w p = (said_only (session_of s) result, s, read k s m ask result w (subst (λ (x : Book). Reads sha256 x ask result) at.book_is p), at)
-
-pub from_refusal : {K : Type 0} (down : K → Option ℕ) (in_flight : K → Option (List ℕ)) (k : Readings) (s : Standing) (m : Message) (store : Stored K) (ahead : Option Readings) (refused : Refused) → IsAt down in_flight k s store ahead
-    → Answers {A = Wanted} (Err refused) (wanted m) → BringsOn down in_flight k s m (Err refused) false store ahead
-from_refusal down in_flight k s m store ahead refused at w = (said_only (session_of s) (Err refused), s, refused_by_bytes k s m refused w, at)
-
--- the store is as it was
-pub same_store : {K : Type 0} (down : K → Option ℕ) (faults : K → ℕ) (x : K) → FallsByFault down faults x x
-same_store down faults x up count is = absurd (none_some (down x) count up is)
-
--- no append fails in a run of calls, or the count of faults rises
-pub falls_on : {K : Type 0} (down : K → Option ℕ) (faults : K → ℕ) (old mid new : K) → FallsByFault down faults old mid → FallsByFault down faults mid new → faults old ≤ faults mid → faults mid ≤ faults new → FallsByFault down faults old new
-falls_on down faults old mid new one two before after up count is = by_mid (down mid) refl
+none_fell : (f : Option FailedAppend) (fallen : Option Fallen) → seen_failed f ≡ seen_fallen fallen → f ≡ None → fallen ≡ None
+none_fell f None is none = refl
+none_fell f (Some y) is none = let no : ◌≡◌ {A = Option (ℕ × List ℕ)} None (Some (y.count, spelling y.entry)) = sym (ap seen_failed none) ∙ is in absurd (none_is_some _ no)
   where
-    by_mid : (d : Option ℕ) → down mid ≡ d → Rose (faults old) (faults new)
-    by_mid None up_still = omega (arith, two up_still count is, before)
-    by_mid (Some c) fell = omega (arith, one up c fell, after)
+    none_is_some : (x : ℕ × List ℕ) → ◌≡◌ {A = Option (ℕ × List ℕ)} None (Some x) → ⊥
+    none_is_some x e = cc
 
--- ---- changes
+-- the append that a standing knows of
+record IsFallen (fallen : Option Fallen) (count : ℕ) : Type 0 where
+  fell : Fallen
+  is : fallen ≡ Some fell
+  count_is : fell.count ≡ count
 
-module _ {K : Type 0} (told : K → Option (List (List ℕ))) (kept : K → ℕ) (goes_down : K → Option ℕ) (in_flight : K → Option (List ℕ)) (faults : K → ℕ) (moment : K → ℕ) (left_since : K → ℕ → Option (List (List ℕ)) → Type 0) (may_leave : K → Option (List (List ℕ)) → Type 0) where
-  -- what a call that changes the catalogue did to the store
-  pub record Applied (book : Book) (command : Command) (at : ℕ) (old new : Stored K) (result : Result Told Refused) : Type 0 where
-    pub call : making.Answers (call_on sha256 1 book command at) book new.book result
-    pub down : (count : ℕ) → (result ≡ Err (record { place = Some book.state.place; why = Down count })) ↔ (goes_down old.keeper ≡ Some count)
-    pub idle : (count : ℕ) → goes_down old.keeper ≡ Some count → new ≡ old
-    pub keeps : goes_down old.keeper ≡ None → KeepsTold told kept goes_down in_flight faults moment left_since may_leave old.keeper new.keeper (call_on sha256 1 book command at).logged result
+one_fell : (f : Option FailedAppend) (fallen : Option Fallen) (x : FailedAppend) → seen_failed f ≡ seen_fallen fallen → f ≡ Some x → IsFallen fallen x.count
+one_fell f None x is one = absurd (none_is_some _ (sym is ∙ ap seen_failed one))
+  where
+    none_is_some : (x : ℕ × List ℕ) → ◌≡◌ {A = Option (ℕ × List ℕ)} None (Some x) → ⊥
+    none_is_some x e = cc
+one_fell f (Some y) x is one = record { fell = y; is = refl; count_is = same (y.count, spelling y.entry) (x.count, x.payload) (sym is ∙ ap seen_failed one) }
+  where
+    same : (a b : ℕ × List ℕ) → ◌≡◌ {A = Option (ℕ × List ℕ)} (Some a) (Some b) → a.0 ≡ b.0
+    same a b e = cc
 
-  -- where no append failed, the store isn't down
-  abbrev StaysUp : Stored K → Stored K → List LogEntry → Result Told Refused → Type 0
-  StaysUp old new logged result = KeepsTold told kept goes_down in_flight faults moment left_since may_leave old.keeper new.keeper logged result
+-- a pass that is as much as it was
+pub keeps_self : (desk : DeskId) (p : Pass) → IsFree desk p → Keeps desk p p
+keeps_self desk p free = record { free = free; number = refl; spare = refl; held = refl }
 
-  ended_up : (old new : Stored K) (logged : List LogEntry) (why : Refusal) (place : Option ℕ) → goes_down old.keeper ≡ None → (why ≡ Fault → ⊥) → StaysUp old new logged (Err (record { place = place; why = why })) → goes_down new.keeper ≡ None
-  ended_up old new logged why place up other keeps = (keeps.other other).fallen ∙ up
+pub keeps_on : (desk : DeskId) (p q r : Pass) → Keeps desk p q → Keeps desk q r → Keeps desk p r
+keeps_on desk p q r one two = record { free = two.free; number = two.number ∙ one.number; spare = two.spare ∙ one.spare; held = two.held ∙ one.held }
 
-  module _ (waits : (x : K) → goes_down x ≡ None → in_flight x ≡ None) where
-    up_at : (k : Readings) (s : Standing) (new : Stored K) (ahead : Option Readings) → goes_down new.keeper ≡ None → ahead ≡ Some (from (s.readings + 1) k) → IsAt goes_down in_flight k (after_change s new.book None) new ahead
-    up_at k s new ahead up on = record { book_is = refl; down_is = up; flies = waits new.keeper up; to_come = on }
+-- the only pass of its desk stays so
+pub alone_on : (desk : DeskId) (p q : Pass) → Keeps desk p q → IsAlone p → IsAlone q
+alone_on desk p q kept alone = ap₂ (λ (a b : ℕ). a + b) kept.held kept.spare ∙ alone
 
-    -- by why the call was refused, the store being up before
-    refused_up : (k : Readings) (s : Standing) (m : Message) (old new : Stored K) (ahead : Option Readings) (command : Command) (place : Option ℕ) (why : Refusal) → s.fallen ≡ None → goes_down old.keeper ≡ None
-        → wanted m ≡ Ok (Change command) → Applied s.book command (k s.readings) old new (Err (record { place = place; why = why })) → ahead ≡ Some (from (s.readings + 1) k)
-        → Refuses (call_on sha256 1 s.book command (k s.readings)) s.book new.book why (record { place = place; why = why })
-        → BringsOn goes_down in_flight k s m (Err (record { place = place; why = why })) (refusal_stands why) new ahead
-    refused_up k s m old new ahead command place Fault at up w a on p =
-        let fell = (a.keeps up).fault refl in
-        let fallen : Fallen = record { count = faults new.keeper; entry = fell.entry } in (
+module _ (desk : DeskId) where
+  -- what a request brings, and where pass and clock stand then
+  abbrev pub BringsOn : Readings → Standing → Message → Result Told Refused → Bool → Pass → Option Readings → Type 0
+  BringsOn k s m told stands pass ahead = (b : Brought) × (s' : Standing) × Brings k s m told stands b s' × IsAt desk k s' pass ahead
+
+  -- where a pass stands after a call
+  stands_on : (k : Readings) (s s' : Standing) (p q : Pass) (ahead ahead' : Option Readings) → IsAt desk k s p ahead → Keeps desk p q → IsReady desk q
+      → book_of desk q ≡ s'.book → seen_failed (mark_of q).fault ≡ seen_fallen s'.fallen → ahead' ≡ Some (from s'.readings k) → IsAt desk k s' q ahead'
+  stands_on k s s' p q ahead ahead' at kept ready book fault on =
+      record { ready = ready; alone = alone_on desk p q kept at.alone; number = kept.number ∙ at.number; book_is = book; fault_is = fault; to_come = on }
+
+  -- ---- requests that change nothing
+
+  pub from_reading : (k : Readings) (s : Standing) (m : Message) (p q : Pass) (ahead : Option Readings) (ask : Ask) (result : Result Told Refused) → IsAt desk k s p ahead → wanted m ≡ Ok (Read ask)
+      → Keeps desk p q → IsReady desk q → Reads sha256 (book_of desk q) ask result → (IsAlone p → (book_of desk q ≡ book_of desk p) × ((mark_of q).fault ≡ (mark_of p).fault))
+      → BringsOn k s m result false q ahead
+  from_reading k s m p q ahead ask result at w kept ready reads alone =
+      let same = alone at.alone in
+      let book : book_of desk q ≡ s.book = same.0 ∙ at.book_is in (
+        said_only (session_of s) result,
+        s,
+        read k s m ask result w (subst (λ (x : Book). Reads sha256 x ask result) book reads),
+        stands_on k s s p q ahead ahead at kept ready book (ap seen_failed same.1 ∙ at.fault_is) at.to_come,
+      )
+
+  pub from_refusal : (k : Readings) (s : Standing) (m : Message) (pass : Pass) (ahead : Option Readings) (refused : Refused) → IsAt desk k s pass ahead
+      → Answers {A = Wanted} (Err refused) (wanted m) → BringsOn k s m (Err refused) false pass ahead
+  from_refusal k s m pass ahead refused at w = (said_only (session_of s) (Err refused), s, refused_by_bytes k s m refused w, at)
+
+  -- ---- changes
+
+  module _ (k : Readings) (s : Standing) (m : Message) (command : Command) (p q : Pass) (ahead ahead' : Option Readings) (at : IsAt desk k s p ahead) (kept : Keeps desk p q) (ready : IsReady desk q)
+      (w : wanted m ≡ Ok (Change command)) (on : ahead' ≡ Some (from (s.readings + 1) k)) where
+    -- where the pass stands after the call
+    stands_at : (fallen : Option Fallen) → seen_failed (mark_of q).fault ≡ seen_fallen fallen → IsAt desk k (after_change s (book_of desk q) fallen) q ahead'
+    stands_at fallen fault = stands_on k s (after_change s (book_of desk q) fallen) p q ahead ahead' at kept ready refl fault on
+
+    -- by why the call was refused
+    refused_by : (place : Option ℕ) (why : Refusal)
+        → RefusesAlone 1 (call_on sha256 1 s.book command (k s.readings)) s.book (book_of desk q) (mark_of p).fault (mark_of q).fault (record { place = place; why = why }) why
+        → BringsOn k s m (Err (record { place = place; why = why })) (refusal_stands why) q ahead'
+    refused_by place NoMemory a =
+        (_, after_change s (book_of desk q) s.fallen, given_up_change k s m (book_of desk q) place a.0, stands_at s.fallen (ap seen_failed a.1 ∙ at.fault_is))
+    refused_by place Fault a =
+        let fallen : Fallen = record { count = a.fault.count; entry = a.entry } in (
           _,
-          after_change s new.book (Some fallen),
-          falls k s m command new.book place fallen at w p.0 fell.one p.1,
-          record { book_is = refl; down_is = fell.fallen; flies = fell.flies; to_come = on },
+          after_change s (book_of desk q) (Some fallen),
+          falls k s m command (book_of desk q) place fallen (none_fell (mark_of p).fault s.fallen at.fault_is a.up) w a.place a.logged a.unkept,
+          stands_at (Some fallen) (ap seen_failed a.is ∙ ap (λ (y : List ℕ). Some (a.fault.count, y)) a.payload),
         )
-    refused_up k s m old new ahead command place (Down count) at up w a on p =
-        absurd (none_some (goes_down old.keeper) count up ((a.down count).0 (ap (λ (x : Option ℕ). Err (record { place = x; why = Down count })) p.0)))
-    refused_up k s m old new ahead command place NoMemory at up w a on p =
-        (_, after_change s new.book None, given_up_change k s m new.book place at p, up_at k s new ahead (ended_up old new _ NoMemory place up (not_fault NoMemory refl) (a.keeps up)) on)
-    refused_up k s m old new ahead command place why at up w a on p =
-        (_, after_change s new.book None, called k s m command new.book _ at w p, up_at k s new ahead (ended_up old new _ why place up (not_fault why refl) (a.keeps up)) on)
-
-    -- by what was told
-    changed_up : (k : Readings) (s : Standing) (m : Message) (old new : Stored K) (ahead : Option Readings) (command : Command) (result : Result Told Refused) → s.fallen ≡ None → goes_down old.keeper ≡ None
-        → wanted m ≡ Ok (Change command) → Applied s.book command (k s.readings) old new result → ahead ≡ Some (from (s.readings + 1) k)
-        → BringsOn goes_down in_flight k s m result (change_stands result) new ahead
-    changed_up k s m old new ahead command (Ok x) at up w a on = (_, after_change s new.book None, called k s m command new.book (Ok x) at w a.call, up_at k s new ahead (a.keeps up).done.up on)
-    changed_up k s m old new ahead command (Err refused) at up w a on = refused_up k s m old new ahead command refused.place refused.why at up w a on a.call
-
-    changed_down : (k : Readings) (s : Standing) (m : Message) (old new : Stored K) (ahead ahead' : Option Readings) (command : Command) (result : Result Told Refused) (f : Fallen) → s.fallen ≡ Some f
-        → IsAt goes_down in_flight k s old ahead → wanted m ≡ Ok (Change command) → Applied s.book command (k s.readings) old new result → ahead' ≡ Some (from (s.readings + 1) k)
-        → BringsOn goes_down in_flight k s m result (change_stands result) new ahead'
-    changed_down k s m old new ahead ahead' command result f fallen at w a on =
-        let is = at.down_is ∙ ap (option_map (λ (x : Fallen). x.count)) fallen in
-        let same = a.idle f.count is in
-        subst (λ (x : Result Told Refused). BringsOn goes_down in_flight k s m x (change_stands x) new ahead') (sym ((a.down f.count).1 is)) (
+    refused_by place (Down count) a =
+        let fell = one_fell (mark_of p).fault s.fallen a.fault at.fault_is a.was in
+        let told : ◌≡◌ {A = Result Told Refused} (Err (record { place = Some s.book.state.place; why = Down fell.fell.count })) (Err (record { place = place; why = Down count })) =
+        ap₂ (λ (x : Option ℕ) (c : ℕ). Err (record { place = x; why = Down c })) (sym a.place) (fell.count_is ∙ a.count_is) in
+        subst (λ (x : Result Told Refused). BringsOn k s m x false q ahead') told (
           _,
           after_change s s.book s.fallen,
-          down k s f m command fallen w,
-          record {
-            book_is = ap (λ (x : Stored K). x.book) same ∙ at.book_is;
-            down_is = ap (λ (x : Stored K). goes_down x.keeper) same ∙ at.down_is;
-            flies = ap (λ (x : Stored K). in_flight x.keeper) same ∙ at.flies;
-            to_come = on;
-          },
+          down k s fell.fell m command fell.is w,
+          stands_on k s (after_change s s.book s.fallen) p q ahead ahead' at kept ready a.book (ap seen_failed (a.is ∙ sym a.was) ∙ at.fault_is) on,
         )
+    refused_by place (RetriesSpent pairs) a = absurd a
+    refused_by place (Expired keys opened) a = absurd a
+    refused_by place why a =
+        (_, after_change s (book_of desk q) None, called k s m command (book_of desk q) _ (none_fell (mark_of p).fault s.fallen at.fault_is a.1) w a.0, stands_at None (ap seen_failed a.2))
 
-    -- by whether an append had failed
-    changed : (k : Readings) (s : Standing) (m : Message) (old new : Stored K) (ahead ahead' : Option Readings) (command : Command) (result : Result Told Refused) (fallen : Option Fallen) → s.fallen ≡ fallen
-        → IsAt goes_down in_flight k s old ahead → wanted m ≡ Ok (Change command) → Applied s.book command (k s.readings) old new result → ahead' ≡ Some (from (s.readings + 1) k)
-        → BringsOn goes_down in_flight k s m result (change_stands result) new ahead'
-    changed k s m old new ahead ahead' command result None fallen at w a on = changed_up k s m old new ahead' command result fallen (at.down_is ∙ ap (option_map (λ (x : Fallen). x.count)) fallen) w a on
-    changed k s m old new ahead ahead' command result (Some f) fallen at w a on = changed_down k s m old new ahead ahead' command result f fallen at w a on
+    -- by what was told
+    changed : (result : Result Told Refused) → AnswersAlone 1 (call_on sha256 1 s.book command (k s.readings)) s.book (book_of desk q) (mark_of p).fault (mark_of q).fault result
+        → BringsOn k s m result (change_stands result) q ahead'
+    changed (Ok x) a =
+        (_, after_change s (book_of desk q) None, called k s m command (book_of desk q) (Ok x) (none_fell (mark_of p).fault s.fallen at.fault_is a.1) w a.0, stands_at None (ap seen_failed a.2))
+    changed (Err refused) a = refused_by refused.place refused.why a
 
-    pub from_change : (k : Readings) (s : Standing) (m : Message) (old new : Stored K) (ahead ahead' : Option Readings) (command : Command) (reading at_moment : ℕ) (result : Result Told Refused) (stands : Bool)
-        → IsAt goes_down in_flight k s old ahead → wanted m ≡ Ok (Change command) → Ticks ahead ahead' reading → at_moment ≡ reading
-        → Applied old.book command at_moment old new result → stands ≡ change_stands result
-        → BringsOn goes_down in_flight k s m result stands new ahead'
-    from_change k s m old new ahead ahead' command reading at_moment result stands at w ticks is a stood =
-        let read = ticks_on s.readings k ahead ahead' reading at.to_come ticks in
-        let here : Applied s.book command at_moment old new result = subst (λ (x : Book). Applied x command at_moment old new result) at.book_is a in
-        let then_ : Applied s.book command (k s.readings) old new result = subst (λ (x : ℕ). Applied s.book command x old new result) (is ∙ read.0) here in
-        subst (λ (x : Bool). BringsOn goes_down in_flight k s m result x new ahead') (sym stood) (changed k s m old new ahead ahead' command result s.fallen refl at w then_ read.1)
-
-  -- ---- the count of faults
-
-  refused_rose : (old new : Stored K) (logged : List LogEntry) (place : Option ℕ) (why : Refusal) → (why ≡ Fault) ⊎ (why ≡ Fault → ⊥) → goes_down old.keeper ≡ None → StaysUp old new logged (Err (record { place = place; why = why }))
-      → (count : ℕ) → goes_down new.keeper ≡ Some count → Rose (faults old.keeper) (faults new.keeper)
-  refused_rose old new logged place why (inl is) up keeps count now = (keeps.fault is).rose
-  refused_rose old new logged place why (inr other) up keeps count now = absurd (none_some (goes_down new.keeper) count (ended_up old new logged why place up other keeps) now)
-
-  told_rose : (old new : Stored K) (logged : List LogEntry) (result : Result Told Refused) → goes_down old.keeper ≡ None → StaysUp old new logged result → (count : ℕ) → goes_down new.keeper ≡ Some count → Rose (faults old.keeper) (faults new.keeper)
-  told_rose old new logged (Ok x) up keeps count now = absurd (none_some (goes_down new.keeper) count keeps.done.up now)
-  told_rose old new logged (Err refused) up keeps count now = refused_rose old new logged refused.place refused.why (fault_or_not refused.why) up keeps count now
-
-  pub rose : (book : Book) (command : Command) (at_moment : ℕ) (old new : Stored K) (result : Result Told Refused) → Applied book command at_moment old new result → FallsByFault goes_down faults old.keeper new.keeper
-  rose book command at_moment old new result a up count now = told_rose old new (call_on sha256 1 book command at_moment).logged result up (a.keeps up) count now
-
-  refused_later : (old new : Stored K) (logged : List LogEntry) (place : Option ℕ) (why : Refusal) → (why ≡ Fault) ⊎ (why ≡ Fault → ⊥) → StaysUp old new logged (Err (record { place = place; why = why })) → faults old.keeper ≤ faults new.keeper
-  refused_later old new logged place why (inl is) keeps = (keeps.fault is).later
-  refused_later old new logged place why (inr other) keeps = (keeps.other other).later
-
-  told_later : (old new : Stored K) (logged : List LogEntry) (result : Result Told Refused) → StaysUp old new logged result → faults old.keeper ≤ faults new.keeper
-  told_later old new logged (Ok x) keeps = keeps.done.later
-  told_later old new logged (Err refused) keeps = refused_later old new logged refused.place refused.why (fault_or_not refused.why) keeps
-
-  later_by : (old new : Stored K) (logged : List LogEntry) (result : Result Told Refused) (d : Option ℕ) → goes_down old.keeper ≡ d → ((count : ℕ) → goes_down old.keeper ≡ Some count → new ≡ old) → (goes_down old.keeper ≡ None → StaysUp old new logged result)
-      → faults old.keeper ≤ faults new.keeper
-  later_by old new logged result None is idle keeps = told_later old new logged result (keeps is)
-  later_by old new logged result (Some count) is idle keeps = let same = ap (λ (x : Stored K). faults x.keeper) (idle count is) in omega (arith, same)
-
-  pub later : (book : Book) (command : Command) (at_moment : ℕ) (old new : Stored K) (result : Result Told Refused) → Applied book command at_moment old new result → faults old.keeper ≤ faults new.keeper
-  later book command at_moment old new result a = later_by old new (call_on sha256 1 book command at_moment).logged result (goes_down old.keeper) refl a.idle a.keeps
+  pub from_change : (k : Readings) (s : Standing) (m : Message) (command : Command) (p q : Pass) (ahead ahead' : Option Readings) (moment : ℕ) (result : Result Told Refused) (stands : Bool)
+      → IsAt desk k s p ahead → wanted m ≡ Ok (Change command) → Keeps desk p q → IsReady desk q → Ticks ahead ahead' moment
+      → (IsAlone p → AnswersAlone (number_of p) (call_on sha256 (number_of p) (book_of desk p) command moment) (book_of desk p) (book_of desk q) (mark_of p).fault (mark_of q).fault result)
+      → stands ≡ change_stands result → BringsOn k s m result stands q ahead'
+  from_change k s m command p q ahead ahead' moment result stands at w kept ready ticks alone stood =
+      let read = ticks_on s.readings k ahead ahead' moment at.to_come ticks in
+      let by_number = subst (λ (n : ℕ). AnswersAlone n (call_on sha256 n (book_of desk p) command moment) (book_of desk p) (book_of desk q) (mark_of p).fault (mark_of q).fault result) at.number (alone at.alone) in
+      let by_book = subst (λ (b : Book). AnswersAlone 1 (call_on sha256 1 b command moment) b (book_of desk q) (mark_of p).fault (mark_of q).fault result) at.book_is by_number in
+      let by_moment = subst (λ (t : ℕ). AnswersAlone 1 (call_on sha256 1 s.book command t) s.book (book_of desk q) (mark_of p).fault (mark_of q).fault result) read.0 by_book in
+      subst (λ (x : Bool). BringsOn k s m result x q ahead') (sym stood) (changed k s m command p q ahead ahead' at kept ready w read.1 result by_moment)

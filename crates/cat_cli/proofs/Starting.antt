@@ -2,9 +2,13 @@
 use Rattle.std.proofs.Common.{◌≡◌, ℕ, ◌+◌, List, ◌++◌, take, Option, Some, None, Result, Ok, Err, refl, ap, ◌∙◌, inl, inr, arith}
 use Rattle.cat_io.specs.Clocks.{from}
 use Rattle.cat_http.specs.Writing.{Wrote}
-use Rattle.cat_core.specs.Stored.{Stored}
+use Rattle.cat_model.specs.Book.{Book}
+use Rattle.cat_model.specs.Mark.{Mark}
+use Rattle.cat_desk.specs.Pass.{DeskId, mark_of, number_of}
+use Rattle.cat_desk.specs.declared.pass.Pass.{Pass}
+use Rattle.cat_work.specs.Passes.{IsAlone, IsReady, book_of}
 use Rattle.cat_cli.specs.Runs.{IsTold, start}
-use Rattle.cat_cli.specs.Sessions.{Readings, Stands}
+use Rattle.cat_cli.specs.Sessions.{Readings, Stands, seen_failed}
 use Rattle.cat_cli.proofs.Told.{appended}
 
 from_first : (clock : Readings) → clock ≡ from 0 clock
@@ -13,11 +17,19 @@ from_first clock = λ i k. clock (same k i)
     same : (k : ℕ) → k ≡ 0 + k
     same k = omega arith
 
--- a store whose appends have all succeeded stands at the start of a session
-pub started : {K : Type 0} (down : K → Option ℕ) (in_flight : K → Option (List ℕ)) (store : Stored K) (ahead : Option Readings) (bytes held : Option (List ℕ)) (clock : Readings) (b w : List ℕ)
-    → down store.keeper ≡ None → in_flight store.keeper ≡ None → ahead ≡ Some clock → bytes ≡ Some b → held ≡ Some w → Stands down in_flight clock (start store.book b w) store ahead bytes held
-started down in_flight store ahead bytes held clock b w up idle a e f = record {
-  store_at = record { book_is = refl; down_is = up; flies = idle; to_come = a ∙ ap Some (from_first clock) };
+-- the first pass of a desk whose store's appends have all succeeded stands at the start of a session
+pub started : (desk : DeskId) (pass : Pass) (book : Book) (mark : Mark) (ahead : Option Readings) (bytes held : Option (List ℕ)) (clock : Readings) (b w : List ℕ)
+    → IsReady desk pass → IsAlone pass → number_of pass ≡ 1 → book_of desk pass ≡ book → mark_of pass ≡ mark → mark.fault ≡ None
+    → ahead ≡ Some clock → bytes ≡ Some b → held ≡ Some w → Stands desk clock (start book b w) pass ahead bytes held
+started desk pass book mark ahead bytes held clock b w ready alone number book_is mark_is up a e f = record {
+  pass_at = record {
+    ready = ready;
+    alone = alone;
+    number = number;
+    book_is = book_is;
+    fault_is = ap seen_failed (ap (λ (x : Mark). x.fault) mark_is ∙ up);
+    to_come = a ∙ ap Some (from_first clock);
+  };
   bytes_are = e;
   held_is = f;
 }

@@ -1,6 +1,5 @@
 -- What answering one request does, where the keeper, the clock and the sink tell what they have.
 use Rattle.std.specs.Prelude.{ℕ, ◌+◌, ◌≡◌, ◌⊎◌, List, [], Option, Some, None, Bool, true, false, Result, Ok, Err}
-use Rattle.cat_io.specs.Causes.{Rose}
 use Rattle.cat_model.specs.declared.refusal.Refusal.{Refusal}
 use Rattle.cat_model.specs.declared.refusal.Refusal.TheVariants.{Fault, NoMemory}
 use Rattle.cat_model.specs.declared.refusal.Refused.{Refused}
@@ -9,7 +8,8 @@ use Rattle.cat_model.specs.Script.{Brought}
 use Rattle.cat_http.specs.Message.{Message}
 use Rattle.cat_http.specs.Next.{IsRequest}
 use Rattle.cat_rest.specs.Wanted.{wanted}
-use Rattle.cat_core.specs.Stored.{Stored}
+use Rattle.cat_desk.specs.Pass.{DeskId}
+use Rattle.cat_desk.specs.declared.pass.Pass.{Pass}
 use Rattle.cat_cli.specs.declared.ending.Session.{Session as End}
 use Rattle.cat_cli.specs.Replies.{said_bytes}
 use Rattle.cat_cli.specs.Sessions.{Readings, Standing, Point, Turn, MayComeTo, Answered, EndsAt, IsAt, Stands, asks_to_close}
@@ -33,15 +33,11 @@ pub record Brings (clock : Readings) (s : Standing) (m : Message) (told : Result
   pub said : b.said ≡ told
   pub or_given_up : stands ≡ false → MayComeTo clock s s.fallen (wanted m) (record { said = Err given_up; logged = []; after = b.after }) s'
 
--- what a store and a clock do at a request
-abbrev pub SaysTo : {K : Type 0} → (K → Option ℕ) → (K → Option (List ℕ)) → Message → Stored K → Option Readings → Result Told Refused → Bool → Stored K → Option Readings → Type 0
-SaysTo down in_flight m store ahead told stands store' ahead' =
-    (clock : Readings) (s : Standing) → IsAt down in_flight clock s store ahead
-    → (b : Brought) × (s' : Standing) × Brings clock s m told stands b s' × IsAt down in_flight clock s' store' ahead'
-
--- where no append had failed and one did, the count of faults rose
-abbrev pub FallsByFault : {K : Type 0} → (K → Option ℕ) → (K → ℕ) → K → K → Type 0
-FallsByFault down faults old new = down old ≡ None → (c : ℕ) → down new ≡ Some c → Rose (faults old) (faults new)
+-- what a pass and a clock do at a request
+abbrev pub SaysTo : DeskId → Message → Pass → Option Readings → Result Told Refused → Bool → Pass → Option Readings → Type 0
+SaysTo desk m pass ahead told stands pass' ahead' =
+    (clock : Readings) (s : Standing) → IsAt desk clock s pass ahead
+    → (b : Brought) × (s' : Standing) × Brings clock s m told stands b s' × IsAt desk clock s' pass' ahead'
 
 -- the reply is that of what was told, or tells want of memory where that needn't be told
 abbrev pub RepliesTo : Bool → Bool → Result Told Refused → Bool → List ℕ → Type 0
@@ -50,29 +46,29 @@ RepliesTo close head_only told stands bytes =
     ⊎ ((stands ≡ false) × (bytes ≡ said_bytes close head_only (Err given_up)))
 
 -- a request that is answered at c: its message, and what follows it
-pub record IsAsked {K : Type 0} (down : K → Option ℕ) (in_flight : K → Option (List ℕ)) (clock : Readings) (c : Point) (left : ℕ) (m : Message) (rest : List ℕ) (store : Stored K) (ahead : Option Readings) (held : Option (List ℕ)) : Type 0 where
+pub record IsAsked (desk : DeskId) (clock : Readings) (c : Point) (left : ℕ) (m : Message) (rest : List ℕ) (pass : Pass) (ahead : Option Readings) (held : Option (List ℕ)) : Type 0 where
   pub reads : IsRequest c.bytes m rest
   pub one_more : c.left ≡ left + 1
-  pub store_at : IsAt down in_flight clock c.standing store ahead
+  pub pass_at : IsAt desk clock c.standing pass ahead
   pub held_is : held ≡ Some c.written
 
 -- the request is answered, and the session goes on
-pub record IsAnswered {K : Type 0} (down : K → Option ℕ) (in_flight : K → Option (List ℕ)) (clock : Readings) (c : Point) (left : ℕ) (rest : List ℕ) (t : Turn) (store : Stored K) (ahead : Option Readings) (held : Option (List ℕ)) : Type 0 where
+pub record IsAnswered (desk : DeskId) (clock : Readings) (c : Point) (left : ℕ) (rest : List ℕ) (t : Turn) (pass : Pass) (ahead : Option Readings) (held : Option (List ℕ)) : Type 0 where
   pub answered : Answered clock c t
   pub goes_on : asks_to_close t.message ≡ false
   pub left_is : t.after.left ≡ left
   pub bytes_are : t.after.bytes ≡ rest
-  pub store_at : IsAt down in_flight clock t.after.standing store ahead
+  pub pass_at : IsAt desk clock t.after.standing pass ahead
   pub held_is : held ≡ Some t.after.written
 
 -- one more request was answered, and the session goes on
-pub record GoesTo {K : Type 0} (down : K → Option ℕ) (in_flight : K → Option (List ℕ)) (clock : Readings) (c : Point) (left : ℕ) (t : Turn) (store : Stored K) (ahead : Option Readings) (bytes held : Option (List ℕ)) : Type 0 where
+pub record GoesTo (desk : DeskId) (clock : Readings) (c : Point) (left : ℕ) (t : Turn) (pass : Pass) (ahead : Option Readings) (bytes held : Option (List ℕ)) : Type 0 where
   pub answered : Answered clock c t
   pub goes_on : asks_to_close t.message ≡ false
   pub left_is : t.after.left ≡ left
-  pub stands : Stands down in_flight clock t.after store ahead bytes held
+  pub stands : Stands desk clock t.after pass ahead bytes held
 
 -- the session ended so at c
-abbrev pub LeavesAt : {K : Type 0} → (K → Option ℕ) → (K → Option (List ℕ)) → Readings → Point → End → Stored K → Option Readings → Option (List ℕ) → Type 0
-LeavesAt down in_flight clock c end store ahead held =
-    (h : List ℕ) × (held ≡ Some h) × (last : Standing) × EndsAt clock c end h last × IsAt down in_flight clock last store ahead
+abbrev pub LeavesAt : DeskId → Readings → Point → End → Pass → Option Readings → Option (List ℕ) → Type 0
+LeavesAt desk clock c end pass ahead held =
+    (h : List ℕ) × (held ≡ Some h) × (last : Standing) × EndsAt clock c end h last × IsAt desk clock last pass ahead

@@ -6,3 +6,4 @@ pub mod Lines
 pub mod Journals
 pub mod Runs
 pub mod Opening
+pub mod Stores

@@ -1,5 +1,5 @@
 -- A session over one stream of bytes: the requests in turn, the replies to them, and how it ends.
-use Rattle.std.specs.Prelude.{ℕ, ◌+◌, ◌<◌, ◌==◌, ◌≡◌, ◌⊎◌, List, [], ◌∷◌, ◌++◌, take, Option, Some, None, Bool, true, false, ◌||◌, Result, Ok, Err, option_map}
+use Rattle.std.specs.Prelude.{ℕ, ◌+◌, ◌<◌, ◌==◌, ◌≡◌, ◌⊎◌, List, [], ◌∷◌, ◌++◌, take, Option, Some, None, Bool, true, false, ◌||◌, Result, Ok, Err}
 use Rattle.sha2.specs.Sha256.{sha256}
 use Rattle.cat_io.specs.Clocks.{from}
 use Rattle.cat_model.specs.declared.log_entry.LogEntry.{LogEntry}
@@ -15,7 +15,10 @@ use Rattle.cat_http.specs.Fields.{closes}
 use Rattle.cat_http.specs.Next.{IsRequest, IsEnd, IsMalformed, IsTooLarge}
 use Rattle.cat_rest.specs.Wanted.{wanted}
 use Rattle.cat_ledger.specs.Kept.{spelling}
-use Rattle.cat_core.specs.Stored.{Stored}
+use Rattle.cat_model.specs.Mark.{FailedAppend}
+use Rattle.cat_desk.specs.Pass.{DeskId, mark_of, number_of}
+use Rattle.cat_desk.specs.declared.pass.Pass.{Pass}
+use Rattle.cat_work.specs.Passes.{IsAlone, IsReady, book_of}
 use Rattle.cat_cli.specs.declared.ending.Session.{Session as End}
 use Rattle.cat_cli.specs.declared.ending.Session.TheVariants as ends
 use Rattle.cat_cli.specs.Replies.{said_bytes, refused_bytes, is_head}
@@ -156,23 +159,34 @@ EndsAt clock c ends.NoMemory held last = IsUntold clock c held last
 abbrev pub Ends : Readings → Point → End → List ℕ → Standing → Type 0
 Ends clock a end held last = (c : Point) × Reaches clock a c × EndsAt clock c end held last
 
--- ---- what a keeper, a clock, a source and a sink tell
+-- ---- what a pass, a clock, a source and a sink tell
 
--- the store and the clock stand so
-pub record IsAt {K : Type 0} (down : K → Option ℕ) (in_flight : K → Option (List ℕ)) (clock : Readings) (s : Standing) (store : Stored K) (ahead : Option Readings) : Type 0 where
-  pub book_is : store.book ≡ s.book
-  pub down_is : down store.keeper ≡ option_map (λ (f : Fallen). f.count) s.fallen
-  pub flies : in_flight store.keeper ≡ option_map (λ (f : Fallen). spelling f.entry) s.fallen
+-- what is seen of an append that failed: the count of faults then, and the payload
+abbrev pub seen_failed : Option FailedAppend → Option (ℕ × List ℕ)
+seen_failed None = None
+seen_failed (Some x) = Some (x.count, x.payload)
+
+abbrev pub seen_fallen : Option Fallen → Option (ℕ × List ℕ)
+seen_fallen None = None
+seen_fallen (Some x) = Some (x.count, spelling x.entry)
+
+-- the caller of the only pass of a desk has nothing open, and the pass and the clock stand so
+pub record IsAt (desk : DeskId) (clock : Readings) (s : Standing) (pass : Pass) (ahead : Option Readings) : Type 0 where
+  pub ready : IsReady desk pass
+  pub alone : IsAlone pass
+  pub number : number_of pass ≡ 1
+  pub book_is : book_of desk pass ≡ s.book
+  pub fault_is : seen_failed (mark_of pass).fault ≡ seen_fallen s.fallen
   pub to_come : ahead ≡ Some (from s.readings clock)
 
--- the store, the clock, the source and the sink stand at a point
-pub record Stands {K : Type 0} (down : K → Option ℕ) (in_flight : K → Option (List ℕ)) (clock : Readings) (c : Point) (store : Stored K) (ahead : Option Readings) (bytes held : Option (List ℕ)) : Type 0 where
-  pub store_at : IsAt down in_flight clock c.standing store ahead
+-- the pass, the clock, the source and the sink stand at a point
+pub record Stands (desk : DeskId) (clock : Readings) (c : Point) (pass : Pass) (ahead : Option Readings) (bytes held : Option (List ℕ)) : Type 0 where
+  pub pass_at : IsAt desk clock c.standing pass ahead
   pub bytes_are : bytes ≡ Some c.bytes
   pub held_is : held ≡ Some c.written
 
 -- a session that begins so ends so, where the clock, the source and the sink tell what they have
-abbrev pub EndsKnown : {K : Type 0} → (K → Option ℕ) → (K → Option (List ℕ)) → ℕ → Stored K → Stored K → Option Readings → Option Readings → Option (List ℕ) → Option (List ℕ) → End → Option (List ℕ) → Type 0
-EndsKnown down in_flight most store store' ahead ahead' bytes held end after =
-    (clock : Readings) (a : Point) → a.left ≡ most → Stands down in_flight clock a store ahead bytes held
-    → (h : List ℕ) × (after ≡ Some h) × (last : Standing) × Ends clock a end h last × IsAt down in_flight clock last store' ahead'
+abbrev pub EndsKnown : DeskId → ℕ → Pass → Pass → Option Readings → Option Readings → Option (List ℕ) → Option (List ℕ) → End → Option (List ℕ) → Type 0
+EndsKnown desk most pass pass' ahead ahead' bytes held end after =
+    (clock : Readings) (a : Point) → a.left ≡ most → Stands desk clock a pass ahead bytes held
+    → (h : List ℕ) × (after ≡ Some h) × (last : Standing) × Ends clock a end h last × IsAt desk clock last pass' ahead'

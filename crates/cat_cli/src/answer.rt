@@ -1,28 +1,32 @@
 //! The replies to single requests.
 
 ghost use Rattle.std.specs.Prelude.{◌≡◌, ◌≢◌, ◌≤◌, ◌==◌, ◌||◌, ℕ, List, IfNone, IfSome, Some, None, Err, OnOk};
+ghost use Rattle.cat_desk.specs.Pass.{Keeps};
+ghost use Rattle.cat_work.specs.Passes.{IsReady};
 ghost use Rattle.cat_io.specs.Causes.{Rose};
 ghost use Rattle.cat_cli.specs.Sessions.{Readings, Point, Turn};
 ghost use Rattle.std.specs.Io.KnownBytes.{Appends};
 ghost use Rattle.cat_http.specs.Writing.{AppendsFront};
-ghost use Rattle.cat_cli.specs.Answers.{SaysTo, FallsByFault, IsAsked, IsAnswered, LeavesAt, change_stands};
+ghost use Rattle.cat_cli.specs.Answers.{SaysTo, IsAsked, IsAnswered, LeavesAt, change_stands};
 ghost use Rattle.cat_cli.specs.Replies.{is_head, refused_bytes};
 
 use crate::ending::Session;
 use crate::reply::{Said, refusal_reply, response, send};
 use cat_core::Store;
+use cat_desk::{Desk, NoGate, Pass};
 use cat_http::Request;
 use cat_io::{Clock, Sink};
 use cat_keeper::Keeper;
-use cat_model::moment::Moment;
 use cat_model::refusal::{Refusal, Refused};
 use cat_model::reply::Told;
 use cat_model::wanted::Wanted;
 use cat_rest::{Routes, to_command};
+use cat_work::{call, read};
 use std::alloc::Global;
+use std::sync::Wait;
 
-/// The caller of the only session.
-const CALLER: u32 = 1;
+/// How often a call is tried on a branch that others move.
+const ATTEMPTS: u32 = 8;
 
 // Whether the reply must tell it: a change that was made, or that may have been kept.
 fn change_stands(told: &Result<Told, Refused>) -> bool
@@ -37,25 +41,28 @@ fn change_stands(told: &Result<Told, Refused>) -> bool
     }
 }
 
-fn said_to<K0: Keeper, C: Clock>(
+fn said_to<R: Wait, K0: Keeper, C: Clock>(
+    rt: &R,
     alloc: Global,
     routes: &Routes,
-    store: &mut Store<K0>,
+    desk: &Desk<Store<K0>>,
+    pass: &mut Pass,
     clock: &mut C,
     request: &Request<'_>,
 ) -> Said
-    ensures says { SaysTo K0.down K0.in_flight request.now store.old (C.ahead clock.old) result.told result.stands store.new (C.ahead clock.new) }
-    ensures up { FallsByFault K0.down K0.faults store.old.keeper store.new.keeper }
-    ensures later { K0.faults store.old.keeper ≤ K0.faults store.new.keeper }
+    requires { IsReady desk.now pass.old }
+    ensures says { SaysTo desk.now request.now pass.old (C.ahead clock.old) result.told result.stands pass.new (C.ahead clock.new) }
+    ensures ready { IsReady desk.now pass.new }
+    ensures kept { Keeps desk.now pass.old pass.new }
 {
     match to_command(alloc, routes, request) {
         Ok(Wanted::Read(ask)) => Said {
-            told: store.read(alloc, &ask),
+            told: read(rt, alloc, desk, pass, &ask),
             stands: false,
         },
         Ok(Wanted::Change(command)) => {
-            let moment = Moment::from_micros(clock.now());
-            let told = store.apply(alloc, CALLER, moment, &command);
+            let mut gate = NoGate {};
+            let told = call(rt, alloc, desk, pass, &mut gate, clock, ATTEMPTS, &command);
             let stands = change_stands(&told);
             Said { told, stands }
         }
@@ -67,29 +74,33 @@ fn said_to<K0: Keeper, C: Clock>(
 }
 
 /// Answers a request, behind which so many may follow. None: the session goes on.
-pub(crate) fn answer<K0: Keeper, K: Sink, C: Clock>(
+#[allow(clippy::too_many_arguments)]
+pub(crate) fn answer<R: Wait, K0: Keeper, K: Sink, C: Clock>(
+    rt: &R,
     alloc: Global,
     routes: &Routes,
-    store: &mut Store<K0>,
+    desk: &Desk<Store<K0>>,
+    pass: &mut Pass,
     request: &Request<'_>,
     sink: &mut K,
     clock: &mut C,
     left: u64,
 ) -> Option<Session>
+    requires { IsReady desk.now pass.old }
     ensures on { IfNone result ((k : Readings) (c : Point) (rest : List ℕ)
-        → IsAsked K0.down K0.in_flight k c left request.now rest store.old (C.ahead clock.old) (K.held sink.old)
-        → (t : Turn) × IsAnswered K0.down K0.in_flight k c left rest t store.new (C.ahead clock.new) (K.held sink.new)) }
+        → IsAsked desk.now k c left request.now rest pass.old (C.ahead clock.old) (K.held sink.old)
+        → (t : Turn) × IsAnswered desk.now k c left rest t pass.new (C.ahead clock.new) (K.held sink.new)) }
     ensures ends { IfSome result (λ end. (k : Readings) (c : Point) (rest : List ℕ)
-        → IsAsked K0.down K0.in_flight k c left request.now rest store.old (C.ahead clock.old) (K.held sink.old)
-        → LeavesAt K0.down K0.in_flight k c end store.new (C.ahead clock.new) (K.held sink.new)) }
-    ensures up { FallsByFault K0.down K0.faults store.old.keeper store.new.keeper }
-    ensures later_store { K0.faults store.old.keeper ≤ K0.faults store.new.keeper }
+        → IsAsked desk.now k c left request.now rest pass.old (C.ahead clock.old) (K.held sink.old)
+        → LeavesAt desk.now k c end pass.new (C.ahead clock.new) (K.held sink.new)) }
+    ensures ready { IsReady desk.now pass.new }
+    ensures kept { Keeps desk.now pass.old pass.new }
     ensures open { result ≢ Some Session.Capped }
     ensures read { result ≢ Some Session.ReadFault }
     ensures write { result ≡ Some Session.WriteFault → Rose (K.faults sink.old) (K.faults sink.new) }
     ensures later { K.faults sink.old ≤ K.faults sink.new }
 {
-    let said = said_to(alloc, routes, store, clock, request);
+    let said = said_to(rt, alloc, routes, desk, pass, clock, request);
     let closes = request.closes();
     match response(alloc, is_last(closes, left), is_head(request), said) {
         Ok(reply) => match send(sink, reply) {

@@ -1,6 +1,7 @@
 //! The journal of a run: a store over it, and its disk, which goes back where it stood.
 
 ghost use Rattle.std.specs.Prelude.{◌≡◌, ◌≢◌, ◌≤◌, ◌⊎◌, None, Some, IfErr, IfOk, false, true};
+ghost use Rattle.cat_model.specs.Drafts.{nothing_open};
 ghost use Rattle.cat_io.specs.Causes.{Rose};
 ghost use Rattle.cat_io.specs.Places.{OthersStay};
 ghost use Rattle.cat_cli.specs.Journals.{DiskRose, IsBack, StandsFor, told_at};
@@ -18,6 +19,7 @@ use std::marker::Send;
 // The store of a journal's catalogue, over the journal.
 fn store_on<D: Disk + Send>(alloc: Global, disk: D) -> Result<Store<Journal<D>>, (D, Unopened)>
     ensures stored { IfOk result (λ store. IsStored (D.told disk) store.book (⟦<Journal<D> as Keeper>⟧.down store.keeper) (D.faults disk) (⟦<Journal<D> as Keeper>⟧.faults store.keeper)) }
+    ensures fresh { IfOk result (λ store. (store.left_open ≡ nothing_open) × (store.mark.fault ≡ None) × (store.began ≡ ⟦<Journal<D> as Keeper>⟧.faults store.keeper)) }
     ensures reason { IfErr result (λ e. IsReason (D.told disk) e.1) }
     ensures stands { IfErr result (λ e. StandsFor (D.told disk) (D.told e.0)) }
     ensures cause { IfErr result (λ e. e.1 ≡ Unopened.Fault → Rose (D.faults disk) (D.faults e.0)) }
@@ -40,6 +42,7 @@ pub(crate) fn open<O: Disks>(
 ) -> Result<(Store<Journal<O::D>>, u64), Unopened>
     ensures opened { IfOk result (λ r. IsOpened O.D.told O.D.faults (O.at_path disks.old path.now) (O.at_path disks.new path.now) r.1 r.0.book
         (⟦<Journal<O::D> as Keeper>⟧.down r.0.keeper) (⟦<Journal<O::D> as Keeper>⟧.faults r.0.keeper)) }
+    ensures fresh { IfOk result (λ r. (r.0.left_open ≡ nothing_open) × (r.0.mark.fault ≡ None) × (r.0.began ≡ ⟦<Journal<O::D> as Keeper>⟧.faults r.0.keeper)) }
     ensures reason { IfErr result (λ why. IsReason (told_at O.D.told (O.at_path disks.old path.now)) why) }
     ensures stands { IfErr result (λ why. StandsFor (told_at O.D.told (O.at_path disks.old path.now)) (told_at O.D.told (O.at_path disks.new path.now))) }
     ensures cause { IfErr result (λ why. why ≡ Unopened.Fault → Rose (O.faults disks.old) (O.faults disks.new) ⊎ DiskRose O.D.faults (O.at_path disks.old path.now) (O.at_path disks.new path.now)) }

@@ -29,7 +29,7 @@ use std::thread::Threads;
 /// yet.
 #[allow(clippy::too_many_arguments)]
 pub fn run<R: Threads + Wait + Sync, O: Disks, S: Source, K: Sink, C: Clock, L: Listener>(
-    _rt: &R,
+    rt: &R,
     alloc: Global,
     words: &[&str],
     disks: &mut O,
@@ -67,9 +67,9 @@ pub fn run<R: Threads + Wait + Sync, O: Disks, S: Source, K: Sink, C: Clock, L: 
     ensures untouched { option_and_then journal_of (asked (map (λ word. word.now) words.now)) ≡ None → (path : List ℕ) → O.at_path disks.new path ≡ O.at_path disks.old path }
 {
     match asked_of(alloc, words) {
-        Ok(Asked::Script(journal)) => script(alloc, journal, disks, source, sink, clock),
+        Ok(Asked::Script(journal)) => script(rt, alloc, journal, disks, source, sink, clock),
         Ok(Asked::Check(journal)) => check(alloc, journal, disks, sink),
-        Ok(Asked::Drill { seed, commits }) => drilled(alloc, seed, commits, sink),
+        Ok(Asked::Drill { seed, commits }) => drilled(rt, alloc, seed, commits, sink),
         Err(WordsFault::Usage) => {
             tell(sink, b"nessie: usage\n");
             Status::Usage
@@ -79,13 +79,13 @@ pub fn run<R: Threads + Wait + Sync, O: Disks, S: Source, K: Sink, C: Clock, L: 
 }
 
 // The line of a drill.
-fn drilled<K: Sink>(alloc: Global, seed: u64, commits: u64, sink: &mut K) -> Status
+fn drilled<R: Wait, K: Sink>(rt: &R, alloc: Global, seed: u64, commits: u64, sink: &mut K) -> Status
     requires { commits ≤ 1000000 }
     ensures drilled { DrillsKnown (drill_line seed commits) (K.held sink.old) result (K.held sink.new) (K.faults sink.old) (K.faults sink.new) }
     ensures ends { IsTrue (ends_drill result) }
     ensures write { result ≡ Status.WriteFault → Rose (K.faults sink.old) (K.faults sink.new) }
 {
-    match cat_drill::drill(alloc, seed, commits) {
+    match cat_drill::drill(rt, alloc, seed, commits) {
         Ok(line) => match write_all(sink, line.as_bytes()) {
             Ok(()) => Status::Done,
             Err(_) => Status::WriteFault,

@@ -1,19 +1,27 @@
 //! A session on the catalogue of a journal.
 
-ghost use Rattle.std.specs.Prelude.{◌≡◌, ◌≢◌, ◌⊎◌};
+ghost use Rattle.std.specs.Prelude.{ℕ, ◌≡◌, ◌≢◌, ◌⊎◌, IfErr, IfOk, None, Some};
 ghost use Rattle.cat_io.specs.Causes.{Rose};
 ghost use Rattle.cat_io.specs.Places.{OthersStay};
 ghost use Rattle.cat_cli.specs.Journals.{DiskRose, IsBack, told_at};
 ghost use Rattle.cat_cli.specs.Opening.{status_of};
 ghost use Rattle.cat_cli.specs.Runs.{SaysKnown};
+ghost use Rattle.cat_cli.specs.Stores.{RunsKnown};
+ghost use Rattle.cat_model.specs.Drafts.{nothing_open};
 
 use crate::ending::Session;
 use crate::journal::{close, open};
 use crate::session::run_session;
 use crate::status::Status;
+use crate::telling::tell_no_memory;
 use crate::unopened::refuse;
+use cat_codes::fault::NoMemory;
+use cat_core::Store;
 use cat_io::{Clock, Disks, Sink, Source};
+use cat_keeper::Keeper;
+use cat_work::{hold, release};
 use std::alloc::Global;
+use std::sync::Wait;
 
 // The status after a session, by whether the disk's count of faults rose.
 fn status_of(end: Session, rose: bool) -> Status
@@ -29,8 +37,40 @@ fn status_of(end: Session, rose: bool) -> Status
     }
 }
 
+// A session on a store, through a desk with one pass, after which the store comes back. Where memory
+// runs out before the session begins, it comes back as it was.
+fn hold_session<R: Wait, K0: Keeper, S: Source, K: Sink, C: Clock>(
+    rt: &R,
+    alloc: Global,
+    store: Store<K0>,
+    source: &mut S,
+    sink: &mut K,
+    clock: &mut C,
+) -> Result<(Store<K0>, Session), (Store<K0>, NoMemory)>
+    requires closed { store.left_open ≡ nothing_open }
+    requires up { store.mark.fault ≡ None }
+    ensures ends { IfOk result (λ t. RunsKnown K0.down K0.in_flight store (C.ahead clock.old) (S.left source.old) (K.held sink.old) t.1 t.0 (K.held sink.new)) }
+    ensures rose { IfOk result (λ t. (c : ℕ) → K0.down t.0.keeper ≡ Some c → Rose store.began (K0.faults t.0.keeper)) }
+    ensures read { IfOk result (λ t. t.1 ≡ Session.ReadFault → Rose (S.faults source.old) (S.faults source.new)) }
+    ensures write { IfOk result (λ t. t.1 ≡ Session.WriteFault → Rose (K.faults sink.old) (K.faults sink.new)) }
+    ensures back { IfErr result (λ e. e.0 ≡ store) }
+    ensures untold { IfErr result (λ _. sink.new ≡ sink.old) }
+{
+    match hold(alloc, store) {
+        Ok((desk, mut pass)) => {
+            let end = run_session(rt, alloc, &desk, &mut pass, source, sink, clock);
+            let store = release(desk, pass);
+            store.log_is_kept();
+            Ok((store, end))
+        }
+        Err((store, fault)) => Err((store, fault)),
+    }
+}
+
 /// One session, on the catalogue of the journal.
-pub(crate) fn script<O: Disks, S: Source, K: Sink, C: Clock>(
+#[allow(clippy::too_many_arguments)]
+pub(crate) fn script<R: Wait, O: Disks, S: Source, K: Sink, C: Clock>(
+    rt: &R,
     alloc: Global,
     path: &str,
     disks: &mut O,
@@ -48,11 +88,16 @@ pub(crate) fn script<O: Disks, S: Source, K: Sink, C: Clock>(
     ensures others { OthersStay path.now (O.at_path disks.old) (O.at_path disks.new) }
 {
     match open(alloc, disks, path) {
-        Ok((mut store, faults)) => {
-            let end = run_session(alloc, &mut store, source, sink, clock);
-            let rose = close(disks, path, store, faults);
-            status_of(end, rose)
-        }
+        Ok((store, faults)) => match hold_session(rt, alloc, store, source, sink, clock) {
+            Ok((store, end)) => {
+                let rose = close(disks, path, store, faults);
+                status_of(end, rose)
+            }
+            Err((store, _)) => {
+                close(disks, path, store, faults);
+                tell_no_memory(sink)
+            }
+        },
         Err(why) => refuse(alloc, why, sink),
     }
 }

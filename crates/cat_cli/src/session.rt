@@ -1,44 +1,52 @@
 //! A session: the requests of a source, one after another, and the replies to them.
 
 ghost use Rattle.std.specs.Prelude.{◌≡◌, ◌≢◌, ◌+◌, ◌≤◌, ℕ, IfNone, IfSome, Some, None};
+ghost use Rattle.cat_desk.specs.Pass.{Keeps};
+ghost use Rattle.cat_work.specs.Passes.{IsReady};
 ghost use Rattle.std.specs.Io.KnownBytes.{prepend_known};
 ghost use Rattle.cat_io.specs.Causes.{Rose};
 ghost use Rattle.cat_cli.specs.Sessions.{Readings, Point, Turn, Stands, EndsKnown};
-ghost use Rattle.cat_cli.specs.Answers.{FallsByFault, GoesTo, LeavesAt};
+ghost use Rattle.cat_cli.specs.Answers.{GoesTo, LeavesAt};
 
 use crate::answer::{Unwritten, answer, refuse};
 use crate::ending::Session;
 use cat_core::Store;
+use cat_desk::{Desk, Pass};
 use cat_http::{Buffer, Incoming, read_request};
 use cat_io::{Clock, Sink, Source};
 use cat_keeper::Keeper;
 use cat_model::refusal::{Reason, Refusal};
 use cat_rest::Routes;
 use std::alloc::Global;
+use std::sync::Wait;
 
 /// A session answers at most so many requests.
 const MOST: u64 = 1000;
 
 // What comes next, and the reply to it; so many requests may follow. None: the session goes on.
 #[allow(clippy::too_many_arguments)]
-fn turn<K0: Keeper, S: Source, K: Sink, C: Clock>(
+#[tactic(auto, using(crate::proofs::Standing::keeps_self))]
+fn turn<R: Wait, K0: Keeper, S: Source, K: Sink, C: Clock>(
+    rt: &R,
     alloc: Global,
     routes: &Routes,
-    store: &mut Store<K0>,
+    desk: &Desk<Store<K0>>,
+    pass: &mut Pass,
     buffer: &mut Buffer,
     source: &mut S,
     sink: &mut K,
     clock: &mut C,
     left: u64,
 ) -> Option<Session>
+    requires { IsReady desk.now pass.old }
     ensures on { IfNone result ((k : Readings) (c : Point) → c.left ≡ left + 1
-        → Stands K0.down K0.in_flight k c store.old (C.ahead clock.old) (prepend_known buffer.old.unread (S.left source.old)) (K.held sink.old)
-        → (t : Turn) × GoesTo K0.down K0.in_flight k c left t store.new (C.ahead clock.new) (prepend_known buffer.new.unread (S.left source.new)) (K.held sink.new)) }
+        → Stands desk.now k c pass.old (C.ahead clock.old) (prepend_known buffer.old.unread (S.left source.old)) (K.held sink.old)
+        → (t : Turn) × GoesTo desk.now k c left t pass.new (C.ahead clock.new) (prepend_known buffer.new.unread (S.left source.new)) (K.held sink.new)) }
     ensures ends { IfSome result (λ end. (k : Readings) (c : Point) → c.left ≡ left + 1
-        → Stands K0.down K0.in_flight k c store.old (C.ahead clock.old) (prepend_known buffer.old.unread (S.left source.old)) (K.held sink.old)
-        → LeavesAt K0.down K0.in_flight k c end store.new (C.ahead clock.new) (K.held sink.new)) }
-    ensures up { FallsByFault K0.down K0.faults store.old.keeper store.new.keeper }
-    ensures later_store { K0.faults store.old.keeper ≤ K0.faults store.new.keeper }
+        → Stands desk.now k c pass.old (C.ahead clock.old) (prepend_known buffer.old.unread (S.left source.old)) (K.held sink.old)
+        → LeavesAt desk.now k c end pass.new (C.ahead clock.new) (K.held sink.new)) }
+    ensures ready { IsReady desk.now pass.new }
+    ensures kept { Keeps desk.now pass.old pass.new }
     ensures open { result ≢ Some Session.Capped }
     ensures read { result ≡ Some Session.ReadFault → Rose (S.faults source.old) (S.faults source.new) }
     ensures write { result ≡ Some Session.WriteFault → Rose (K.faults sink.old) (K.faults sink.new) }
@@ -46,7 +54,17 @@ fn turn<K0: Keeper, S: Source, K: Sink, C: Clock>(
     ensures later_sink { K.faults sink.old ≤ K.faults sink.new }
 {
     match read_request(source, buffer) {
-        Incoming::Request => answer(alloc, routes, store, &buffer.request(), sink, clock, left),
+        Incoming::Request => answer(
+            rt,
+            alloc,
+            routes,
+            desk,
+            pass,
+            &buffer.request(),
+            sink,
+            clock,
+            left,
+        ),
         Incoming::End => Some(Session::Closed),
         Incoming::BadHead => {
             match refuse(alloc, sink, Refusal::BadRequest(Reason::BadHead)) {
@@ -64,17 +82,21 @@ fn turn<K0: Keeper, S: Source, K: Sink, C: Clock>(
     }
 }
 
-/// Answers the requests of the source, one after another, on a store that no one else calls.
-pub(crate) fn run_session<K0: Keeper, S: Source, K: Sink, C: Clock>(
+/// Answers the requests of the source, one after another, on a desk's pass.
+#[tactic(auto, using(crate::proofs::Standing::keeps_self))]
+pub(crate) fn run_session<R: Wait, K0: Keeper, S: Source, K: Sink, C: Clock>(
+    rt: &R,
     alloc: Global,
-    store: &mut Store<K0>,
+    desk: &Desk<Store<K0>>,
+    pass: &mut Pass,
     source: &mut S,
     sink: &mut K,
     clock: &mut C,
 ) -> Session
-    ensures ends { EndsKnown K0.down K0.in_flight 1000 store.old store.new (C.ahead clock.old) (C.ahead clock.new) (S.left source.old) (K.held sink.old) result (K.held sink.new) }
-    ensures up { K0.down store.old.keeper ≡ None → (c : ℕ) → K0.down store.new.keeper ≡ Some c → Rose (K0.faults store.old.keeper) (K0.faults store.new.keeper) }
-    ensures later { K0.faults store.old.keeper ≤ K0.faults store.new.keeper }
+    requires { IsReady desk.now pass.old }
+    ensures ends { EndsKnown desk.now 1000 pass.old pass.new (C.ahead clock.old) (C.ahead clock.new) (S.left source.old) (K.held sink.old) result (K.held sink.new) }
+    ensures ready { IsReady desk.now pass.new }
+    ensures kept { Keeps desk.now pass.old pass.new }
     ensures read { result ≡ Session.ReadFault → Rose (S.faults source.old) (S.faults source.new) }
     ensures write { result ≡ Session.WriteFault → Rose (K.faults sink.old) (K.faults sink.new) }
 {
@@ -87,9 +109,11 @@ pub(crate) fn run_session<K0: Keeper, S: Source, K: Sink, C: Clock>(
     'turns: for count in 0..MOST {
         let left = MOST - 1 - count;
         if let Some(end) = turn(
+            rt,
             alloc,
             &routes,
-            store,
+            desk,
+            pass,
             &mut buffer,
             source,
             sink,

@@ -1,7 +1,8 @@
 -- The keeper has the entries of the log.
-use Rattle.std.proofs.Common.{◌≡◌, ℕ, List, [], ◌∷◌, ◌++◌, map, reverse, Option, Some, None, Result, Ok, Err, Bool, true, false, nat_lt, if◌then◌else◌, IfSome, refl, sym, ap, subst, ◌∙◌}
+use Rattle.std.proofs.Common.{◌≡◌, ◌≤◌, ℕ, max, arith, List, [], ◌∷◌, ◌++◌, map, reverse, Option, Some, None, Result, Ok, Err, Bool, true, false, nat_lt, if◌then◌else◌, IfSome, refl, sym, ap, subst, ◌∙◌}
 use Rattle.std.proofs.lemmas.List.{append-nil, reverse-append, map-append}
 use Rattle.sha2.specs.Sha256.{sha256}
+use Rattle.cat_io.specs.Causes.{Rose}
 use Rattle.cat_io.specs.Crashes as crashes
 use Rattle.cat_model.specs.declared.command.Command.{Command}
 use Rattle.cat_model.specs.declared.log_entry.LogEntry.{LogEntry}
@@ -15,10 +16,15 @@ use Rattle.cat_model.specs.Step.{Turn, opening, opens_draft, step}
 use Rattle.cat_state.specs.declared.failure.Failure.{Failure}
 use Rattle.cat_state.specs.declared.failure.Failure.TheVariants as failures
 use Rattle.cat_ledger.specs.declared.unmade.Unmade.TheVariants.{Failed, NotKept}
-use Rattle.cat_ledger.specs.Kept.{Fell, Grew, Leaves, Stayed, spelling, spellings}
-use Rattle.cat_ledger.specs.Making.{Makes}
-use Rattle.cat_core.specs.Stored.{IsInStep, Stored}
-use Rattle.cat_ledger.proofs.Keeping.{leaves_any}
+use Rattle.cat_ledger.specs.declared.unmade.Unmade.{Unmade}
+use Rattle.cat_ledger.specs.Kept.{Keeps, Stayed, spelling, spellings}
+use Rattle.cat_ledger.specs.declared.logging.Turn as ledger
+use Rattle.cat_ledger.specs.declared.occasion.Occasion.{Occasion}
+use Rattle.cat_ledger.specs.Making.{Runs}
+use Rattle.cat_ledger.specs.Occasions.{begun, left_on, made_on, opened_on, turn_on, turned_step}
+use Rattle.cat_core.specs.declared.tickets.Fallen.{Fallen}
+use Rattle.cat_core.specs.Made.{fallen_by}
+use Rattle.cat_core.specs.Stored.{IsInStep}
 
 -- ---- a call logs one entry at most, and none where it is refused
 
@@ -27,7 +33,7 @@ AtMostOne [] = Unit {0}
 AtMostOne (e ∷ []) = Unit {0}
 AtMostOne (e ∷ f ∷ entries) = ⊥
 
-record LogsRight (c : Called) : Type 0 where
+pub record LogsRight (c : Called) : Type 0 where
   pub few : AtMostOne c.logged
   pub none : (refused : Refused) → c.said ≡ Err refused → c.logged ≡ []
 
@@ -48,9 +54,17 @@ right_tested : (caller : ℕ) (state : State) (last : ℕ) (command : Command) (
 right_tested caller state last command moment (Err why) = record { few = tt; none = λ r e. refl }
 right_tested caller state last command moment (Ok u) = right_opened caller state last command moment (opens_draft command)
 
-right_call : (caller : ℕ) (book : Book) (command : Command) (moment : ℕ) → LogsRight (call_on sha256 caller book command moment)
+pub right_call : (caller : ℕ) (book : Book) (command : Command) (moment : ℕ) → LogsRight (call_on sha256 caller book command moment)
 unfolding call
 right_call caller book command moment = right_tested caller book.state book.draft command moment (opening sha256 book.state command >>= λ _. needs_draft book.state book.draft (opens_draft command))
+
+right_on : (book : Book) (turn : ledger.Turn) (command : Command) (tested : Tested) → LogsRight (opened_on book turn command tested)
+right_on book turn command (Err why) = record { few = tt; none = λ r e. refl }
+right_on book turn command (Ok u) = right_stepped turn.caller book.state (max book.draft turn.draft) command (begun book turn) (turned_step book turn command)
+
+pub right_made : (book : Book) (o : Occasion) (command : Command) → LogsRight (made_on book o command)
+unfolding made_on
+right_made book o command = right_on book (turn_on book o (opens_draft command)) command (opening sha256 book.state command >>= λ _. left_on book o.draft (opens_draft command))
 
 -- ---- the payloads of a log
 
@@ -75,47 +89,38 @@ still : {K : Type 0} (told : K → Option (List (List ℕ))) (old new : K) (befo
 still told old new before after same log is =
     subst (λ (l : List LogEntry). IfSome (told new) (λ ps. ps ≡ spellings (reverse l))) (sym log) (subst (λ (t : Option (List (List ℕ))). IfSome t (λ ps. ps ≡ spellings (reverse before.log))) (sym same) is)
 
-pub none_of : (d : Option ℕ) → ((n : ℕ) → d ≡ Some n → ⊥) → d ≡ None
-none_of None not = refl
-none_of (Some n) not = absurd (not n refl)
+rose_since : (began old new : ℕ) → began ≤ old → Rose old new → Rose began new
+rose_since began old new later rose = omega (arith, later, rose)
 
 module _ {K : Type 0} (told : K → Option (List (List ℕ))) (kept : K → ℕ) (down : K → Option ℕ) (in_flight : K → Option (List ℕ)) (faults : K → ℕ) (moment : K → ℕ) (left_since : K → ℕ → Option (List (List ℕ)) → Type 0) (may_leave : K → Option (List (List ℕ)) → Type 0) where
-  -- after a call that made an entry or none
-  pub made_in_step : (old new : K) (caller : ℕ) (before after : Book) (command : Command) (at : ℕ) (told_is : Told) (failed : Option ℕ) → IsInStep told kept down before old failed → Makes (call_on sha256 caller before command at) before after (Ok told_is)
-      → Grew told kept down in_flight faults moment left_since may_leave old new (call_on sha256 caller before command at).logged → kept new ≡ after.state.place → failed ≡ None → IsInStep told kept down after new failed
-  made_in_step old new caller before after command at told_is failed was makes grew number none = record {
-    payloads = subst (λ (b : Book). IfSome (told new) (λ ps. ps ≡ spellings (reverse b.log))) (sym makes.book) (told_more (told old) (told new) before.log _ (right_call caller before command at).few was.payloads grew.payloads);
-    number = number;
-    fallen = grew.up ∙ sym none;
-  }
+  module _ (old new : K) (caller : ℕ) (called : Called) (before after : Book) (began : ℕ) (right : LogsRight called) (was : IsInStep told kept down faults before old None began) (number : kept new ≡ after.state.place) where
+    stayed : after.log ≡ before.log → Stayed told kept down in_flight faults moment left_since may_leave old new → IsInStep told kept down faults after new None began
+    stayed log keeps =
+        let later : began ≤ faults old = was.later in
+        let more : faults old ≤ faults new = keeps.later in
+        record { payloads = still told old new before after keeps.payloads log was.payloads; number = number; fallen = keeps.fallen ∙ was.fallen; later = omega arith; rose = tt }
 
-  -- after one that was refused, or for which memory ran out
-  pub failed_in_step : (old new : K) (caller : ℕ) (before after : Book) (command : Command) (at : ℕ) (failure : Failure) (failed : Option ℕ) → IsInStep told kept down before old failed → Makes (call_on sha256 caller before command at) before after (Err (Failed failure))
-      → Stayed told kept down in_flight faults moment left_since may_leave old new → kept new ≡ after.state.place → IsInStep told kept down after new failed
-  failed_in_step old new caller before after command at failures.NoMemory failed was makes stayed number = record {
-    payloads = still told old new before after stayed.payloads makes.log was.payloads;
-    number = number;
-    fallen = stayed.fallen ∙ was.fallen;
-  }
-  failed_in_step old new caller before after command at (failures.Refused why) failed was makes stayed number = record {
-    payloads = still told old new before after stayed.payloads (ap (λ (b : Book). b.log) makes.1.book ∙ ap (λ (l : List LogEntry). l ++ before.log) ((right_call caller before command at).none _ makes.1.said)) was.payloads;
-    number = number;
-    fallen = stayed.fallen ∙ was.fallen;
-  }
-
-  -- after one whose entry wasn't kept
-  pub fallen_in_step : (old new : K) (called : Called) (before after : Book) (count : ℕ) (failed : Option ℕ) → IsInStep told kept down before old failed → Makes called before after (Err NotKept)
-      → Fell told kept down in_flight faults moment left_since may_leave old new called.logged → kept new ≡ after.state.place → count ≡ faults new → IsInStep told kept down after new (Some count)
-  fallen_in_step old new called before after count failed was makes fell number is = record {
-    payloads = subst (λ (l : List LogEntry). IfSome (told new) (λ ps. ps ≡ spellings (reverse l))) (sym makes.log) (told_same (told old) (told new) before.log was.payloads fell.payloads);
-    number = number;
-    fallen = fell.fallen ∙ ap (λ (n : ℕ). Some n) (sym is);
-  }
-
-module _ {K : Type 0} (told : K → Option (List (List ℕ))) (kept : K → ℕ) (down : K → Option ℕ) (in_flight : K → Option (List ℕ)) (faults : K → ℕ) (moment : K → ℕ) (left_since : K → ℕ → Option (List (List ℕ)) → Type 0) (may_leave : K → Option (List (List ℕ)) → Type 0)
-    (safe : (k : K) (ps : List (List ℕ)) (c : Option (List (List ℕ))) → down k ≡ None → told k ≡ Some ps → may_leave k c → c ≡ Some ps)
-    (only_now : (k : K) (c : Option (List (List ℕ))) → left_since k (moment k) c → may_leave k c) where
-  -- what a crash leaves of a call that was refused, or for which memory ran out
-  pub failed_leaves : (inside stored : Stored K) → inside ≡ stored → (new : K) (logged : List LogEntry) → down stored.keeper ≡ None → Stayed told kept down in_flight faults moment left_since may_leave inside.keeper new → Leaves told moment left_since may_leave stored.keeper new logged
-  failed_leaves inside stored is new logged up stayed =
-      leaves_any told kept down in_flight faults moment left_since may_leave safe only_now stored.keeper new logged up (subst (λ (s : Stored K). crashes.LeavesOnly moment left_since s.keeper new (may_leave s.keeper)) is stayed.crash)
+    -- after a call
+    pub in_step : (made : Result Told Unmade) → Runs called before after made → Keeps told kept down in_flight faults moment left_since may_leave old new called.logged made → IsInStep told kept down faults after new (fallen_by caller (faults new) None made) began
+    in_step (Ok told_is) runs keeps =
+        let later : began ≤ faults old = was.later in
+        let more : faults old ≤ faults new = keeps.later in
+        record {
+          payloads = subst (λ (b : Book). IfSome (told new) (λ ps. ps ≡ spellings (reverse b.log))) (sym runs.book) (told_more (told old) (told new) before.log _ right.few was.payloads keeps.payloads);
+          number = number;
+          fallen = keeps.up;
+          later = omega arith;
+          rose = tt;
+        }
+    in_step (Err NotKept) runs keeps =
+        let later : began ≤ faults old = was.later in
+        let more : faults old ≤ faults new = keeps.later in
+        record {
+          payloads = subst (λ (l : List LogEntry). IfSome (told new) (λ ps. ps ≡ spellings (reverse l))) (sym runs.log) (told_same (told old) (told new) before.log was.payloads keeps.payloads);
+          number = number;
+          fallen = keeps.fallen;
+          later = omega arith;
+          rose = rose_since began (faults old) (faults new) was.later keeps.rose;
+        }
+    in_step (Err (Failed failures.NoMemory)) runs keeps = stayed runs.log keeps
+    in_step (Err (Failed (failures.Refused why))) runs keeps = stayed (ap (λ (b : Book). b.log) runs.1.book ∙ ap (λ (l : List LogEntry). l ++ before.log) (right.none _ runs.1.said)) keeps

@@ -9,26 +9,26 @@ use Rattle.cat_model.specs.Calls.{Called}
 use Rattle.cat_state.specs.declared.failure.Failure.TheVariants as failures
 use Rattle.cat_ledger.specs.declared.unmade.Unmade.{Unmade}
 use Rattle.cat_ledger.specs.declared.unmade.Unmade.TheVariants.{Failed, NotKept}
-use Rattle.cat_ledger.specs.Kept.{Grew, Keeps, Leaves, Spares}
-use Rattle.cat_ledger.specs.Making.{Makes, unmade_at}
+use Rattle.cat_ledger.specs.Kept.{Keeps, Leaves}
+use Rattle.cat_ledger.specs.Making.{Runs}
 use Rattle.cat_ledger.specs.PlainLaws.{IsOther, is_other}
 use Rattle.cat_ledger.proofs.Keeping.{leaves_any}
 use Rattle.cat_core.specs.Kept.{KeepsTold}
+use Rattle.cat_core.specs.Made.{told_at}
 
-not_fault : (why : Refusal) → IsOther why → why ≡ Fault → ⊥
+pub not_fault : (why : Refusal) → IsOther why → why ≡ Fault → ⊥
 not_fault why other is = let no : false ≡ true = subst (λ (w : Refusal). is_other w ≡ true) is other in cc
 
 module _ {K : Type 0} (told : K → Option (List (List ℕ))) (kept : K → ℕ) (down : K → Option ℕ) (in_flight : K → Option (List ℕ)) (faults : K → ℕ) (moment : K → ℕ) (left_since : K → ℕ → Option (List (List ℕ)) → Type 0) (may_leave : K → Option (List (List ℕ)) → Type 0)
     (safe : (k : K) (ps : List (List ℕ)) (c : Option (List (List ℕ))) → down k ≡ None → told k ≡ Some ps → may_leave k c → c ≡ Some ps)
     (only_now : (k : K) (c : Option (List (List ℕ))) → left_since k (moment k) c → may_leave k c) where
   -- what was told
-  pub told_done : (old new : K) (logged : List LogEntry) (told_is : Told) → Grew told kept down in_flight faults moment left_since may_leave old new logged → KeepsTold told kept down in_flight faults moment left_since may_leave old new logged (Ok told_is)
-  told_done old new logged told_is grew = record { done = grew; fault = tt; other = tt }
-
-  pub told_unmade : (old new : K) (logged : List LogEntry) (called : Called) (before after : Book) (place : ℕ) (why : Unmade) → Makes called before after (Err why) → Spares told kept down in_flight faults moment left_since may_leave old new logged why → KeepsTold told kept down in_flight faults moment left_since may_leave old new logged (Err (unmade_at place why))
-  told_unmade old new logged called before after place NotKept makes spares = record { done = tt; fault = λ is. spares; other = λ no. absurd (no refl) }
-  told_unmade old new logged called before after place (Failed failures.NoMemory) makes spares = record { done = tt; fault = λ is. absurd cc; other = λ no. spares }
-  told_unmade old new logged called before after place (Failed (failures.Refused why)) makes spares = record { done = tt; fault = λ is. absurd (not_fault why makes.0 is); other = λ no. spares }
+  pub keeps_told : (old new : K) (called : Called) (before after : Book) (place : ℕ) (made : Result Told Unmade) → Runs called before after made → Keeps told kept down in_flight faults moment left_since may_leave old new called.logged made
+      → KeepsTold told kept down in_flight faults moment left_since may_leave old new called.logged (told_at place made)
+  keeps_told old new called before after place (Ok told_is) runs keeps = record { done = keeps; fault = tt; other = tt }
+  keeps_told old new called before after place (Err NotKept) runs keeps = record { done = tt; fault = λ is. keeps; other = λ no. absurd (no refl) }
+  keeps_told old new called before after place (Err (Failed failures.NoMemory)) runs keeps = record { done = tt; fault = λ is. absurd cc; other = λ no. keeps }
+  keeps_told old new called before after place (Err (Failed (failures.Refused why))) runs keeps = record { done = tt; fault = λ is. absurd (not_fault why runs.0 is); other = λ no. keeps }
 
   pub leaves_made : {T : Type 0} (old new : K) (logged : List LogEntry) (result : Result T Unmade) → down old ≡ None → Keeps told kept down in_flight faults moment left_since may_leave old new logged result → Leaves told moment left_since may_leave old new logged
   leaves_made old new logged (Ok x) up keeps = keeps.crash

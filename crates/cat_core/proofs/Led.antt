@@ -12,7 +12,6 @@ use Rattle.cat_model.specs.declared.limits.Limits.{Limits}
 use Rattle.cat_model.specs.Book.{Book, first_book}
 use Rattle.cat_ledger.specs.Kept.{Stayed, spellings}
 use Rattle.cat_core.specs.Opening.{IsAdded, IsIllegalAt, IsLedSoFar, IsLedTo, IsPayloadAt, next_by}
-use Rattle.cat_core.specs.Stored.{IsInStep}
 use Rattle.cat_core.proofs.Replaying.{goes_on, refused_at}
 
 if_told : (told : Option (List (List ℕ))) (P : List (List ℕ) → Type 0) → ((ps : List (List ℕ)) → told ≡ Some ps → P ps) → IfSome told P
@@ -122,11 +121,7 @@ module _ {K : Type 0} (told : K → Option (List (List ℕ))) (kept : K → ℕ)
     pub next_refused : (place : ℕ) → (place ≡ i + 1) × ((payload : List ℕ) × IsPayloadAt (told now) i payload × (next_by before payload ≡ None)) → IsIllegalAt (told old) limits place
     next_refused place one = illegal_here (told old) limits i (kept old) (counted old) there before one.1.0 so_far (as_before one.1.0 one.1.1) place one.0 one.1.2
 
-  -- a store over the keeper is in step with it
-  pub opened_in_step : (old new : K) (limits : Limits) (book : Book) → IsLedTo (told old) (kept old) limits book → Stayed told kept down in_flight faults moment left_since may_leave old new → book.state.place ≡ kept old → down old ≡ None → IsInStep told kept down book new None
-  opened_in_step old new limits book led stayed place up = record {
-    payloads = subst (λ (t : Option (List (List ℕ))). IfSome t (λ ps. ps ≡ spellings (reverse book.log))) (sym stayed.payloads)
-        (if_told (told old) _ (λ ps here. told_if (told old) (λ ps. ps ≡ led.payloads) ps here led.are ∙ led.spelled));
-    number = stayed.number ∙ sym place;
-    fallen = stayed.fallen ∙ up;
-  }
+  -- the keeper has the log that its payloads led to
+  pub opened_payloads : (old new : K) (limits : Limits) (book : Book) → IsLedTo (told old) (kept old) limits book → Stayed told kept down in_flight faults moment left_since may_leave old new → IfSome (told new) (λ ps. ps ≡ spellings (reverse book.log))
+  opened_payloads old new limits book led stayed = subst (λ (t : Option (List (List ℕ))). IfSome t (λ ps. ps ≡ spellings (reverse book.log))) (sym stayed.payloads)
+      (if_told (told old) _ (λ ps here. told_if (told old) (λ ps. ps ≡ led.payloads) ps here led.are ∙ led.spelled))

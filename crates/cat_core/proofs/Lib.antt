@@ -1,7 +1,14 @@
-pub mod Telling
+pub mod Waiting
+pub mod Sound
+pub mod Acting
 pub mod Keeping
 pub mod InStep
+pub mod Making
+pub mod Standing
+pub mod Held
+pub mod Settling
 pub mod Replaying
 pub mod Relogged
 pub mod Following
 pub mod Led
+pub mod Reopened

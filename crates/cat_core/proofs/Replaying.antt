@@ -8,11 +8,11 @@ use Rattle.cat_model.specs.State.{Digest}
 use Rattle.cat_checks.specs.Legal.{or_at, read_next, replayed}
 
 -- what led to a book led to one before
-led_on : (o : Option Book) (place : ℕ) (f : Book → Result Book ℕ) (after : Book) → (or_at place o >>= f) ≡ Ok after → (next : Book) × (o ≡ Some next) × (f next ≡ Ok after)
-led_on None place f after e = absurd cc
-led_on (Some next) place f after e = (next, refl, e)
+pub led_by : (o : Option Book) (place : ℕ) (f : Book → Result Book ℕ) (after : Book) → (or_at place o >>= f) ≡ Ok after → (next : Book) × (o ≡ Some next) × (f next ≡ Ok after)
+led_by None place f after e = absurd cc
+led_by (Some next) place f after e = (next, refl, e)
 
-here_is : (book after : Book) (other : Result Book ℕ) → other ≡ Ok book → other ≡ Ok after → book ≡ after
+pub here_is : (book after : Book) (other : Result Book ℕ) → other ≡ Ok book → other ≡ Ok after → book ≡ after
 here_is book after other a b = cc
 
 module _ (digest : Digest) (p : List ℕ) where
@@ -24,7 +24,7 @@ module _ (digest : Digest) (p : List ℕ) where
       → replayed digest book place (ps ++ p ∷ []) ≡ Ok next
   goes_on book after next place [] e step = let same : book ≡ after = here_is book after (Ok book) refl e in rw (same, step) refl
   goes_on book after next place (q ∷ ps) e step =
-      let one = led_on (reading book q) (place + 1) (λ b. replayed digest b (place + 1) ps) after e in
+      let one = led_by (reading book q) (place + 1) (λ b. replayed digest b (place + 1) ps) after e in
       rw one.1 (goes_on one.0 after next (place + 1) ps one.2 step)
 
   -- a payload that leads to no book is the place of the whole, whatever follows it
@@ -35,5 +35,5 @@ module _ (digest : Digest) (p : List ℕ) where
       let number : place + 1 ≡ at = omega (arith, n) in
       rw (same, step, number) refl
   refused_at book after place at (q ∷ ps) more e step n =
-      let one = led_on (reading book q) (place + 1) (λ b. replayed digest b (place + 1) ps) after e in
+      let one = led_by (reading book q) (place + 1) (λ b. replayed digest b (place + 1) ps) after e in
       rw one.1 (refused_at one.0 after (place + 1) at ps more one.2 step (omega (arith, n)))

@@ -1,5 +1,6 @@
-pub mod Making
-pub mod Kept
 pub mod Stored
+pub mod Drafts
+pub mod Made
+pub mod Kept
 pub mod Counted
 pub mod Opening

@@ -1,14 +1,118 @@
 -- What a store holds, with what keeps its log.
-use Rattle.std.specs.Prelude.{◌≡◌, ℕ, List, Option, IfSome, reverse}
+use Rattle.std.specs.Prelude.{◌≡◌, ◌≤◌, ◌<◌, ℕ, List, [], ◌∷◌, Option, Some, None, true, IfSome, map, reverse}
+use Rattle.std.specs.Option.{option_map}
+use Rattle.sha2.specs.Sha256.{sha256}
+use Rattle.cat_io.specs.Causes.{Rose}
+use Rattle.cat_checks.specs.Histories.{IsLegalFrom, book_at}
+use Rattle.cat_checks.specs.HistoryLaws.{AreAtMost}
+use Rattle.cat_checks.specs.Legal.{draft_is_new}
+use Rattle.cat_model.specs.declared.log_entry.LogEntry.{LogEntry}
 use Rattle.cat_model.specs.Book.{Book}
+use Rattle.cat_model.specs.Drafts as drafts
+use Rattle.cat_model.specs.Drafts.{Open, Opening}
+use Rattle.cat_model.specs.Mark.{FailedAppend, Mark}
+use Rattle.cat_model.specs.State.{first_state}
+use Rattle.cat_model.specs.Turns.{Opened, Snapshot}
 use Rattle.cat_ledger.specs.Kept.{spellings}
+use Rattle.cat_core.specs.declared.tickets.Fallen.{Fallen}
+use Rattle.cat_core.specs.declared.tickets.OpenDraft.{OpenDraft}
+use Rattle.cat_core.specs.declared.tickets.Ticket.{Ticket}
 
+-- a book, what keeps its log, the mark and what is open beside the log, and the keeper's count of faults as the store was opened
 pub record Stored (K : Type 0) : Type 0 where
   pub book : Book
   pub keeper : K
+  pub mark : Mark
+  pub left_open : Open
+  pub began : ℕ
+
+-- what the log starts from
+abbrev pub opened_of : {K : Type 0} → Stored K → Opened
+opened_of s = record { state = first_state sha256 s.book.state.limits; draft = 0; faults = s.began }
+
+-- the log, the oldest entry first
+abbrev pub log_of : {K : Type 0} → Stored K → List LogEntry
+log_of s = reverse s.book.log
+
+abbrev pub mark_of : {K : Type 0} → Stored K → Mark
+mark_of s = s.mark
+
+abbrev pub open_of : {K : Type 0} → Stored K → Open
+open_of s = s.left_open
+
+-- all that a turn is judged by
+abbrev pub snap : {K : Type 0} → Stored K → Snapshot
+snap s = record { opened = opened_of s; log = log_of s; mark = s.mark; left_open = s.left_open }
+
+-- no append has failed
+abbrev pub IsUp : {K : Type 0} → Stored K → Type 0
+IsUp s = s.mark.fault ≡ None
+
+-- one has, at this count of faults
+abbrev pub IsDownAt : {K : Type 0} → Stored K → ℕ → Type 0
+IsDownAt s count = (x : FailedAppend) × (s.mark.fault ≡ Some x) × (x.count ≡ count)
+
+abbrev pub MayBeDown : {K : Type 0} → Stored K → Option ℕ → Type 0
+MayBeDown s None = IsUp s
+MayBeDown s (Some count) = IsDownAt s count
+
+-- ---- how it is held
+
+abbrev pub opening_at : Ticket → Opening
+opening_at t = record { number = t.number; caller = t.caller; place = t.place }
+
+abbrev pub draft_held : OpenDraft → drafts.OpenDraft
+draft_held d = record { opening = opening_at d.ticket; names = record { commits = d.commits.items; contents = d.contents.items } }
+
+-- the append that failed: its payload is in flight
+abbrev pub failed : Option Fallen → Option (List ℕ) → Option FailedAppend
+failed (Some f) (Some payload) = Some (record { caller = f.caller; count = f.count; payload = payload })
+failed (Some f) None = None
+failed None payload = None
+
+-- of a sweep nothing is known yet
+abbrev pub held_mark : ℕ → ℕ → Option Ticket → Option FailedAppend → Mark
+held_mark draft drafter dropped fault = record { fault = fault; sweep = None; closed = None; draft = draft; drafter = drafter; dropped = option_map opening_at dropped; expired = None }
+
+abbrev pub held_open : List OpenDraft → Open
+held_open left_open = record { drafts = map draft_held left_open; sweep = None }
+
+-- ---- what holds of it
 
 -- the keeper has the entries of the log, the oldest first, as far as its payloads are told; and it is known at which count an append failed
-pub record IsInStep {K : Type 0} (told : K → Option (List (List ℕ))) (kept : K → ℕ) (down : K → Option ℕ) (book : Book) (keeper : K) (failed : Option ℕ) : Type 0 where
+pub record IsInStep {K : Type 0} (told : K → Option (List (List ℕ))) (kept : K → ℕ) (down : K → Option ℕ) (faults : K → ℕ) (book : Book) (keeper : K) (fell : Option Fallen) (began : ℕ) : Type 0 where
   pub payloads : IfSome (told keeper) (λ ps. ps ≡ spellings (reverse book.log))
   pub number : kept keeper ≡ book.state.place
-  pub fallen : down keeper ≡ failed
+  pub fallen : down keeper ≡ option_map (λ (f : Fallen). f.count) fell
+  pub later : began ≤ faults keeper
+  pub rose : IfSome fell (λ f. Rose began (faults keeper))
+
+-- none has the number
+abbrev pub IsNumberOfNone : ℕ → List drafts.OpenDraft → Type 0
+IsNumberOfNone number [] = Unit {0}
+IsNumberOfNone number (x ∷ xs) = (x.opening.number ≡ number → ⊥) × IsNumberOfNone number xs
+
+-- it has a number that was taken, and no entry of the log has it
+pub record IsWaiting (last : ℕ) (log : List LogEntry) (x : drafts.OpenDraft) : Type 0 where
+  pub above : 0 < x.opening.number
+  pub below : x.opening.number ≤ last
+  pub new : draft_is_new log x.opening.number ≡ true
+
+-- so it is of each, and no two have one number
+abbrev pub AreWaiting : ℕ → List LogEntry → List drafts.OpenDraft → Type 0
+AreWaiting last log [] = Unit {0}
+AreWaiting last log (x ∷ xs) = IsWaiting last log x × IsNumberOfNone x.opening.number xs × AreWaiting last log xs
+
+-- the number was taken, and neither an entry nor an open draft has it
+pub record IsFree {K : Type 0} (number : ℕ) (s : Stored K) : Type 0 where
+  pub above : 0 < number
+  pub below : number ≤ s.book.draft
+  pub new : draft_is_new s.book.log number ≡ true
+  pub none : IsNumberOfNone number s.left_open.drafts
+
+-- the book is what its log leads to from the empty catalogue, each entry legal where it stands; and so are the drafts
+pub record IsSound (book : Book) (faults : ℕ) (left_open : List drafts.OpenDraft) : Type 0 where
+  pub legal : IsLegalFrom (record { state = first_state sha256 book.state.limits; draft = 0; faults = faults }) (reverse book.log)
+  pub led : (book_at (record { state = first_state sha256 book.state.limits; draft = 0; faults = faults }) (reverse book.log)).state ≡ book.state
+  pub taken : AreAtMost book.draft book.log
+  pub waiting : AreWaiting book.draft book.log left_open

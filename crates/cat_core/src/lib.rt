@@ -1,16 +1,26 @@
 //! The store: a ledger over any keeper of its log, which has each entry before the change of the
-//! entry is seen. Each call answers what the model's call on the book does and leaves the book that
-//! it leaves; or is refused for want of memory or for a fault of the keeper, which leave state and
-//! log as they were. From a fault on the store only reads. It is opened over a keeper of any
-//! payloads: each is executed again, and the first that is no entry or may not follow is told by its
-//! place.
+//! entry is seen, and the drafts that are open. A call that opens a draft is opened in one turn; what
+//! it makes of its branch's head is built on a view, outside any turn; and a later turn settles it,
+//! if the branch has that head still, or drops it. Each call answers what the model's call on the
+//! book does and leaves the book that it leaves; or is refused for want of memory or for a fault of
+//! the keeper, which leave state and log as they were. From a fault on the store only reads, and
+//! closes the drafts that are open. It is opened over a keeper of any payloads: each is executed
+//! again, and the first that is no entry or may not follow is told by its place.
 #![tactic(auto)]
 
 mod counted;
+mod draft;
+mod drafting;
 mod opening;
+mod referring;
 mod replay;
 mod store;
+mod telling;
+mod tickets;
 
+pub use cat_builds::building::Built;
+pub use cat_builds::view::View;
 pub use cat_state::counts::Counts;
+pub use draft::{Draft, Settled};
 pub use opening::StoreFault;
 pub use store::Store;

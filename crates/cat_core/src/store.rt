@@ -1,32 +1,31 @@
 //! The store.
 
-ghost use Rattle.std.specs.Prelude.{ℕ, ◌≡◌, ◌≤◌, ◌↔◌, [], Some, None, Err, false, length, reverse, IfErr, IfOk, IfSome, IsTrue, MatchResult};
+ghost use Rattle.std.specs.Prelude.{ℕ, ◌≡◌, ◌≤◌, [], Some, None, length, reverse, IfErr, IfOk, IfSome, IsTrue, MatchResult};
+ghost use Rattle.std.specs.Option.{option_map};
 ghost use Rattle.sha2.specs.Sha256.{sha256};
-ghost use Rattle.cat_model.specs.Book.{Reads, call_on, first_book};
+ghost use Rattle.cat_checks.specs.Histories.{IsLegalFrom, book_at};
+ghost use Rattle.cat_model.specs.Book.{Reads, first_book};
 ghost use Rattle.cat_model.specs.Chain.{entries};
+ghost use Rattle.cat_model.specs.Drafts.{nothing_open};
 ghost use Rattle.cat_model.specs.Maps.{entry_of};
+ghost use Rattle.cat_model.specs.Mark.{FailedAppend, no_mark};
 ghost use Rattle.cat_model.specs.Namespaces.{is_well_formed};
-ghost use Rattle.cat_model.specs.WellMade.{is_well_made};
-ghost use Rattle.cat_model.specs.declared.refusal.Refusal.TheVariants as refusals;
 ghost use Rattle.cat_io.specs.Causes.{Rose};
-ghost use Rattle.cat_state.specs.Adding.{IsAbove};
 ghost use Rattle.cat_state.specs.Counting.{main_head};
-ghost use Rattle.cat_plans.specs.Expiring.{is_expired};
-ghost use Rattle.cat_core.specs.Kept.{KeepsTold};
-ghost use Rattle.cat_ledger.specs.Kept.{Leaves, Stayed, spellings};
-ghost use Rattle.cat_core.specs.Making.{Answers};
+ghost use Rattle.cat_ledger.specs.Kept.{Stayed, spellings};
 ghost use Rattle.cat_core.specs.Opening.{IsIllegalAt, IsLedTo};
+ghost use Rattle.cat_core.specs.Stored.{IsSound, MayBeDown, log_of, opened_of};
 
 use crate::opening::{StoreFault, led_to};
+use crate::tickets::{Fallen, OpenDraft, Ticket};
 use cat_codes::fault::NoMemory;
 use cat_keeper::Keeper;
-use cat_ledger::{Ledger, Unmade, refused};
+use cat_ledger::Ledger;
 use cat_model::ask::Ask;
-use cat_model::command::Command;
 use cat_model::entry::Entry;
 use cat_model::limits::Limits;
-use cat_model::moment::Moment;
-use cat_model::refusal::{Refusal, Refused};
+use cat_model::logged::Logged;
+use cat_model::refusal::Refused;
 use cat_model::reply::Told;
 use cat_names::hash::Hash;
 use cat_names::key::ContentKey;
@@ -34,26 +33,70 @@ use cat_state::counts::Counts;
 use std::alloc::Global;
 use std::marker::Model;
 
-/// A catalogue in memory, and what keeps the entries that led to it: each is kept before its change
-/// is seen. After an append that fails the store is down: it reads on, and makes no call.
+/// A catalogue in memory, what keeps the entries that led to it, and the drafts that are open. Each
+/// entry is kept before its change is seen. After an append that fails the store is down: it reads
+/// on, and makes no call.
 #[derive(Drop)]
 pub struct Store<K: Keeper> {
-    ledger: Ledger,
-    keeper: K,
-    down: Option<u64>,
+    pub(crate) ledger: Ledger,
+    pub(crate) keeper: K,
+    pub(crate) fallen: Option<Fallen>,
+    pub(crate) drafter: u32,
+    pub(crate) dropped: Option<Ticket>,
+    pub(crate) drafts: Vec<OpenDraft>,
+    began: u64,
 }
 
 impl<K: Keeper> Model for Store<K> {
-    ghost use Rattle.cat_core.specs.Stored.{Stored, IsInStep};
+    ghost use Rattle.cat_core.specs.Stored.{IsInStep, IsSound, Stored, failed, held_mark, held_open};
 
     ghost Value = { Stored K };
 
-    ghost view = { λ s. record { book = s.ledger; keeper = s.keeper } };
+    ghost view = { λ s. record { book = s.ledger; keeper = s.keeper; mark = held_mark s.ledger.draft s.drafter s.dropped (failed s.fallen (K.in_flight s.keeper)); left_open = held_open s.drafts.items; began = s.began } };
 
-    ghost invariant = { λ s. IsInStep K.told K.kept K.down s.ledger s.keeper s.down };
+    ghost invariant = { λ s. IsInStep K.told K.kept K.down K.faults s.ledger s.keeper s.fallen s.began × IsSound s.ledger s.began (held_open s.drafts.items).drafts };
+}
+
+impl<K: Keeper> Logged for Store<K> {
+    ghost use Rattle.cat_checks.specs.Histories.{IsLegalFrom};
+    ghost use Rattle.cat_core.specs.Stored.{log_of, opened_of};
+
+    ghost log = { λ s. log_of s };
+
+    ghost opened = { λ s. opened_of s };
+
+    ghost legal = { IsLegalFrom };
+
+    ghost mark = { λ s. s.mark };
+
+    ghost left_open = { λ s. s.left_open };
+
+    fn count(&self) -> u32 {
+        self.ledger.place()
+    }
 }
 
 impl<K: Keeper> Store<K> {
+    /// The store of a ledger over its keeper, without a draft.
+    fn over(alloc: Global, ledger: Ledger, keeper: K) -> Store<K>
+        requires payloads { IfSome (K.told keeper) (λ ps. ps ≡ spellings (reverse ledger.log)) }
+        requires number { K.kept keeper ≡ ledger.state.place }
+        requires up { K.down keeper ≡ None }
+        requires sound { (faults : ℕ) → IsSound ledger faults [] }
+        ensures { result ≡ record { book = ledger; keeper = keeper; mark = record no_mark { draft = ledger.draft }; left_open = nothing_open; began = K.faults keeper } }
+    {
+        let began = keeper.fault_count();
+        Store {
+            ledger,
+            keeper,
+            fallen: None,
+            drafter: 0,
+            dropped: None,
+            drafts: Vec::new(alloc),
+            began,
+        }
+    }
+
     /// The store of an empty catalogue: the branch `main` without a commit, over a keeper of no
     /// payloads. Where memory runs out the keeper comes back.
     pub fn new(alloc: Global, keeper: K, limits: Limits) -> Result<Store<K>, (K, NoMemory)>
@@ -62,15 +105,11 @@ impl<K: Keeper> Store<K> {
         requires none_kept { K.kept keeper ≡ 0 }
         requires none_told { IfSome (K.told keeper) (λ ps. ps ≡ []) }
         requires up { K.down keeper ≡ None }
-        ensures ok { IfOk result (λ store. store ≡ record { book = first_book sha256 limits; keeper = keeper }) }
+        ensures ok { IfOk result (λ store. store ≡ record { book = first_book sha256 limits; keeper = keeper; mark = no_mark; left_open = nothing_open; began = K.faults keeper }) }
         ensures err { IfErr result (λ e. e.0 ≡ keeper) }
     {
         match Ledger::new(alloc, limits) {
-            Ok(ledger) => Ok(Store {
-                ledger,
-                keeper,
-                down: None,
-            }),
+            Ok(ledger) => Ok(Store::over(alloc, ledger, keeper)),
             Err(fault) => Err((keeper, fault)),
         }
     }
@@ -82,6 +121,9 @@ impl<K: Keeper> Store<K> {
         requires commits { limits.commits ≤ 4294967295 }
         requires up { K.down keeper ≡ None }
         ensures opened { IfOk result (λ store. IsLedTo (K.told keeper) (K.kept keeper) limits store.book) }
+        ensures mark { IfOk result (λ store. store.mark ≡ record no_mark { draft = store.book.draft }) }
+        ensures none { IfOk result (λ store. store.left_open ≡ nothing_open) }
+        ensures began { IfOk result (λ store. store.began ≡ K.faults store.keeper) }
         ensures stays { MatchResult result
             (λ store. Stayed K.told K.kept K.down K.in_flight K.faults K.moment K.left_since K.may_leave keeper store.keeper)
             (λ e. Stayed K.told K.kept K.down K.in_flight K.faults K.moment K.left_since K.may_leave keeper e.0) }
@@ -90,11 +132,7 @@ impl<K: Keeper> Store<K> {
     {
         let mut keeper = keeper;
         match led_to(alloc, &mut keeper, limits) {
-            Ok(ledger) => Ok(Store {
-                ledger,
-                keeper,
-                down: None,
-            }),
+            Ok(ledger) => Ok(Store::over(alloc, ledger, keeper)),
             Err(fault) => Err((keeper, fault)),
         }
     }
@@ -104,47 +142,6 @@ impl<K: Keeper> Store<K> {
         ensures { Reads sha256 self.now.book ask.now result }
     {
         self.ledger.read(alloc, ask)
-    }
-
-    /// Makes a call that changes the catalogue. `Ok` acknowledges its entry; a `Fault` may have kept
-    /// it or not, and each later call is refused as `Down` at the count of faults then.
-    pub fn apply(
-        &mut self,
-        alloc: Global,
-        caller: u32,
-        moment: Moment,
-        command: &Command,
-    ) -> Result<Told, Refused>
-        requires { IsTrue (is_well_made sha256 command.now) }
-        ensures call { Answers (call_on sha256 caller self.old.book command.now moment) self.old.book self.new.book result }
-        ensures down { (count : ℕ) → (result ≡ Err (record { place = Some self.old.book.state.place; why = refusals.Down count })) ↔ (K.down self.old.keeper ≡ Some count) }
-        ensures idle { (count : ℕ) → K.down self.old.keeper ≡ Some count → self.new ≡ self.old }
-        ensures there { IfErr result (λ refused. is_expired refused.why ≡ false) }
-        ensures later { IsAbove self.old.book.state.commits self.new.book.state.commits }
-        ensures keeps { K.down self.old.keeper ≡ None → KeepsTold K.told K.kept K.down K.in_flight K.faults K.moment K.left_since K.may_leave self.old.keeper self.new.keeper (call_on sha256 caller self.old.book command.now moment).logged result }
-        ensures crash { K.down self.old.keeper ≡ None → Leaves K.told K.moment K.left_since K.may_leave self.old.keeper self.new.keeper (call_on sha256 caller self.old.book command.now moment).logged }
-    {
-        let place = self.ledger.place();
-        if let Some(count) = self.down {
-            return Err(Refused {
-                place: Some(place),
-                why: Refusal::Down(count),
-            });
-        }
-        match self
-            .ledger
-            .make(alloc, &mut self.keeper, caller, moment, command)
-        {
-            Ok(told) => Ok(told),
-            Err(Unmade::Failed(failure)) => Err(refused(place, failure)),
-            Err(Unmade::NotKept) => {
-                self.down = Some(self.keeper.fault_count());
-                Err(Refused {
-                    place: Some(place),
-                    why: Refusal::Fault,
-                })
-            }
-        }
     }
 
     /// How much it holds.
@@ -173,12 +170,34 @@ impl<K: Keeper> Store<K> {
         self.ledger.map_is_well_formed(hash)
     }
 
-    /// What holds of the keeper: it has the entries of the log, the oldest first.
-    pub fn log_is_kept(&self)
-        ensures payloads { IfSome (K.told self.now.keeper) (λ ps. ps ≡ spellings (reverse self.now.book.log)) }
-        ensures number { K.kept self.now.keeper ≡ self.now.book.state.place }
+    /// What holds of the log: each entry is legal where it stands, and it leads to the state.
+    pub fn history(&self)
+        ensures legal { IsLegalFrom (opened_of self.now) (log_of self.now) }
+        ensures led { (book_at (opened_of self.now) (log_of self.now)).state ≡ self.now.book.state }
+        ensures draft { self.now.mark.draft ≡ self.now.book.draft }
     {
-        let _ = &self.down;
+        let _ = &self.fallen;
+    }
+
+    /// What holds of the book and of the drafts beside it.
+    pub(crate) fn is_sound(&self)
+        ensures sound { IsSound self.now.book self.now.began self.now.left_open.drafts }
+        ensures draft { self.now.mark.draft ≡ self.now.book.draft }
+    {
+        let _ = &self.fallen;
+    }
+
+    /// What holds of the keeper: it has the entries of the log, the oldest first, and the mark tells
+    /// of its failed append.
+    pub fn log_is_kept(&self)
+        ensures payloads { IfSome (K.told self.now.keeper) (λ ps. ps ≡ spellings (log_of self.now)) }
+        ensures number { K.kept self.now.keeper ≡ self.now.book.state.place }
+        ensures fallen { K.down self.now.keeper ≡ option_map (λ (x : FailedAppend). x.count) self.now.mark.fault }
+        ensures flies { K.in_flight self.now.keeper ≡ option_map (λ (x : FailedAppend). x.payload) self.now.mark.fault }
+        ensures later { self.now.began ≤ K.faults self.now.keeper }
+        ensures rose { (x : FailedAppend) → self.now.mark.fault ≡ Some x → Rose self.now.began (K.faults self.now.keeper) }
+    {
+        let _ = &self.fallen;
     }
 
     /// How many of the keeper's calls failed.
@@ -190,9 +209,13 @@ impl<K: Keeper> Store<K> {
 
     /// The count of faults at which an append failed, if one did.
     pub fn down(&self) -> Option<u64>
-        ensures { result ≡ K.down self.now.keeper }
+        ensures keeper { result ≡ K.down self.now.keeper }
+        ensures mark { MayBeDown self.now result }
     {
-        self.down
+        match self.fallen {
+            None => None,
+            Some(fallen) => Some(fallen.count),
+        }
     }
 
     /// The keeper.

@@ -35,7 +35,7 @@ impl Logged for Notes {
 
     ghost log = { λ n. n.entries.items };
 
-    ghost opened = { λ _. record { state = first_state (λ bytes. bytes) program_limits; draft = 0 } };
+    ghost opened = { λ _. record { state = first_state (λ bytes. bytes) program_limits; draft = 0; faults = 0 } };
 
     ghost legal = { λ _ _. Unit {0} };
 

@@ -3,6 +3,7 @@ use Rattle.std.specs.Prelude.{ℕ, zero, suc, List, ◌++◌, length, codes}
 use Rattle.std.specs.Fmt.{decimal}
 use Rattle.hex.specs.Hex.{encode_lower}
 use Rattle.sha2.specs.Sha256.{sha256}
+use Rattle.cat_io.specs.Clocks.{readings}
 use Rattle.cat_model.specs.declared.command.Command.{Command}
 use Rattle.cat_model.specs.Book.{Book, first_book, after_call, call_on}
 use Rattle.cat_model.specs.Chain.{entries}
@@ -27,6 +28,10 @@ after_command command moment book = after_call book (call_on sha256 1 book comma
 -- a book after step i, which draws from x
 abbrev pub after_step : ℕ → ℕ → Book → Book
 after_step i x book = after_command (asked i x book) (moment_of i) book
+
+-- the moments of the steps, the first at 0
+abbrev pub moments : ℕ → ℕ
+moments = readings 1000000 1000000
 
 -- the number of step i of a seed
 abbrev pub number_at : ℕ → ℕ → ℕ

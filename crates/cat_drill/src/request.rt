@@ -4,6 +4,7 @@ ghost use Rattle.std.specs.Prelude.{◌≡◌, ◌≤◌, ◌++◌, [], ◌∷�
 ghost use Rattle.std.specs.Fmt.{decimal};
 ghost use Rattle.sha2.specs.Sha256.{sha256};
 ghost use Rattle.cat_model.specs.WellMade.{is_well_made};
+ghost use Rattle.cat_work.specs.Turns.{IsCommit};
 ghost use Rattle.cat_drill.specs.Steps.{command_of, commit_of, drawn_key, operation, put, table};
 
 use crate::generator::removes;
@@ -126,7 +127,8 @@ fn only<T: Drop>(alloc: Global, value: T) -> Result<Seq<T>, NoMemory>
 }
 
 fn commit(alloc: Global, step: u64, op: Op, contents: Seq<Content>) -> Result<Command, NoMemory>
-    ensures { IfOk result (λ command. command ≡ commit_of step (op, contents)) }
+    ensures command { IfOk result (λ command. command ≡ commit_of step (op, contents)) }
+    ensures kind { IfOk result IsCommit }
 {
     let meta = Meta {
         message: text(alloc, "drill ", step)?,
@@ -157,6 +159,7 @@ pub(crate) fn command_of(
     requires key { key ≡ drawn_key drawn }
     ensures command { IfOk result (λ command. command ≡ command_of step drawn found) }
     ensures made { IfOk result (λ command. IsTrue (is_well_made sha256 command)) }
+    ensures kind { IfOk result IsCommit }
 {
     let (op, contents) = operation(alloc, step, drawn, key, found)?;
     commit(alloc, step, op, contents)

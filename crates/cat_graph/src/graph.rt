@@ -8,6 +8,7 @@ ghost use Rattle.cat_model.specs.Transplants.{are_children, are_consecutive, has
 ghost use Rattle.cat_graph.specs.Linked.{AreLinked, IsNext, IsOther, is_known, is_merge_known, is_next, merge_generation, next_generation, values, with_commit};
 
 use crate::add_fault::AddFault;
+use crate::copying::copy_table;
 use cat_codes::fault::NoMemory;
 use cat_model::commit::Commit;
 use cat_names::hash::Hash;
@@ -57,6 +58,15 @@ impl Graph {
         ensures { AreLinked self.now.list }
     {
         let _ = &self.table;
+    }
+
+    /// A copy of it.
+    pub fn copy(&self, alloc: Global) -> Result<Graph, NoMemory>
+        ensures { IfOk result (λ graph. graph.list ≡ self.now.list) }
+    {
+        Ok(Graph {
+            table: copy_table(alloc, &self.table)?,
+        })
     }
 
     /// How many commits there are.

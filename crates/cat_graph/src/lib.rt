@@ -7,5 +7,6 @@
 
 pub mod add_fault;
 mod base;
+mod copying;
 mod front;
 pub mod graph;

@@ -1,6 +1,6 @@
 //! The maps at commits.
 
-ghost use Rattle.std.specs.Prelude.{◌≡◌, ◌≤◌, ◌<◌, ◌+◌, ◌-◌, [], ◌∷◌, None, IsTrue, IsOk, is_some, OnOk, OnErr, length, drop};
+ghost use Rattle.std.specs.Prelude.{◌≡◌, ◌≤◌, ◌<◌, ◌+◌, ◌-◌, [], ◌∷◌, None, IsTrue, IsOk, IfOk, is_some, OnOk, OnErr, length, drop};
 ghost use Rattle.std.specs.Option.{option_map};
 ghost use Rattle.cat_tables.specs.Tables.{are_distinct};
 ghost use Rattle.cat_keymap.specs.MapsAt.{map_at, with_map};
@@ -9,7 +9,7 @@ use crate::key_map::KeyMap;
 use cat_codes::fault::NoMemory;
 use cat_names::hash::Hash;
 use cat_tables::table::Table;
-use std::alloc::Global;
+use std::alloc::{AllocError, Global};
 use std::marker::Model;
 
 /// Maps under the hashes of their commits, found by one look-up. Contracts see the list, the newest
@@ -28,6 +28,25 @@ impl Model for Maps {
     ghost view = { λ m. m.table };
 }
 
+fn copy_map(map: &KeyMap) -> Result<KeyMap, AllocError>
+    ensures { IfOk result (λ copy. copy ≡ map.now) }
+{
+    map.clone()
+}
+
+/// A copy of the table, filled from the oldest map on.
+fn copy_table(alloc: Global, table: &Table<KeyMap>) -> Result<Table<KeyMap>, NoMemory>
+    ensures { IfOk result (λ copy. copy.list ≡ table.now.list) }
+{
+    table.known();
+    let mut copy = Table::new(alloc);
+    copy.reserve(table.len())?;
+    for pair in table.as_slice() {
+        copy.push(pair.0, copy_map(&pair.1)?);
+    }
+    Ok(copy)
+}
+
 impl Maps {
     /// No maps.
     pub fn new(alloc: Global) -> Maps
@@ -43,6 +62,15 @@ impl Maps {
         ensures { IsTrue (are_distinct self.now.list) }
     {
         self.table.known();
+    }
+
+    /// A copy of them, which shares the pairs of each map.
+    pub fn copy(&self, alloc: Global) -> Result<Maps, NoMemory>
+        ensures { IfOk result (λ maps. maps.list ≡ self.now.list) }
+    {
+        Ok(Maps {
+            table: copy_table(alloc, &self.table)?,
+        })
     }
 
     /// How many maps there are.

@@ -1,5 +1,5 @@
 -- What a call brings on an occasion, by the outcome of its tests and of its step.
-use Rattle.std.proofs.Common.{◌≡◌, ℕ, ◌+◌, max, [], ◌∷◌, Option, Some, None, Ok, Err, Result, Bool, true, false, if◌then◌else◌, nat_lt, refl, sym, ap, subst, ◌∙◌, arith}
+use Rattle.std.proofs.Common.{◌≡◌, ℕ, ◌+◌, max, [], ◌∷◌, Option, Ok, Err, Result, Bool, true, false, if◌then◌else◌, nat_lt, refl, sym, ap, subst, ◌∙◌, arith}
 use Rattle.std.proofs.lemmas.Bool.Decides.{nat_tests}
 use Rattle.std.proofs.Math.Nat.{le-max_left}
 use Rattle.sha2.specs.Sha256.{sha256}
@@ -13,17 +13,15 @@ use Rattle.cat_model.specs.Calls.{Called, entry_made, stepped, unchanged_by}
 use Rattle.cat_model.specs.State.{State}
 use Rattle.cat_model.specs.Refusing.{Outcome}
 use Rattle.cat_model.specs.Step as steps
-use Rattle.cat_model.specs.Step.{opens_draft, opening, logged_command, head_left, head_told}
+use Rattle.cat_model.specs.Step.{logged_command, head_left, head_told}
 use Rattle.cat_state.specs.declared.failure.Failure.{Failure}
 use Rattle.cat_state.specs.declared.failure.Failure.TheVariants as failures
 use Rattle.cat_state.specs.Giving.{Fails}
 use Rattle.cat_ledger.specs.PlainLaws.{IsOther, IsPlain}
 use Rattle.cat_ledger.specs.declared.logging.Turn.{Turn}
-use Rattle.cat_ledger.specs.declared.occasion.Occasion.{Occasion}
-use Rattle.cat_ledger.specs.Occasions.{begun, left_on, made_on, turn_on, turned, turned_step}
+use Rattle.cat_ledger.specs.Occasions.{begun, turned, turned_step}
 use Rattle.cat_ledger.specs.declared.unmade.Unmade.TheVariants.{Failed}
 use Rattle.cat_ledger.specs.Making.{IsAccepted, IsNotKept, IsSpared, Runs, entry_at, head_of, taking, with_entry}
-use Rattle.cat_ledger.proofs.PlainCalls.{plain_limit}
 
 pub other : {A : Type 0} (r : Result A Refusal) (why : Refusal) → IsPlain r → r ≡ Err why → IsOther why
 other r why p e = subst (λ (x : Result _ Refusal). IsPlain x) e p
@@ -33,30 +31,6 @@ more_is n = grind (arith, nat_tests)
 
 same_is : (n : ℕ) → nat_lt n n ≡ false
 same_is n = grind (arith, nat_tests)
-
--- ---- before the draft
-
--- the tests before the draft refuse
-pub opening_refused : (book : Book) (o : Occasion) (command : Command) (why : Refusal) → IsPlain (opening sha256 book.state command) → opening sha256 book.state command ≡ Err why
-    → Runs (made_on book o command) book book (Err (Failed (failures.Refused why)))
-unfolding made_on
-opening_refused book o command why p e = (other _ why p e, record { said = rw e refl; book = rw e refl })
-
-plain_left : (book : Book) (draft : Option ℕ) → IsPlain (left_on book draft true)
-plain_left book None = plain_limit _ _ _
-plain_left book (Some draft) = tt
-
--- no draft number is left
-pub draft_refused : (book : Book) (o : Occasion) (command : Command) (why : Refusal) → opens_draft command ≡ true → opening sha256 book.state command ≡ Ok tt → left_on book o.draft true ≡ Err why
-    → Runs (made_on book o command) book book (Err (Failed (failures.Refused why)))
-unfolding made_on
-draft_refused book o command why opens e d =
-    (other _ why (plain_left book o.draft) d, record { said = rw (e, opens, d) refl; book = rw (e, opens, d) refl })
-
--- neither refuses
-pub passes : (book : Book) (o : Occasion) (command : Command) → opening sha256 book.state command ≡ Ok tt → left_on book o.draft (opens_draft command) ≡ Ok tt → made_on book o command ≡ turned book (turn_on book o (opens_draft command)) command
-unfolding made_on
-passes book o command e l = rw (e, l) refl
 
 -- ---- in the turn
 

@@ -1,5 +1,5 @@
 pub mod Asked
-pub mod Ids
+pub mod Distinct
 pub mod Steps
 pub mod Accepts
 pub mod Plain
@@ -9,6 +9,7 @@ pub mod PlainMerges
 pub mod OpenedPlans
 pub mod PlannedCalls
 pub mod Called
+pub mod Before
 pub mod Opened
 pub mod Undrafted
 pub mod Occasions

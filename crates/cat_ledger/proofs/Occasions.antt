@@ -70,6 +70,9 @@ pub makes_call : (caller moment : ℕ) (before after : Book) (command : Command)
 makes_call caller moment before after command result runs =
     subst (λ (c : Called). Makes c before after result) (call_is caller moment before command) (makes (made_on before (now caller moment) command) before after result (takes_one caller moment before command) runs)
 
+pub runs_call : (caller moment : ℕ) (before after : Book) (command : Command) (result : Result Told Unmade) → Runs (made_on before (now caller moment) command) before after result → Runs (call_on sha256 caller before command moment) before after result
+runs_call caller moment before after command result runs = subst (λ (c : Called). Runs c before after result) (call_is caller moment before command) runs
+
 -- ---- calls that are made again
 
 -- an entry's own draft

@@ -1,19 +1,15 @@
 -- What a commit brings once it is opened.
-use Rattle.std.proofs.Common.{◌≡◌, ℕ, ◌+◌, [], ◌∷◌, Some, Result, Ok, Err, IfErr, IfOk, OnErr, OnOk, true, false, refl, sym, ap, subst, ◌∙◌}
+use Rattle.std.proofs.Common.{◌≡◌, ℕ, ◌+◌, [], ◌∷◌, Some, Result, Ok, Err, IfErr, IfOk, OnErr, OnOk, false, refl, sym, ap, subst, ◌∙◌}
 use Rattle.sha2.specs.Sha256.{sha256}
-use Rattle.cat_names.specs.declared.hash.Hash.{Hash}
 use Rattle.cat_model.specs.declared.command.Command.TheVariants as commands
 use Rattle.cat_model.specs.declared.command.CommitRequest.{CommitRequest}
-use Rattle.cat_model.specs.declared.reference.Reference.{Reference}
-use Rattle.cat_model.specs.declared.refusal.Refusal.{Refusal}
 use Rattle.cat_model.specs.declared.reply.Told.{Told}
 use Rattle.cat_model.specs.Refusing.{Outcome}
 use Rattle.cat_model.specs.Book.{Book}
-use Rattle.cat_model.specs.Commits.{commit_opening, step_commit, given_request}
+use Rattle.cat_model.specs.Commits.{step_commit, given_request}
 use Rattle.cat_model.specs.State.{State}
-use Rattle.cat_model.specs.Step.{head_left, opening}
+use Rattle.cat_model.specs.Step.{head_left}
 use Rattle.cat_state.specs.Giving.{Fails}
-use Rattle.cat_ledger.specs.PlainLaws.{IsPlain, plain_bind}
 use Rattle.cat_plans.specs.ExpiringLaws.{unexpired_fails}
 use Rattle.cat_ledger.specs.declared.preparing.Prepared.{Prepared}
 use Rattle.cat_ledger.specs.declared.logging.Turn.{Turn}
@@ -21,20 +17,10 @@ use Rattle.cat_ledger.specs.declared.unmade.Unmade.{Unmade}
 use Rattle.cat_ledger.specs.declared.unmade.Unmade.TheVariants.{Failed, NotKept}
 use Rattle.cat_ledger.specs.Making.{ComesAs, Ends, IsAccepted, Runs, entry_at, head_of, taking, unmade_expired}
 use Rattle.cat_ledger.specs.Putting.{accepted_book, accepted_told, add_step}
-use Rattle.cat_ledger.specs.Occasions.{drafted_turn, left_on, made_on, turned}
-use Rattle.cat_ledger.specs.declared.occasion.Occasion.{Occasion}
-use Rattle.cat_ledger.proofs.Called.{passes, step_done, step_fails, step_logs, step_not_kept}
+use Rattle.cat_ledger.specs.Occasions.{turned}
+use Rattle.cat_ledger.proofs.Called.{step_done, step_fails, step_logs, step_not_kept}
 use Rattle.cat_ledger.proofs.Unexpired.{unexpired_step}
-use Rattle.cat_ledger.proofs.PlainCalls.{plain_opening, plain_step}
-
-pub plain_commit_opening : (state : State) (c : CommitRequest) → IsPlain (opening sha256 state (commands.Commit c))
-plain_commit_opening state c = plain_bind (commit_opening sha256 state c) (λ _. Ok tt) (plain_opening state c) (λ o. tt)
-
-pub commit_refused : (state : State) (c : CommitRequest) (why : Refusal) → commit_opening sha256 state c ≡ Err why → opening sha256 state (commands.Commit c) ≡ Err why
-commit_refused state c why e = rw e refl
-
-pub commit_passes : (state : State) (c : CommitRequest) (o : Reference × Hash) → commit_opening sha256 state c ≡ Ok o → opening sha256 state (commands.Commit c) ≡ Ok tt
-commit_passes state c o e = rw e refl
+use Rattle.cat_ledger.proofs.PlainCalls.{plain_step}
 
 -- the step adds what was made
 pub commit_done : (book after : Book) (turn : Turn) (c : CommitRequest) (made : Prepared) (told : Told)
@@ -71,8 +57,3 @@ pub commit_logs : (book : Book) (turn : Turn) (c : CommitRequest) (made : Prepar
     → IsAccepted book.state.place (add_step book.state made) → (turned book turn (commands.Commit c)).logged ≡ entry_at book turn (commands.Commit made.request) (head_of (add_step book.state made)) ∷ []
 commit_logs book turn c made s r accepted =
     step_logs book turn (commands.Commit c) (commands.Commit made.request) (add_step book.state made) (λ reply. refl) (ap (λ (x : CommitRequest). commands.Commit x) r) s accepted
-
--- what it brings, once its tests are passed
-pub commit_turned : (book : Book) (o : Occasion) (turn : Turn) (c : CommitRequest) (opened : Reference × Hash) → commit_opening sha256 book.state c ≡ Ok opened → left_on book o.draft true ≡ Ok tt → turn ≡ drafted_turn book o
-    → made_on book o (commands.Commit c) ≡ turned book turn (commands.Commit c)
-commit_turned book o turn c opened e l t = rw t (passes book o (commands.Commit c) (commit_passes book.state c opened e) l)

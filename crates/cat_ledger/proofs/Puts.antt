@@ -24,12 +24,12 @@ use Rattle.cat_model.specs.WellMade.{have_contents, is_made}
 use Rattle.cat_state.specs.Adding.{AreHashesOf}
 use Rattle.cat_state.specs.HeldLaws.{all_among, held_after}
 use Rattle.cat_state.specs.Keeping.{has_contents, is_held}
-use Rattle.cat_ledger.specs.declared.given.Given.{Given}
+use Rattle.cat_builds.specs.declared.given.Given.{Given}
 use Rattle.cat_ledger.specs.declared.logging.Turn.{Turn}
 use Rattle.cat_ledger.specs.declared.preparing.Prepared.{Prepared}
-use Rattle.cat_ledger.specs.Ops.{listed}
+use Rattle.cat_builds.specs.Ops.{listed}
 use Rattle.cat_ledger.specs.Putting.{IsPrepared}
-use Rattle.cat_ledger.proofs.Ids.{Both}
+use Rattle.cat_ledger.proofs.Distinct.{Both}
 use Rattle.cat_ledger.proofs.Steps.{AreGiven}
 
 -- the hash of each entry that an operation sets passes

@@ -24,17 +24,21 @@ use Rattle.cat_state.specs.Adding.{AreHashesOf}
 use Rattle.cat_state.specs.Giving.{Fails}
 use Rattle.cat_state.specs.Keeping.{MayBeAdded, is_held}
 use Rattle.cat_state.specs.KeepingLaws.{upon_may_be_added}
-use Rattle.cat_ledger.specs.declared.given.Given.{Given}
+use Rattle.cat_builds.specs.declared.given.Given.{Given}
+use Rattle.cat_builds.specs.Builds.{IsGiven}
 use Rattle.cat_ledger.specs.declared.logging.Turn.{Turn}
 use Rattle.cat_ledger.specs.declared.preparing.Prepared.{Prepared}
 use Rattle.cat_ledger.specs.Putting.{IsMade, IsPrepared, add_step}
 use Rattle.cat_state.specs.GivingLaws.{fails_on}
-use Rattle.cat_ledger.proofs.Ids.{Both}
+use Rattle.cat_ledger.proofs.Distinct.{Both}
 
 -- the operations and contents with the ids that the draft gives
 pub record AreGiven (draft : ℕ) (c : CommitRequest) (ops : List Op) (contents : List Content) : Type 0 where
   pub ops_are : ops ≡ map (λ (b : Both). b.0) (given_ops sha256 draft c)
   pub contents_are : contents ≡ filter_map (λ (b : Both). b.1) (given_ops sha256 draft c)
+
+pub given_is : (draft : ℕ) (c : CommitRequest) (g : Given) → IsGiven draft c g → AreGiven draft c g.ops g.contents
+given_is draft c g given = record { ops_are = given.ops; contents_are = given.contents }
 
 -- the request as it is logged
 pub logged_is : (c : CommitRequest) (draft : ℕ) (ops : List Op) (contents : List Content) → AreGiven draft c ops contents → record c { ops = ops; contents = contents } ≡ given_request sha256 draft c
@@ -54,10 +58,6 @@ map_is_after expected head map ops e = judged_is _ (after_changes (changes_of op
 pub room_is : (state : State) (at head : Map) (n : ℕ) (slice ops : List Op) (r : Tested) → head ≡ at → n ≡ puts slice → slice ≡ ops → r ≡ needs_commit_room state head n → needs_commit_room state at (puts ops) ≡ r
 room_is state at head n slice ops r h p s e =
     sym (e ∙ ap (λ (m : Map). needs_commit_room state m n) h ∙ ap (λ (k : ℕ). needs_commit_room state at k) (p ∙ ap puts s))
-
-pub judge_at : (expected at before head : Map) (slice ops : List Op) → before ≡ expected → head ≡ at → slice ≡ ops → or_conflicts (judge before head slice) ≡ or_conflicts (judge expected at ops)
-judge_at expected at before head slice ops b h s =
-    ap (λ (m : Map). or_conflicts (judge m head slice)) b ∙ ap (λ (m : Map). or_conflicts (judge expected m slice)) h ∙ ap (λ (l : List Op). or_conflicts (judge expected at l)) s
 
 -- a commit at a known head, with the map after its operations, may be added
 pub next_kept : (state : State) (c : CommitRequest) (head : Hash) (moment : ℕ) (ops : List Op) (map : Map) (commit : Commit) (k : NewCommit) → commit ≡ request_commit state head moment c ops → is_known sha256 state head ≡ true

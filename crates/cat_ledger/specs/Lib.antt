@@ -1,4 +1,4 @@
-pub mod Ops
+pub mod Sharing
 pub mod Making
 pub mod Occasions
 pub mod Remaking

@@ -48,6 +48,10 @@ abbrev pub left_on : Book → Option ℕ → Bool → Tested
 left_on book None opens = needs_draft book.state book.draft opens
 left_on book (Some draft) opens = Ok tt
 
+-- the tests before the draft of a call that opens one
+abbrev pub tests_on : Book → Option ℕ → Command → Tested
+tests_on book draft command = opening sha256 book.state command >>= λ _. left_on book draft true
+
 -- what a call brings, by its turn and the outcome of the tests before its draft
 abbrev pub opened_on : Book → Turn → Command → Tested → Called
 opened_on book turn command (Err why) = unchanged_by book.state book.draft (Err why)

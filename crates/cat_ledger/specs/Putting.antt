@@ -17,7 +17,7 @@ use Rattle.cat_state.specs.declared.failure.Failure.{Failure}
 use Rattle.cat_state.specs.Adding.{AreHashesOf, IsRecordOf, moved_state}
 use Rattle.cat_state.specs.Giving.{Fails}
 use Rattle.cat_state.specs.Keeping.{MayBeAdded, is_held}
-use Rattle.cat_ledger.specs.declared.given.Given.{Given}
+use Rattle.cat_builds.specs.declared.given.Given.{Given}
 use Rattle.cat_ledger.specs.declared.logging.Turn.{Turn}
 use Rattle.cat_ledger.specs.declared.preparing.Prepared.{Prepared}
 use Rattle.cat_ledger.specs.Making.{entry_at, taking, with_entry}

@@ -43,8 +43,9 @@ impl Ledger {
         ensures keeps { Keeps K.told K.kept K.down K.in_flight K.faults K.moment K.left_since K.may_leave keeper.old keeper.new (entry_at self.old turn (commands.Commit made.request) (head_of (add_step self.old.state made)) ∷ []) result }
     {
         self.draft = self.draft.max(turn.draft);
-        let place = self.catalogue.place() + 1;
-        let extent = self.catalogue.extent();
+        let catalogue = self.catalogue.alone(alloc)?;
+        let place = catalogue.place() + 1;
+        let extent = catalogue.extent();
         let Prepared {
             hashes,
             kept,
@@ -52,17 +53,10 @@ impl Ledger {
             added,
             request,
         } = made;
-        self.catalogue.add_records(alloc, request.contents.as_slice(), hashes.as_slice(), kept)?;
+        catalogue.add_records(alloc, request.contents.as_slice(), hashes.as_slice(), kept)?;
         let commit = entry(place, turn, Command::Commit(request), Some(moved.head));
-        keep_or_cut_back(
-            alloc,
-            keeper,
-            &mut self.catalogue,
-            &mut self.log,
-            commit,
-            extent,
-        )?;
-        self.catalogue.move_to(&moved);
+        keep_or_cut_back(alloc, keeper, catalogue, &mut self.log, commit, extent)?;
+        catalogue.move_to(&moved);
         Ok(Told {
             place,
             reply: Reply::Committed(Committed {

@@ -8,6 +8,8 @@ ghost use Rattle.cat_model.specs.Namespaces.{is_well_formed};
 ghost use Rattle.cat_model.specs.Pages.{first};
 ghost use Rattle.std.specs.Option.{option_copied};
 
+use crate::shared::Shared;
+use cat_builds::view::View;
 use cat_codes::fault::NoMemory;
 use cat_model::limits::Limits;
 use cat_model::log_entry::LogEntry;
@@ -16,10 +18,10 @@ use cat_state::catalogue::Catalogue;
 use std::alloc::Global;
 use std::marker::Model;
 
-/// A catalogue in memory, with the entries that led to it.
+/// A catalogue in memory, which views may share, with the entries that led to it.
 #[derive(Drop)]
 pub struct Ledger {
-    pub(crate) catalogue: Catalogue,
+    pub(crate) catalogue: Shared,
     pub(crate) draft: u64,
     pub(crate) log: Vec<LogEntry>,
 }
@@ -42,7 +44,7 @@ impl Ledger {
         ensures { IfOk result (λ ledger. ledger ≡ first_book sha256 limits) }
     {
         Ok(Ledger {
-            catalogue: Catalogue::new(alloc, limits)?,
+            catalogue: Shared::new(alloc, limits)?,
             draft: 0,
             log: Vec::new(alloc),
         })
@@ -52,7 +54,7 @@ impl Ledger {
     pub fn map_is_well_formed(&self, hash: &Hash)
         ensures { IsTrue (is_well_formed (entries self.now.state.commits hash.now)) }
     {
-        self.catalogue.map_is_well_formed(hash)
+        self.catalogue().map_is_well_formed(hash)
     }
 
     /// The newest entry of the log.
@@ -63,13 +65,23 @@ impl Ledger {
         self.log.as_slice().last()
     }
 
-    pub(crate) fn catalogue(&self) -> &Catalogue
-        ensures { result.now ≡ self.now.state }
+    /// A view of the catalogue as it is now. While it is held, a change of the ledger copies the
+    /// catalogue first.
+    pub fn view(&self) -> Result<View, NoMemory>
+        ensures { IfOk result (λ view. view ≡ self.now.state) }
     {
-        &self.catalogue
+        self.catalogue.view()
     }
 
-    pub(crate) fn draft(&self) -> u64
+    /// The catalogue.
+    pub fn catalogue(&self) -> &Catalogue
+        ensures { result.now ≡ self.now.state }
+    {
+        self.catalogue.get()
+    }
+
+    /// The last draft number.
+    pub fn draft(&self) -> u64
         ensures { result ≡ self.now.draft }
     {
         self.draft

@@ -7,10 +7,8 @@
 
 mod accepting;
 mod calls;
-mod committing;
 mod counts;
-mod given;
-mod judging;
+mod drafting;
 mod ledger;
 mod logging;
 mod moving;
@@ -20,6 +18,8 @@ mod planned;
 mod preparing;
 mod referring;
 mod replaying;
+mod settling;
+mod shared;
 mod unmade;
 
 pub use calls::refused;

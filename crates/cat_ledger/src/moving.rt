@@ -1,10 +1,11 @@
 //! Calls that make, move and remove references. They open no draft.
 
-ghost use Rattle.std.specs.Prelude.{◌≡◌, ◌<◌, ◌∷◌, [], Some, None, false, IfErr, IfOk, IsTrue, OnErr, OnOk};
+ghost use Rattle.std.specs.Prelude.{◌≡◌, ◌<◌, ◌∷◌, [], ◌+◌, Some, None, false, IfErr, IfOk, IsTrue, OnErr, OnOk, reverse};
 ghost use Rattle.sha2.specs.Sha256.{sha256};
 ghost use Rattle.cat_model.specs.Moves.{with_references};
 ghost use Rattle.cat_model.specs.State.{is_known, moved_reference, reference_of, with_reference, without_reference};
 ghost use Rattle.cat_model.specs.declared.command.Command.TheVariants as commands;
+ghost use Rattle.cat_model.specs.declared.reply.Reply.TheVariants as replies;
 ghost use Rattle.cat_state.specs.Adding.{IsAbove};
 ghost use Rattle.cat_frames.specs.Entries.{is_logged};
 ghost use Rattle.cat_model.specs.WellMade.{points};
@@ -19,9 +20,11 @@ use crate::referring::copy_reference;
 use crate::unmade::Unmade;
 use cat_keeper::Keeper;
 use cat_model::command::{Assign, Command, Create, Delete};
+use cat_model::log_entry::LogEntry;
 use cat_model::reference::Reference;
 use cat_model::reply::{Reply, Told};
 use cat_names::ref_name::RefName;
+use cat_state::catalogue::Catalogue;
 use std::alloc::{AllocError, Global};
 
 /// The call as it is logged.
@@ -49,6 +52,47 @@ fn logged_delete(delete: &Delete) -> Result<Command, AllocError>
     Ok(Command::Delete(delete.clone()?))
 }
 
+/// Adds a reference, of which a copy is the answer, and keeps the entry of the call; or leaves
+/// catalogue and log as they are.
+fn add_reference<K: Keeper>(
+    alloc: Global,
+    keeper: &mut K,
+    catalogue: &mut Catalogue,
+    log: &mut Vec<LogEntry>,
+    turn: Turn,
+    command: Command,
+    reference: Reference,
+    answer: Reference,
+) -> Result<Told, Unmade>
+    requires place { catalogue.old.place < 4294967295 }
+    requires absent { reference_of catalogue.old.references reference.name ≡ None }
+    requires known { IsTrue (is_known sha256 catalogue.old reference.head) }
+    requires answer { answer ≡ reference }
+    requires logged { IsTrue (is_logged sha256 (record { place = catalogue.old.place + 1; caller = turn.caller; draft = turn.draft; moment = turn.moment; command = command; head = Some reference.head })) }
+    requires up { K.down keeper.old ≡ None }
+    requires kept { K.kept keeper.old ≡ catalogue.old.place }
+    ensures ok { OnOk result (catalogue.new ≡ with_references catalogue.old (with_reference catalogue.old.references reference)) }
+    ensures entry { OnOk result (reverse log.new.items ≡ record { place = catalogue.old.place + 1; caller = turn.caller; draft = turn.draft; moment = turn.moment; command = command; head = Some reference.head } ∷ reverse log.old.items) }
+    ensures told { IfOk result (λ told. told ≡ record { place = catalogue.old.place + 1; reply = replies.Reference reference }) }
+    ensures stays { OnErr result (catalogue.new ≡ catalogue.old) }
+    ensures same { OnErr result (log.new.items ≡ log.old.items) }
+    ensures unrefused { IfErr result IsUnrefused }
+    ensures kept { K.kept keeper.new ≡ catalogue.new.place }
+    ensures keeps { Keeps K.told K.kept K.down K.in_flight K.faults K.moment K.left_since K.may_leave keeper.old keeper.new (record { place = catalogue.old.place + 1; caller = turn.caller; draft = turn.draft; moment = turn.moment; command = command; head = Some reference.head } ∷ []) result }
+{
+    let place = catalogue.place() + 1;
+    catalogue.insert(reference)?;
+    let creation = entry(place, turn, command, Some(answer.head));
+    if let Err(fault) = keep(alloc, keeper, log, creation) {
+        catalogue.take_back(&answer.name);
+        return Err(fault);
+    }
+    Ok(Told {
+        place,
+        reply: Reply::Reference(answer),
+    })
+}
+
 impl Ledger {
     /// Adds a reference, and keeps the entry of the call, which answers a copy of it; or does
     /// nothing.
@@ -73,18 +117,21 @@ impl Ledger {
         ensures kept { K.kept keeper.new ≡ self.new.state.place }
         ensures keeps { Keeps K.told K.kept K.down K.in_flight K.faults K.moment K.left_since K.may_leave keeper.old keeper.new (entry_at self.old turn command (Some reference.head) ∷ []) result }
     {
-        let place = self.catalogue.place() + 1;
         let answer = copy_reference(&reference)?;
-        self.catalogue.insert(reference)?;
-        let creation = entry(place, turn, command, Some(answer.head));
-        if let Err(fault) = keep(alloc, keeper, &mut self.log, creation) {
-            self.catalogue.take_back(&answer.name);
-            return Err(fault);
+        let catalogue = self.catalogue.alone(alloc)?;
+        match add_reference(
+            alloc,
+            keeper,
+            catalogue,
+            &mut self.log,
+            turn,
+            command,
+            reference,
+            answer,
+        ) {
+            Ok(told) => Ok(told),
+            Err(fault) => Err(fault),
         }
-        Ok(Told {
-            place,
-            reply: Reply::Reference(answer),
-        })
     }
 
     /// Keeps the entry of the call, and sets the reference of its name to this one; or does nothing.
@@ -108,10 +155,11 @@ impl Ledger {
         ensures kept { K.kept keeper.new ≡ self.new.state.place }
         ensures keeps { Keeps K.told K.kept K.down K.in_flight K.faults K.moment K.left_since K.may_leave keeper.old keeper.new (entry_at self.old turn command (Some moved.head) ∷ []) result }
     {
-        let place = self.catalogue.place() + 1;
+        let catalogue = self.catalogue.alone(alloc)?;
+        let place = catalogue.place() + 1;
         let assignment = entry(place, turn, command, Some(moved.head));
         keep(alloc, keeper, &mut self.log, assignment)?;
-        self.catalogue.move_to(&moved);
+        catalogue.move_to(&moved);
         Ok(Told {
             place,
             reply: Reply::Reference(moved),
@@ -140,10 +188,11 @@ impl Ledger {
         ensures kept { K.kept keeper.new ≡ self.new.state.place }
         ensures keeps { Keeps K.told K.kept K.down K.in_flight K.faults K.moment K.left_since K.may_leave keeper.old keeper.new (entry_at self.old turn command None ∷ []) result }
     {
-        let place = self.catalogue.place() + 1;
+        let catalogue = self.catalogue.alone(alloc)?;
+        let place = catalogue.place() + 1;
         let deletion = entry(place, turn, command, None);
         keep(alloc, keeper, &mut self.log, deletion)?;
-        self.catalogue.remove(name);
+        catalogue.remove(name);
         Ok(Told {
             place,
             reply: Reply::Reference(removed),

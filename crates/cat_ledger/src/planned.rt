@@ -86,8 +86,8 @@ impl Ledger {
         ensures stays { self.new ≡ self.old }
     {
         let Adding { planned, merged } = adding;
-        self.catalogue
-            .try_planned(alloc, moment, &merged.target.head, planned)?;
+        let catalogue = self.catalogue.alone(alloc)?;
+        catalogue.try_planned(alloc, moment, &merged.target.head, planned)?;
         Ok(self.told(merged))
     }
 
@@ -115,11 +115,12 @@ impl Ledger {
         ensures kept { K.kept keeper.new ≡ self.new.state.place }
         ensures keeps { Keeps K.told K.kept K.down K.in_flight K.faults K.moment K.left_since K.may_leave keeper.old keeper.new (entry_at self.old turn command (head_of (step_adding turn.moment self.old.state adding)) ∷ []) result }
     {
-        let place = self.catalogue.place() + 1;
+        let catalogue = self.catalogue.alone(alloc)?;
+        let place = catalogue.place() + 1;
         match add_commits(
             alloc,
             keeper,
-            &mut self.catalogue,
+            catalogue,
             &mut self.log,
             turn,
             adding,

@@ -13,10 +13,10 @@ ghost use Rattle.cat_state.specs.Adding.{IsRecordOf};
 ghost use Rattle.cat_state.specs.Keeping.{MayBeAdded};
 ghost use Rattle.cat_ledger.specs.Putting.{IsPrepared};
 
-use crate::given::Given;
 use crate::ledger::Ledger;
 use crate::logging::Turn;
 use crate::ops::added_ids;
+use cat_builds::given::Given;
 use cat_codes::fault::NoMemory;
 use cat_codes::seq::Seq;
 use cat_keymap::key_map::KeyMap;

@@ -34,3 +34,5 @@ pub mod Drafts
 pub mod Mark
 pub mod Turns
 pub mod TurnLaws
+pub mod Later
+pub mod Naming

@@ -1,11 +1,12 @@
 -- The mark: what is kept beside the log of faults, sweeps and drafts.
-use Rattle.std.specs.Prelude.{◌≡◌, ℕ, ◌≤◌, max, ◌⊎◌, Option, Some, None}
+use Rattle.std.specs.Prelude.{◌≡◌, ℕ, ◌≤◌, max, ◌⊎◌, List, Option, Some, None}
 use Rattle.cat_model.specs.Drafts.{Opening}
 
--- whose append failed, and how many entries there were
+-- whose append failed, how many faults were counted then, and the payload that was to be kept
 pub record FailedAppend : Type 0 where
   pub caller : ℕ
   pub count : ℕ
+  pub payload : List ℕ
 
 -- a sweep that was closed, with how many names it had
 pub record ClosedSweep : Type 0 where

@@ -5,10 +5,11 @@ use Rattle.cat_model.specs.State.{State}
 use Rattle.cat_model.specs.Drafts.{Open, LeavesOthers}
 use Rattle.cat_model.specs.Mark.{Mark, Later}
 
--- what a log starts from: a state, at its place, and the last draft number that was taken until then
+-- what a log starts from: a state, at its place, the last draft number that was taken until then, and how many faults its keeper had counted
 pub record Opened : Type 0 where
   pub state : State
   pub draft : ℕ
+  pub faults : ℕ
 
 -- all that contracts see of a logged value at one moment; the log's oldest entry comes first
 pub record Snapshot : Type 0 where

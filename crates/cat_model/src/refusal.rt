@@ -77,7 +77,7 @@ pub enum Refusal {
     },
     /// The journal couldn't be written.
     Fault,
-    /// The journal couldn't be written earlier, when it had so many entries.
+    /// The journal couldn't be written earlier; it had counted so many faults then.
     Down(u64),
     NoMemory,
     /// No route has the path.

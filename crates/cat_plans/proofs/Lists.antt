@@ -1,5 +1,5 @@
 -- Lists of plans, as the definitions have them.
-use Rattle.std.proofs.Common.{◌≡◌, suc, List, [], ◌∷◌, ◌++◌, ◌&&◌, length, map, flat_map, Bool, true, false, ◌||◌, cond, refl, ap, ◌∙◌}
+use Rattle.std.proofs.Common.{◌≡◌, suc, List, [], ◌∷◌, ◌++◌, ◌&&◌, length, map, flat_map, Bool, true, false, ◌||◌, cond, refl, ap}
 use Rattle.std.specs.List.{list_all, list_any}
 use Rattle.cat_keymap.specs.KeyOrder.{both_true, and_true}
 use Rattle.cat_model.specs.Merges as merges

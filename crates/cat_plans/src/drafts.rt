@@ -15,7 +15,7 @@ pub(crate) struct Asked {
 
 /// Plans upon a branch, each upon the one before.
 #[derive(Debug, Drop)]
-pub(crate) struct Draft {
+pub struct Draft {
     /// The commit that a merge's changes are reckoned from.
     pub(crate) ancestor: Option<Hash>,
     pub(crate) planned: Vec<Planned>,

@@ -48,7 +48,7 @@ fn plan_from(
 }
 
 /// What a merge of a commit into a branch plans, from their base.
-fn draft(
+pub fn draft_merge(
     alloc: Global,
     catalogue: &Catalogue,
     merge: &Merge,
@@ -84,22 +84,24 @@ fn draft(
     })
 }
 
-/// What a merge of a commit into a branch comes to.
-pub fn merge_outcome(
+/// What the draft of a merge comes to.
+pub fn settle_merge(
     alloc: Global,
     catalogue: &Catalogue,
     merge: &Merge,
     branch: &Reference,
     source: &Hash,
+    draft: Draft,
 ) -> Result<Outcome, Failure>
     requires opened { merge_opening sha256 catalogue.now merge.now ≡ Ok (branch.now, source.now) }
-    requires known { AreKnown catalogue.now branch.now.head source.now }
+    requires drafted { IsMergeDraft catalogue.now merge.now branch.now source.now draft }
     ensures step { (moment : ℕ) → ComesTo moment catalogue.now result (step_merge sha256 catalogue.now merge.now catalogue.now.place moment) }
     ensures made { IfOk result (MayBeMade catalogue.now) }
     ensures logged { IfOk result (IsLoggedAs (logged_merge merge.now)) }
     ensures there { IfErr result (λ failure. fails_expired failure ≡ false) }
     ensures place { OnOk result (catalogue.now.place < 4294967295) }
 {
-    let draft = draft(alloc, catalogue, merge, branch, source)?;
+    let _ = merge;
+    let _ = source;
     settle(alloc, catalogue, branch, draft)
 }

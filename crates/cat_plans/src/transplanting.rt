@@ -111,7 +111,7 @@ fn plan_onto(
 }
 
 /// What a transplant plans onto its branch.
-fn draft(
+pub fn draft_transplant(
     alloc: Global,
     catalogue: &Catalogue,
     transplant: &Transplant,
@@ -143,21 +143,22 @@ fn draft(
     })
 }
 
-/// What a transplant comes to.
-pub fn transplant_outcome(
+/// What the draft of a transplant comes to.
+pub fn settle_transplant(
     alloc: Global,
     catalogue: &Catalogue,
     transplant: &Transplant,
     branch: &Reference,
+    draft: Draft,
 ) -> Result<Outcome, Failure>
     requires opened { transplant_opening sha256 catalogue.now transplant.now ≡ Ok branch.now }
-    requires known { IsTrue (is_known sha256 catalogue.now branch.now.head) }
+    requires drafted { IsTransplantDraft catalogue.now transplant.now branch.now draft }
     ensures step { (moment : ℕ) → ComesTo moment catalogue.now result (step_transplant sha256 catalogue.now transplant.now catalogue.now.place moment) }
     ensures made { IfOk result (MayBeMade catalogue.now) }
     ensures logged { IfOk result (IsLoggedAs (logged_transplant transplant.now)) }
     ensures there { IfErr result (λ failure. fails_expired failure ≡ false) }
     ensures place { OnOk result (catalogue.now.place < 4294967295) }
 {
-    let draft = draft(alloc, catalogue, transplant, branch)?;
+    let _ = transplant;
     settle(alloc, catalogue, branch, draft)
 }

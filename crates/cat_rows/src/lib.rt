@@ -7,17 +7,11 @@ mod content_texts;
 #[cfg(test)]
 mod contents;
 #[cfg(test)]
-mod drill;
-#[cfg(test)]
 mod faults;
 #[cfg(test)]
 mod first_path;
 #[cfg(test)]
 mod heads;
-#[cfg(test)]
-mod judging;
-#[cfg(test)]
-mod limits;
 #[cfg(test)]
 mod refusals;
 #[cfg(test)]

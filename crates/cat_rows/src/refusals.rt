@@ -1,10 +1,11 @@
 //! Requests that are refused.
 
 use crate::texts::{
-    ABSENT, BAD_BODY, BAD_HEAD, BAD_PATH, ENCODING, GET_CONFIG, NO_REFERENCE, NO_ROUTE, TOO_LARGE,
-    TREE, WRONG_METHOD,
+    ABSENT, BAD_HEAD, BAD_PATH, ENCODING, GET_CONFIG, NO_REFERENCE, NO_ROUTE, TOO_LARGE, TREE,
+    WRONG_METHOD,
 };
 use cat_cli::Status;
+use cat_runs::commits::BAD_BODY;
 use cat_runs::runs::{script, wrote};
 use std::test::Fail;
 

@@ -24,10 +24,6 @@ pub const COMMITTED_T2: &str =
 pub const BAD_HEAD: &str =
     "HTTP/1.1 400 Bad Request\r\nContent-Type: application/json\r\nContent-Length: 84\r\nConnection: close\r\n\r\n{\"errorCode\":\"BAD_REQUEST\",\"message\":\"bad head\",\"reason\":\"Bad Request\",\"status\":400}";
 
-/// A body without a reading.
-pub const BAD_BODY: &str =
-    "HTTP/1.1 400 Bad Request\r\nContent-Type: application/json\r\nContent-Length: 84\r\n\r\n{\"errorCode\":\"BAD_REQUEST\",\"message\":\"bad body\",\"reason\":\"Bad Request\",\"status\":400}";
-
 /// A path without a reading.
 pub const BAD_PATH: &str =
     "HTTP/1.1 400 Bad Request\r\nContent-Type: application/json\r\nContent-Length: 84\r\n\r\n{\"errorCode\":\"BAD_REQUEST\",\"message\":\"bad path\",\"reason\":\"Bad Request\",\"status\":400}";

@@ -2,6 +2,10 @@
 
 use std::alloc::{AllocError, Global};
 
+/// The reply to a body without a reading.
+pub const BAD_BODY: &str =
+    "HTTP/1.1 400 Bad Request\r\nContent-Type: application/json\r\nContent-Length: 84\r\n\r\n{\"errorCode\":\"BAD_REQUEST\",\"message\":\"bad body\",\"reason\":\"Bad Request\",\"status\":400}";
+
 /// A PUT of a table at a key of one element, without an id.
 pub fn new_table(alloc: Global, key: &str, location: &str) -> Result<String, AllocError> {
     format!(in alloc;

@@ -116,6 +116,14 @@ impl Catalogue {
         let _ = self.maps();
     }
 
+    /// What holds of its commits: no hash comes twice, each stands above its parents, and its
+    /// generation is one more than the greatest of theirs.
+    pub fn commits_are_linked(&self)
+        ensures { AreLinked self.now.commits }
+    {
+        let _ = self.commits();
+    }
+
     /// The generation of a hash; 0 for the one that has no ancestor, and for one that isn't known.
     #[tactic(auto, using(cat_graph::specs::GraphLaws::generation_bound))]
     pub fn generation(&self, hash: &Hash) -> u64

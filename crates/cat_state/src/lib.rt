@@ -12,6 +12,7 @@ pub mod catalogue;
 mod changing;
 mod contents;
 pub mod copies;
+mod copying;
 pub mod counts;
 pub mod extent;
 pub mod failure;

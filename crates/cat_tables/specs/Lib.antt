@@ -1,4 +1,5 @@
 pub mod LookUps
 pub mod ReferenceLaws
 pub mod References
+pub mod TableLaws
 pub mod Tables

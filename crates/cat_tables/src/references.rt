@@ -1,6 +1,6 @@
 //! Named references, by ascending names.
 
-ghost use Rattle.std.specs.Prelude.{◌≡◌, ◌≤◌, ◌<◌, ◌+◌, [], None, Some, IsTrue, IsOk, IfSome, IfNone, OnOk, length, drop};
+ghost use Rattle.std.specs.Prelude.{◌≡◌, ◌≤◌, ◌<◌, ◌+◌, [], None, Some, IsTrue, IsOk, IfOk, IfSome, IfNone, OnOk, length, drop};
 ghost use Rattle.std.specs.Option.{option_copied, option_map};
 ghost use Rattle.cat_model.specs.Pages.{references_after};
 ghost use Rattle.cat_model.specs.State.{moved_reference, reference_of, with_reference, without_reference};
@@ -10,7 +10,7 @@ ghost use Rattle.cat_tables.specs.References as order;
 use cat_codes::fault::NoMemory;
 use cat_model::reference::Reference;
 use cat_names::ref_name::RefName;
-use std::alloc::Global;
+use std::alloc::{AllocError, Global};
 use std::marker::Model;
 
 /// References by ascending names. Contracts see the list, and how many more can be inserted
@@ -47,6 +47,15 @@ impl References {
         ensures { IsTrue (names_ascend self.now.list) }
     {
         let _ = &self.items;
+    }
+
+    /// A copy of them.
+    pub fn copy(&self, alloc: Global) -> Result<References, NoMemory>
+        ensures { IfOk result (λ copy. copy.list ≡ self.now.list) }
+    {
+        Ok(References {
+            items: copies(alloc, self.items.as_slice())?,
+        })
     }
 
     /// How many references there are.
@@ -126,6 +135,23 @@ impl References {
             self.items.remove(at);
         }
     }
+}
+
+fn copy_reference(reference: &Reference) -> Result<Reference, AllocError>
+    ensures { IfOk result (λ copy. copy ≡ reference.now) }
+{
+    reference.clone()
+}
+
+fn copies(alloc: Global, references: &[Reference]) -> Result<Vec<Reference>, NoMemory>
+    ensures { IfOk result (λ copies. copies.items ≡ references.now) }
+{
+    let mut copies = Vec::new(alloc);
+    copies.try_reserve(references.len())?;
+    for reference in references {
+        copies.push(copy_reference(reference)?)?;
+    }
+    Ok(copies)
 }
 
 /// Sets a reference to this one of its name.

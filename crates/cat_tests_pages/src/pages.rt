@@ -198,3 +198,15 @@ fn pages_of_references_follow_one_another(rt: HostRuntime) -> Result<(), Fail> {
     }
     Ok(())
 }
+
+#[test]
+fn a_copied_graph_has_the_same_commits(rt: HostRuntime) -> Result<(), Fail> {
+    let alloc = rt.alloc();
+    let graph = three(alloc)?;
+    let copy = graph.copy(alloc)?;
+    assert!(rt; copy.len() == graph.len());
+    for n in 0..5 {
+        assert!(rt; copy.get(&hash(n)) == graph.get(&hash(n)));
+    }
+    Ok(())
+}

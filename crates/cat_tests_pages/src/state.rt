@@ -57,3 +57,15 @@ fn a_reference_more_is_listed(rt: HostRuntime) -> Result<(), Fail> {
     assert!(rt; listed(rt.alloc(), &catalogue)? == (1, true));
     Ok(())
 }
+
+#[test]
+fn a_copy_stays_as_it_is(rt: HostRuntime) -> Result<(), Fail> {
+    let mut catalogue = Catalogue::new(rt.alloc(), Limits::program())?;
+    let head = main_head(rt.alloc(), &catalogue)?;
+    let copy = catalogue.copy(rt.alloc())?;
+    add_tag(&mut catalogue, rt.alloc(), "v1", head)?;
+    let later = catalogue.copy(rt.alloc())?;
+    assert!(rt; listed(rt.alloc(), &copy)? == (1, false));
+    assert!(rt; listed(rt.alloc(), &later)? == (1, true));
+    Ok(())
+}

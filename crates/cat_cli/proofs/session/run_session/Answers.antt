@@ -1,6 +1,6 @@
 use Rattle.std.proofs.Common.{◌≡◌, ℕ, ◌+◌, ◌-◌, ◌<◌, ◌≤◌, refl, arith}
 use Rattle.cat_cli.proofs.Points.{reaches_on}
-use Rattle.cat_cli.proofs.Standing.{falls_on}
+use Rattle.cat_cli.proofs.Standing.{keeps_on}
 use Rattle.cat_cli.proofs.session.run_session.Goals as goal
 
 -- so many requests may follow the next one
@@ -19,8 +19,8 @@ turns-preserved g c = record {
       let x = c.turns.invariant.reached k a whole stands in
       let t = c.in_default-turn.ensures.on k x.0 (next_left x.0.left c.turns.count x.2 c.turns-test.true) x.3 in
       (t.0.after, reaches_on k a x.0 t.0 x.1 t.1.answered t.1.goes_on, counted t.0.after.left c.turns.count t.1.left_is c.turns-test.true, t.1.stands);
-  falls = falls_on g.K0.Keeper.down g.K0.Keeper.faults _ _ _ c.turns.invariant.falls c.in_default-turn.ensures.up c.turns.invariant.later_store c.in_default-turn.ensures.later_store;
-  later_store = omega (arith, c.in_default-turn.ensures.later_store, c.turns.invariant.later_store);
+  ready = c.in_default-turn.ensures.ready;
+  kept = keeps_on c.args.desk.now c.args.pass.now _ _ c.turns.invariant.kept c.in_default-turn.ensures.kept;
   later_source = omega (arith, c.in_default-turn.ensures.later_source, c.turns.invariant.later_source);
   later_sink = omega (arith, c.in_default-turn.ensures.later_sink, c.turns.invariant.later_sink);
 }
@@ -31,10 +31,10 @@ returns-in-Some-clause-ends g c k a whole stands =
     let t = c.in-Some.ensures.ends k x.0 (next_left x.0.left c.turns.count x.2 c.turns-test.true) x.3 in
     (t.0, t.1, t.2, (x.0, x.1, t.3), t.4)
 
-pub returns-in-Some-clause-up : goal.returns-in-Some-clause-up
-returns-in-Some-clause-up g c = falls_on g.K0.Keeper.down g.K0.Keeper.faults _ _ _ c.turns.invariant.falls c.in-Some.ensures.up c.turns.invariant.later_store c.in-Some.ensures.later_store
+pub returns-in-Some-clause-kept : goal.returns-in-Some-clause-kept
+returns-in-Some-clause-kept g c = keeps_on c.args.desk.now c.args.pass.now _ _ c.turns.invariant.kept c.in-Some.ensures.kept
 
 pub returns-clause-ends : goal.returns-clause-ends
 returns-clause-ends g c k a whole stands =
     let x = c.turns.invariant.reached k a whole stands in
-    (x.0.written, x.3.held_is, x.0.standing, (x.0, x.1, (none_left x.0.left c.turns.count x.2 c.turns-test.false, refl, refl)), x.3.store_at)
+    (x.0.written, x.3.held_is, x.0.standing, (x.0, x.1, (none_left x.0.left c.turns.count x.2 c.turns-test.false, refl, refl)), x.3.pass_at)

@@ -7,38 +7,38 @@ use Rattle.cat_cli.proofs.session.turn.Goals as goal
 pub returns-in-Request-clause-on : goal.returns-in-Request-clause-on
 returns-in-Request-clause-on g c = map_none c.answer.result c.answer.ensures.on (λ on k p one stands.
     let r = read_is _ _ _ c.args.buffer.now c.read_request.new.buffer p.bytes c.in-Request.ensures.is stands.bytes_are in
-    let t = on k p r.0 (asked g.K0.Keeper.down g.K0.Keeper.in_flight k p c.args.left c.request.result _ c.read_request.new.buffer _ r.0 _ _ _ _ c.request.ensures r.1 one stands) in
-    (t.0, goes_to g.K0.Keeper.down g.K0.Keeper.in_flight k p c.args.left r.0 t.0 _ _ _ _ t.1 r.1.rest_is))
+    let t = on k p r.0 (asked c.args.desk.now k p c.args.left c.request.result _ c.read_request.new.buffer _ r.0 _ _ _ _ c.request.ensures r.1 one stands) in
+    (t.0, goes_to c.args.desk.now k p c.args.left r.0 t.0 _ _ _ _ t.1 r.1.rest_is))
 
 pub returns-in-Request-clause-ends : goal.returns-in-Request-clause-ends
 returns-in-Request-clause-ends g c = map_some _ _ c.answer.result c.answer.ensures.ends (λ end ends k p one stands.
     let r = read_is _ _ _ c.args.buffer.now c.read_request.new.buffer p.bytes c.in-Request.ensures.is stands.bytes_are in
-    ends k p r.0 (asked g.K0.Keeper.down g.K0.Keeper.in_flight k p c.args.left c.request.result _ c.read_request.new.buffer _ r.0 _ _ _ _ c.request.ensures r.1 one stands))
+    ends k p r.0 (asked c.args.desk.now k p c.args.left c.request.result _ c.read_request.new.buffer _ r.0 _ _ _ _ c.request.ensures r.1 one stands))
 
 pub returns-in-End-clause-ends : goal.returns-in-End-clause-ends
 returns-in-End-clause-ends g c k p one stands =
     let r = read_is incoming.End (g.S.Source.left c.args.source.now) (g.S.Source.left c.read_request.new.source) c.args.buffer.now c.read_request.new.buffer p.bytes c.in-End.ensures.is stands.bytes_are in
-    at_end g.K0.Keeper.down g.K0.Keeper.in_flight k p c.args.left _ _ _ _ one r.1.is_so stands
+    at_end c.args.desk.now k p c.args.left _ _ _ _ one r.1.is_so stands
 
 pub returns-in-Ok-clause-ends : goal.returns-in-Ok-clause-ends
 returns-in-Ok-clause-ends g c k p one stands =
     let r = read_is incoming.BadHead (g.S.Source.left c.args.source.now) (g.S.Source.left c.read_request.new.source) c.args.buffer.now c.read_request.new.buffer p.bytes c.in-BadHead.ensures.is stands.bytes_are in
-    told_refused g.K0.Keeper.down g.K0.Keeper.in_flight k p c.args.left _ _ ends.BadHead _ _ _ _ _ (λ h last x. x) one r.1.is_so stands c.in-Ok.ensures.written
+    told_refused c.args.desk.now k p c.args.left _ _ ends.BadHead _ _ _ _ _ (λ h last x. x) one r.1.is_so stands c.in-Ok.ensures.written
 
 pub returns-in-Err-WriteFault-clause-ends : goal.returns-in-Err-WriteFault-clause-ends
 returns-in-Err-WriteFault-clause-ends g c k p one stands =
     let r = read_is incoming.BadHead (g.S.Source.left c.args.source.now) (g.S.Source.left c.read_request.new.source) c.args.buffer.now c.read_request.new.buffer p.bytes c.in-BadHead.ensures.is stands.bytes_are in
-    told_front g.K0.Keeper.down g.K0.Keeper.in_flight k p _ _ _ _ _ _ (inr (inl (r.1.is_so, refl, refl))) stands (c.in-Err-WriteFault.ensures.cut (ap Err c.in-Err-WriteFault.field-0-is))
+    told_front c.args.desk.now k p _ _ _ _ _ _ (inr (inl (r.1.is_so, refl, refl))) stands (c.in-Err-WriteFault.ensures.cut (ap Err c.in-Err-WriteFault.field-0-is))
 
 pub returns-in-Ok-refuse-clause-ends : goal.returns-in-Ok-refuse-clause-ends
 returns-in-Ok-refuse-clause-ends g c k p one stands =
     let r = read_is incoming.TooLarge (g.S.Source.left c.args.source.now) (g.S.Source.left c.read_request.new.source) c.args.buffer.now c.read_request.new.buffer p.bytes c.in-TooLarge.ensures.is stands.bytes_are in
-    told_refused g.K0.Keeper.down g.K0.Keeper.in_flight k p c.args.left _ _ ends.TooLarge _ _ _ _ _ (λ h last x. x) one r.1.is_so stands c.in-Ok-refuse.ensures.written
+    told_refused c.args.desk.now k p c.args.left _ _ ends.TooLarge _ _ _ _ _ (λ h last x. x) one r.1.is_so stands c.in-Ok-refuse.ensures.written
 
 pub returns-in-Err-WriteFault-refuse-clause-ends : goal.returns-in-Err-WriteFault-refuse-clause-ends
 returns-in-Err-WriteFault-refuse-clause-ends g c k p one stands =
     let r = read_is incoming.TooLarge (g.S.Source.left c.args.source.now) (g.S.Source.left c.read_request.new.source) c.args.buffer.now c.read_request.new.buffer p.bytes c.in-TooLarge.ensures.is stands.bytes_are in
-    told_front g.K0.Keeper.down g.K0.Keeper.in_flight k p _ _ _ _ _ _ (inr (inr (r.1.is_so, refl, refl))) stands (c.in-Err-WriteFault-refuse.ensures.cut (ap Err c.in-Err-WriteFault-refuse.field-0-is))
+    told_front c.args.desk.now k p _ _ _ _ _ _ (inr (inr (r.1.is_so, refl, refl))) stands (c.in-Err-WriteFault-refuse.ensures.cut (ap Err c.in-Err-WriteFault-refuse.field-0-is))
 
 pub returns-in-ReadFault-clause-ends : goal.returns-in-ReadFault-clause-ends
-returns-in-ReadFault-clause-ends g c k p one stands = cut_short g.K0.Keeper.down g.K0.Keeper.in_flight k p _ _ _ _ stands
+returns-in-ReadFault-clause-ends g c k p one stands = cut_short c.args.desk.now k p _ _ _ _ stands

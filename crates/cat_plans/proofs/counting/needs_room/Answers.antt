@@ -1,4 +1,3 @@
-use Rattle.std.proofs.Common.{◌∙◌}
 use Rattle.std.proofs.lemmas.Result.{err_from_is_err_and}
 use Rattle.cat_plans.proofs.Room.{room_by}
 use Rattle.cat_plans.proofs.counting.needs_room.Goals as goal

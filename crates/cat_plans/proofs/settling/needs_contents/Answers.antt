@@ -1,4 +1,3 @@
-use Rattle.cat_plans.proofs.Settled
 use Rattle.cat_plans.proofs.Unexpired.{unexpired_gives, unexpired_set}
 use Rattle.cat_plans.proofs.settling.needs_contents.Goals as goal
 

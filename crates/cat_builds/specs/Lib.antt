@@ -1,0 +1,4 @@
+pub mod Ops
+pub mod Views
+pub mod Builds
+pub mod BuildLaws

@@ -1,0 +1,122 @@
+-- Laws of histories: logs that go on, what stays, what grows, and drafts that are new.
+use Rattle.std.proofs.Common.{◌≡◌, ℕ, ◌+◌, ◌<◌, ◌≤◌, max, List, [], ◌∷◌, ◌++◌, reverse, length, true, false, not, nat_eq, refl, sym, ap, ◌∙◌, append_assoc, ne_eqb, arith}
+use Rattle.std.specs.List.{list_any}
+use Rattle.std.proofs.Math.Nat.{le-max_left, le-max_right}
+use Rattle.std.proofs.lemmas.Bool.{or_right}
+use Rattle.std.proofs.lemmas.Grind.{reverse_onto}
+use Rattle.cat_model.specs.declared.log_entry.LogEntry.{LogEntry}
+use Rattle.cat_model.specs.Book.{Book}
+use Rattle.cat_model.specs.Later.{IsLater}
+use Rattle.cat_model.specs.State.{Digest}
+use Rattle.cat_checks.specs.Histories.{AreLegal, after_entry, book_after}
+use Rattle.cat_checks.specs.LeadingLaws.{legal_place, replayed_later, replayed_limits}
+use Rattle.cat_checks.specs.Legal.{draft_is_new}
+pub use Rattle.cat_checks.specs.LeadingLaws.{later_on, later_self, step_later}
+
+-- ---- logs that go on
+
+pub book_more : (digest : Digest) (b : Book) (xs ys : List LogEntry) → book_after digest b (xs ++ ys) ≡ book_after digest (book_after digest b xs) ys
+book_more digest b [] ys = refl
+book_more digest b (x ∷ xs) ys = book_more digest (after_entry digest b x) xs ys
+
+pub legal_more : (digest : Digest) (b : Book) (xs ys : List LogEntry) → AreLegal digest b xs → AreLegal digest (book_after digest b xs) ys → AreLegal digest b (xs ++ ys)
+legal_more digest b [] ys legal more = more
+legal_more digest b (x ∷ xs) ys legal more = (legal.0, legal_more digest (after_entry digest b x) xs ys legal.1 more)
+
+pub legal_front : (digest : Digest) (b : Book) (xs ys : List LogEntry) → AreLegal digest b (xs ++ ys) → AreLegal digest b xs
+legal_front digest b [] ys legal = tt
+legal_front digest b (x ∷ xs) ys legal = (legal.0, legal_front digest (after_entry digest b x) xs ys legal.1)
+
+pub legal_back : (digest : Digest) (b : Book) (xs ys : List LogEntry) → AreLegal digest b (xs ++ ys) → AreLegal digest (book_after digest b xs) ys
+legal_back digest b [] ys legal = legal
+legal_back digest b (x ∷ xs) ys legal = legal_back digest (after_entry digest b x) xs ys legal.1
+
+-- ---- what the book after them has
+
+-- the book's log has the newest first
+pub log_is : (digest : Digest) (b : Book) (xs : List LogEntry) → (book_after digest b xs).log ≡ reverse xs ++ b.log
+log_is digest b [] = refl
+log_is digest b (x ∷ xs) =
+    log_is digest (after_entry digest b x) xs
+    ∙ sym (ap (λ (l : List LogEntry). l ++ b.log) (reverse_onto xs x []) ∙ append_assoc (reverse xs) (x ∷ []) b.log)
+
+pub limits_stay : (digest : Digest) (b : Book) (xs : List LogEntry) → (book_after digest b xs).state.limits ≡ b.state.limits
+limits_stay digest b [] = refl
+limits_stay digest b (x ∷ xs) = limits_stay digest (after_entry digest b x) xs ∙ replayed_limits digest b x
+
+-- one place an entry
+pub place_is : (digest : Digest) (b : Book) (xs : List LogEntry) → AreLegal digest b xs → (book_after digest b xs).state.place ≡ b.state.place + length xs
+place_is digest b [] legal = omega arith
+place_is digest b (x ∷ xs) legal =
+    let rest : (book_after digest b (x ∷ xs)).state.place ≡ (after_entry digest b x).state.place + length xs = place_is digest (after_entry digest b x) xs legal.1 in
+    let first : (after_entry digest b x).state.place ≡ b.state.place + 1 = legal_place digest b x legal.0 in
+    omega arith
+
+-- nothing is taken away, whether or not the entries are legal
+pub entry_later : (digest : Digest) (b : Book) (e : LogEntry) → IsLater b.state (after_entry digest b e).state
+entry_later digest b e = replayed_later digest b e
+
+pub books_later : (digest : Digest) (b : Book) (xs : List LogEntry) → IsLater b.state (book_after digest b xs).state
+books_later digest b [] = later_self b.state
+books_later digest b (x ∷ xs) = later_on b.state (after_entry digest b x).state (book_after digest b (x ∷ xs)).state (entry_later digest b x) (books_later digest (after_entry digest b x) xs)
+
+-- ---- drafts
+
+-- no entry has a greater draft
+abbrev pub AreAtMost : ℕ → List LogEntry → Type 0
+AreAtMost n [] = Unit {0}
+AreAtMost n (e ∷ entries) = (e.draft ≤ n) × AreAtMost n entries
+
+pub at_most_more : (n m : ℕ) (entries : List LogEntry) → n ≤ m → AreAtMost n entries → AreAtMost m entries
+at_most_more n m [] more are = tt
+at_most_more n m (e ∷ entries) more are = let first : e.draft ≤ n = are.0 in (omega arith, at_most_more n m entries more are.1)
+
+pub at_most_both : (n : ℕ) (xs ys : List LogEntry) → AreAtMost n xs → AreAtMost n ys → AreAtMost n (xs ++ ys)
+at_most_both n [] ys p q = q
+at_most_both n (x ∷ xs) ys p q = (p.0, at_most_both n xs ys p.1 q)
+
+pub at_most_reverse : (n : ℕ) (xs : List LogEntry) → AreAtMost n xs → AreAtMost n (reverse xs)
+at_most_reverse n [] are = tt
+at_most_reverse n (x ∷ xs) are = rw (reverse_onto xs x []) (at_most_both n (reverse xs) (x ∷ []) (at_most_reverse n xs are.1) (are.0, tt))
+
+pub draft_grows : (digest : Digest) (b : Book) (xs : List LogEntry) → b.draft ≤ (book_after digest b xs).draft
+draft_grows digest b [] = omega arith
+draft_grows digest b (x ∷ xs) =
+    let first : b.draft ≤ max b.draft x.draft = le-max_left b.draft x.draft in
+    let rest : max b.draft x.draft ≤ (book_after digest b (x ∷ xs)).draft = draft_grows digest (after_entry digest b x) xs in
+    omega arith
+
+-- each entry's draft is at most the last draft number after them
+pub drafts_below : (digest : Digest) (b : Book) (xs : List LogEntry) → AreAtMost (book_after digest b xs).draft xs
+drafts_below digest b [] = tt
+drafts_below digest b (x ∷ xs) =
+    let first : x.draft ≤ max b.draft x.draft = le-max_right b.draft x.draft in
+    let rest : max b.draft x.draft ≤ (book_after digest b (x ∷ xs)).draft = draft_grows digest (after_entry digest b x) xs in
+    (omega arith, drafts_below digest (after_entry digest b x) xs)
+
+none_has : (n draft : ℕ) (log : List LogEntry) → AreAtMost n log → n < draft → list_any (λ entry. nat_eq draft entry.draft) log ≡ false
+none_has n draft [] are above = refl
+none_has n draft (e ∷ log) are above =
+    let low : e.draft ≤ n = are.0 in
+    let other : nat_eq draft e.draft ≡ false = ne_eqb draft e.draft (λ same. omega arith) in
+    rw (other, none_has n draft log are.1 above) refl
+
+-- a draft above them all is new, whichever entry comes first
+pub new_above : (n draft : ℕ) (log : List LogEntry) → AreAtMost n log → n < draft → draft_is_new log draft ≡ true
+new_above n draft log are above = or_right (nat_eq draft 0) _ (ap not (none_has n draft log are above))
+
+pub new_above_reversed : (n draft : ℕ) (log : List LogEntry) → AreAtMost n log → n < draft → draft_is_new (reverse log) draft ≡ true
+new_above_reversed n draft log are above = new_above n draft (reverse log) (at_most_reverse n log are) above
+
+-- no draft in a book's log is above its last draft number
+abbrev pub HasItsDrafts : Book → Type 0
+HasItsDrafts b = AreAtMost b.draft b.log
+
+pub drafts_stay_below : (digest : Digest) (b : Book) (xs : List LogEntry) → HasItsDrafts b → HasItsDrafts (book_after digest b xs)
+drafts_stay_below digest b [] has = has
+drafts_stay_below digest b (x ∷ xs) has =
+    drafts_stay_below digest (after_entry digest b x) xs (le-max_right b.draft x.draft, at_most_more b.draft (max b.draft x.draft) b.log (le-max_left b.draft x.draft) has)
+
+-- a draft above the last number is new in the book's log
+pub new_in_book : (digest : Digest) (b : Book) (xs : List LogEntry) (draft : ℕ) → HasItsDrafts b → (book_after digest b xs).draft < draft → draft_is_new (book_after digest b xs).log draft ≡ true
+new_in_book digest b xs draft has above = new_above (book_after digest b xs).draft draft (book_after digest b xs).log (drafts_stay_below digest b xs has) above

@@ -1,0 +1,62 @@
+-- What a session on a pass leaves of the store that its desk held.
+use Rattle.std.proofs.Common.{◌≡◌, ℕ, List, Option, Some, None, refl, sym, ◌∙◌, ap}
+use Rattle.std.specs.Prelude.{option_map}
+use Rattle.cat_io.specs.Causes.{Rose}
+use Rattle.cat_model.specs.Book.{Book}
+use Rattle.cat_model.specs.Mark.{FailedAppend, Mark}
+use Rattle.cat_model.specs.Turns.{Opened}
+use Rattle.cat_ledger.specs.Kept.{spelling}
+use Rattle.cat_core.specs.Stored.{Stored, opened_of}
+use Rattle.cat_desk.specs.Pass.{DeskId, mark_of}
+use Rattle.cat_desk.specs.declared.pass.Pass.{Pass}
+use Rattle.cat_work.specs.Passes.{book_of}
+use Rattle.cat_cli.specs.Sessions.{Readings, Fallen, Standing, IsAt, seen_failed, seen_fallen}
+use Rattle.cat_cli.specs.Stores.{IsLeftSo}
+
+-- the count and the payload of what is seen
+counts_failed : (f : Option FailedAppend) → option_map (λ (x : ℕ × List ℕ). x.0) (seen_failed f) ≡ option_map (λ (x : FailedAppend). x.count) f
+counts_failed None = refl
+counts_failed (Some x) = refl
+
+counts_fallen : (f : Option Fallen) → option_map (λ (x : ℕ × List ℕ). x.0) (seen_fallen f) ≡ option_map (λ (x : Fallen). x.count) f
+counts_fallen None = refl
+counts_fallen (Some x) = refl
+
+payloads_failed : (f : Option FailedAppend) → option_map (λ (x : ℕ × List ℕ). x.1) (seen_failed f) ≡ option_map (λ (x : FailedAppend). x.payload) f
+payloads_failed None = refl
+payloads_failed (Some x) = refl
+
+payloads_fallen : (f : Option Fallen) → option_map (λ (x : ℕ × List ℕ). x.1) (seen_fallen f) ≡ option_map (λ (x : Fallen). spelling x.entry) f
+payloads_fallen None = refl
+payloads_fallen (Some x) = refl
+
+counts : (f : Option FailedAppend) (fallen : Option Fallen) → seen_failed f ≡ seen_fallen fallen → option_map (λ (x : FailedAppend). x.count) f ≡ option_map (λ (x : Fallen). x.count) fallen
+counts f fallen is = sym (counts_failed f) ∙ ap (option_map (λ (x : ℕ × List ℕ). x.0)) is ∙ counts_fallen fallen
+
+payloads : (f : Option FailedAppend) (fallen : Option Fallen) → seen_failed f ≡ seen_fallen fallen → option_map (λ (x : FailedAppend). x.payload) f ≡ option_map (λ (x : Fallen). spelling x.entry) fallen
+payloads f fallen is = sym (payloads_failed f) ∙ ap (option_map (λ (x : ℕ × List ℕ). x.1)) is ∙ payloads_fallen fallen
+
+not_none : (count : ℕ) → ◌≡◌ {A = Option ℕ} None (Some count) → ⊥
+not_none count e = cc
+
+-- where the mark has a fault, the count of faults rose
+pub rose : (down : Option ℕ) (fault : Option FailedAppend) (before now : ℕ) → down ≡ option_map (λ (x : FailedAppend). x.count) fault → ((x : FailedAppend) → fault ≡ Some x → Rose before now)
+    → (count : ℕ) → down ≡ Some count → Rose before now
+rose down None before now is rises count fell = absurd (not_none count (sym is ∙ fell))
+rose down (Some x) before now is rises count fell = rises x refl
+
+-- the count of faults at which the store was opened is as it was
+pub began_on : {K : Type 0} (old new : Stored K) (opened : Opened) → opened ≡ opened_of old → opened_of new ≡ opened → new.began ≡ old.began
+began_on old new opened was is = ap (λ (x : Opened). x.faults) (is ∙ was)
+
+pub left_so : {K : Type 0} (down : K → Option ℕ) (in_flight : K → Option (List ℕ)) (desk : DeskId) (clock : Readings) (last : Standing) (pass : Pass) (ahead : Option Readings) (store : Stored K)
+    → IsAt desk clock last pass ahead → store.book ≡ book_of desk pass → store.mark ≡ mark_of pass
+    → down store.keeper ≡ option_map (λ (x : FailedAppend). x.count) store.mark.fault → in_flight store.keeper ≡ option_map (λ (x : FailedAppend). x.payload) store.mark.fault
+    → IsLeftSo down in_flight last store
+left_so down in_flight desk clock last pass ahead store at book mark fallen flies =
+    let seen : seen_failed store.mark.fault ≡ seen_fallen last.fallen = ap (λ (x : Mark). seen_failed x.fault) mark ∙ at.fault_is in
+    record {
+      log_is = ap (λ (x : Book). x.log) (book ∙ at.book_is);
+      down_is = fallen ∙ counts store.mark.fault last.fallen seen;
+      flies = flies ∙ payloads store.mark.fault last.fallen seen;
+    }

@@ -1,0 +1,30 @@
+use Rattle.std.proofs.Common.{ℕ, refl, subst}
+use Rattle.cat_io.specs.Causes.{Rose}
+use Rattle.cat_cli.specs.Runs.{start}
+use Rattle.cat_cli.proofs.Left.{began_on, left_so, rose}
+use Rattle.cat_cli.proofs.Standing.{alone_on}
+use Rattle.cat_cli.proofs.Starting.{started}
+use Rattle.cat_cli.proofs.scripting.hold_session.Goals as goal
+
+pub release-store-requires-clause-alone : goal.release-store-requires-clause-alone
+release-store-requires-clause-alone g c lives alive = alone_on c.in-Ok.desk c.in-Ok.pass _ c.run_session-end.ensures.kept c.in-Ok.ensures.ready.1
+
+pub returns-in-Ok-clause-ends : goal.returns-in-Ok-clause-ends
+returns-in-Ok-clause-ends g c clock b w a e f =
+    let ready = c.in-Ok.ensures.ready in
+    let begins = started c.in-Ok.desk c.in-Ok.pass c.args.store.book c.args.store.mark _ _ _ clock b w ready.0 ready.1 ready.2 c.in-Ok.ensures.book c.in-Ok.ensures.mark c.requires.up a e f in
+    let x = c.run_session-end.ensures.ends clock (start c.args.store.book b w) refl begins in (
+      x.0,
+      x.1,
+      x.2,
+      x.3,
+      left_so g.K0.Keeper.down g.K0.Keeper.in_flight c.in-Ok.desk clock x.2 c.run_session-end.new.pass _ c.release-store.result x.4 c.release-store.ensures.book c.release-store.ensures.mark
+          c.log_is_kept.ensures.fallen c.log_is_kept.ensures.flies,
+    )
+
+pub returns-in-Ok-clause-rose : goal.returns-in-Ok-clause-rose
+returns-in-Ok-clause-rose g c count fell =
+    let store = c.release-store.result in
+    let began = began_on c.args.store store _ c.in-Ok.ensures.opened c.release-store.ensures.opened in
+    subst (λ (n : ℕ). Rose n (g.K0.Keeper.faults store.keeper)) began
+    (rose (g.K0.Keeper.down store.keeper) store.mark.fault store.began (g.K0.Keeper.faults store.keeper) c.log_is_kept.ensures.fallen c.log_is_kept.ensures.rose count fell)

@@ -1,0 +1,185 @@
+-- What a store answers and leaves by what a call made in its ledger.
+use Rattle.std.proofs.Common.{◌≡◌, ◌≤◌, ℕ, arith, List, [], ◌∷◌, ◌++◌, Option, Some, None, Result, Ok, Err, IfErr, false, refl, sym, ap, subst, ◌∙◌}
+use Rattle.std.specs.Option.{option_map}
+use Rattle.std.specs.Prelude.{IfSome}
+use Rattle.cat_io.specs.Causes.{Rose}
+use Rattle.sha2.specs.Sha256.{sha256}
+use Rattle.cat_model.specs.declared.log_entry.LogEntry.{LogEntry}
+use Rattle.cat_model.specs.declared.refusal.Refusal.{Refusal}
+use Rattle.cat_model.specs.declared.refusal.Refusal.TheVariants.{BadRequest, RefNotFound, RefExists, ContentNotFound, Conflicts, Expired, RetriesSpent, SweepOpen, Limit, Collision, Fault, Down, NoMemory, NoRoute, WrongMethod, TooLarge, Encoding}
+use Rattle.cat_model.specs.declared.refusal.Refused.{Refused}
+use Rattle.cat_model.specs.declared.reply.Told.{Told}
+use Rattle.cat_model.specs.Book.{Book, after_call}
+use Rattle.cat_model.specs.Calls.{Called}
+use Rattle.cat_model.specs.Drafts as drafts
+use Rattle.cat_model.specs.Drafts.{Open}
+use Rattle.cat_model.specs.Mark.{FailedAppend}
+use Rattle.cat_model.specs.State.{State}
+use Rattle.cat_plans.specs.Expiring.{is_expired}
+use Rattle.cat_state.specs.declared.failure.Failure.TheVariants as failures
+use Rattle.cat_ledger.specs.declared.unmade.Unmade.{Unmade}
+use Rattle.cat_ledger.specs.declared.unmade.Unmade.TheVariants.{Failed, NotKept}
+use Rattle.cat_ledger.specs.Kept.{Keeps, Leaves, spelling}
+use Rattle.cat_ledger.specs.Making.{Runs, unmade_expired}
+use Rattle.cat_ledger.specs.PlainLaws.{IsOther}
+use Rattle.cat_core.specs.declared.tickets.Fallen.{Fallen}
+use Rattle.cat_core.specs.declared.tickets.OpenDraft.{OpenDraft}
+use Rattle.cat_core.specs.declared.tickets.Ticket.{Ticket}
+use Rattle.cat_core.specs.Drafts.{IsRefused, Refers, Refuses}
+use Rattle.cat_core.specs.Kept.{IsTold}
+use Rattle.cat_core.specs.Made.{fallen_by, told_at}
+use Rattle.cat_core.specs.Stored.{IsDownAt, IsUp, MayBeDown, Stored, failed, held_mark, held_open}
+use Rattle.cat_core.proofs.InStep.{LogsRight}
+use Rattle.cat_core.proofs.Keeping.{keeps_told, leaves_made}
+use Rattle.cat_core.proofs.Sound.{Brings, IsCallIn}
+
+-- ---- refusals
+
+pub refuses : {K : Type 0} (called : Called) (caller : ℕ) (s : Stored K) (r : Refused) (s' : Stored K) (left_open : Open) (why : Refusal) → IsOther why → is_expired why ≡ false → IsRefused called s r s' left_open → Refuses called caller s r why s' left_open
+refuses called caller s r s' left_open (BadRequest x) other there is = is
+refuses called caller s r s' left_open RefNotFound other there is = is
+refuses called caller s r s' left_open RefExists other there is = is
+refuses called caller s r s' left_open (ContentNotFound x) other there is = is
+refuses called caller s r s' left_open (Conflicts x) other there is = is
+refuses called caller s r s' left_open (Expired x y) other there is = absurd cc
+refuses called caller s r s' left_open (RetriesSpent x) other there is = is
+refuses called caller s r s' left_open (SweepOpen x) other there is = is
+refuses called caller s r s' left_open (Limit x y) other there is = is
+refuses called caller s r s' left_open (Collision x y z) other there is = is
+refuses called caller s r s' left_open Fault other there is = absurd cc
+refuses called caller s r s' left_open (Down x) other there is = absurd cc
+refuses called caller s r s' left_open NoMemory other there is = absurd cc
+refuses called caller s r s' left_open NoRoute other there is = is
+refuses called caller s r s' left_open (WrongMethod x) other there is = is
+refuses called caller s r s' left_open TooLarge other there is = is
+refuses called caller s r s' left_open Encoding other there is = is
+
+-- ---- what is in flight
+
+pub up_of : (x : FailedAppend) → None ≡ Some x → ⊥
+up_of x e = cc
+
+some_of : (a b : FailedAppend) → Some a ≡ Some b → a ≡ b
+some_of a b e = cc
+
+module _ {K : Type 0} (down : K → Option ℕ) (in_flight : K → Option (List ℕ)) (flies : (k : K) (c : ℕ) → down k ≡ Some c → (p : List ℕ) × (in_flight k ≡ Some p)) (waits : (k : K) → down k ≡ None → in_flight k ≡ None) where
+  -- where an append has failed, the mark tells it
+  fell_as : (k : K) (f : Fallen) → down k ≡ Some f.count → (x : FailedAppend) × (failed (Some f) (in_flight k) ≡ Some x) × (x.count ≡ f.count) × (in_flight k ≡ Some x.payload)
+  fell_as k f is =
+      let p = flies k f.count is in
+      (record { caller = f.caller; count = f.count; payload = p.0 }, ap (failed (Some f)) p.1, refl, p.1)
+
+  pub up_here : (k : K) (fallen : Option Fallen) → down k ≡ option_map (λ (f : Fallen). f.count) fallen → failed fallen (in_flight k) ≡ None → fallen ≡ None
+  up_here k None is up = refl
+  up_here k (Some f) is up = let x = fell_as k f is in absurd (up_of x.0 (sym up ∙ x.1))
+
+  pub up_inside : (k : K) (fallen : Option Fallen) → down k ≡ option_map (λ (f : Fallen). f.count) fallen → (s x : Stored K) → s ≡ x → failed fallen (in_flight k) ≡ s.mark.fault → IsUp x → fallen ≡ None
+  up_inside k fallen is s x same fault up = up_here k fallen is (fault ∙ ap (λ (z : Stored K). z.mark.fault) same ∙ up)
+
+  pub up_seen : (fallen : Option Fallen) (s x : Stored K) → s ≡ x → down s.keeper ≡ option_map (λ (f : Fallen). f.count) fallen → failed fallen (in_flight s.keeper) ≡ s.mark.fault → IsUp x → down x.keeper ≡ None
+  up_seen fallen s x same is fault up =
+      subst (λ (z : Stored K). down z.keeper ≡ None) same (is ∙ ap (option_map (λ (f : Fallen). f.count)) (up_inside s.keeper fallen is s x same fault up))
+
+  pub may_be_down : (k : K) (s : Stored K) (fallen : Option Fallen) → down k ≡ option_map (λ (f : Fallen). f.count) fallen → s.mark.fault ≡ failed fallen (in_flight k) → MayBeDown s (option_map (λ (f : Fallen). f.count) fallen)
+  may_be_down k s None is fault = fault
+  may_be_down k s (Some f) is fault = let x = fell_as k f is in (x.0, fault ∙ x.1, x.2)
+
+  -- it is down at the count of the one that fell
+  pub down_at_fallen : (k : K) (f : Fallen) (fallen : Option Fallen) (fault : Option FailedAppend) → fallen ≡ Some f → down k ≡ option_map (λ (f : Fallen). f.count) fallen → fault ≡ failed fallen (in_flight k) → (x : FailedAppend) × (fault ≡ Some x) × (x.count ≡ f.count)
+  down_at_fallen k f fallen fault some is same =
+      let x = fell_as k f (is ∙ ap (option_map (λ (f : Fallen). f.count)) some) in
+      (x.0, same ∙ ap (λ (g : Option Fallen). failed g (in_flight k)) some ∙ x.1, x.2)
+
+  pub tells_down : (k : K) (fallen : Option Fallen) → down k ≡ option_map (λ (f : Fallen). f.count) fallen → down k ≡ option_map (λ (x : FailedAppend). x.count) (failed fallen (in_flight k))
+  tells_down k None is = is
+  tells_down k (Some f) is = let x = fell_as k f is in is ∙ sym (ap (λ (n : ℕ). Some n) x.2) ∙ sym (ap (option_map (λ (x : FailedAppend). x.count)) x.1)
+
+  pub tells_flight : (k : K) (fallen : Option Fallen) → down k ≡ option_map (λ (f : Fallen). f.count) fallen → in_flight k ≡ option_map (λ (x : FailedAppend). x.payload) (failed fallen (in_flight k))
+  tells_flight k None is = waits k is
+  tells_flight k (Some f) is = let x = fell_as k f is in x.3 ∙ sym (ap (option_map (λ (x : FailedAppend). x.payload)) x.1)
+
+pub down_none : {K : Type 0} (down : K → Option ℕ) (k : K) (fallen : Option Fallen) → down k ≡ option_map (λ (f : Fallen). f.count) fallen → fallen ≡ None → down k ≡ None
+down_none down k fallen is none = is ∙ ap (option_map (λ (f : Fallen). f.count)) none
+
+pub rose_at : (began now : ℕ) (fallen : Option Fallen) (flight : Option (List ℕ)) → IfSome fallen (λ f. Rose began now) → (x : FailedAppend) → failed fallen flight ≡ Some x → Rose began now
+rose_at began now None flight rose x is = absurd (up_of x is)
+rose_at began now (Some f) flight rose x is = rose
+
+-- ---- calls
+
+module _ {K : Type 0} (told : K → Option (List (List ℕ))) (kept : K → ℕ) (down : K → Option ℕ) (in_flight : K → Option (List ℕ)) (faults : K → ℕ) (moment : K → ℕ) (left_since : K → ℕ → Option (List (List ℕ)) → Type 0) (may_leave : K → Option (List (List ℕ)) → Type 0)
+    (safe : (k : K) (ps : List (List ℕ)) (c : Option (List (List ℕ))) → down k ≡ None → told k ≡ Some ps → may_leave k c → c ≡ Some ps)
+    (only_now : (k : K) (c : Option (List (List ℕ))) → left_since k (moment k) c → may_leave k c) where
+  -- a store as it is held
+  abbrev pub stored_at : Book → K → Option Fallen → ℕ → Option Ticket → List OpenDraft → ℕ → Stored K
+  stored_at book keeper fallen drafter dropped held began = record { book = book; keeper = keeper; mark = held_mark book.draft drafter dropped (failed fallen (in_flight keeper)); left_open = held_open held; began = began }
+
+  module _ (caller : ℕ) (before after : Book) (old new : K) (drafter : ℕ) (dropped : Option Ticket) (held : List OpenDraft) (began : ℕ) (call : Book → Called) (right : LogsRight (call before)) (number : ℕ) (is : IsCallIn caller number before (call before)) where
+    abbrev called : Called
+    called = call before
+
+    abbrev s : Stored K
+    s = stored_at before old None drafter dropped held began
+
+    abbrev left : Option Fallen → Stored K
+    left fallen = stored_at after new fallen drafter dropped held began
+
+    -- the book is as it was
+    stays_as : after ≡ before → left None ≡ record s { keeper = new; left_open = s.left_open }
+    stays_as same = λ i. stored_at (same i) new None drafter dropped held began
+
+    goes_as : after ≡ after_call before called → left None ≡ record s { book = after_call before called; keeper = new; left_open = s.left_open }
+    goes_as same =
+        let n : after.draft ≡ before.draft = ap (λ (b : Book). b.draft) same ∙ is.draft in
+        λ i. record { book = same i; keeper = new; mark = held_mark (n i) drafter dropped None; left_open = held_open held; began = began }
+
+    as_before : after.state ≡ before.state → after.log ≡ before.log → after.draft ≡ before.draft → after ≡ before
+    as_before state log draft = λ i. record { state = state i; draft = draft i; log = log i }
+
+    falls_as : (payload : List ℕ) → in_flight new ≡ Some payload → after ≡ before
+        → left (Some (record { caller = caller; count = faults new })) ≡ record s { keeper = new; mark = record (s.mark) { fault = Some (record { caller = caller; count = faults new; payload = payload }) }; left_open = s.left_open }
+    falls_as payload flies same = λ i. record { book = same i; keeper = new; mark = held_mark (same i).draft drafter dropped (failed (Some (record { caller = caller; count = faults new })) (flies i)); left_open = held_open held; began = began }
+
+    refers_as : (made : Result Told Unmade) → Runs called before after made → Keeps told kept down in_flight faults moment left_since may_leave old new called.logged made → IfErr made (λ why. unmade_expired why ≡ false)
+        → Refers called caller s (left (fallen_by caller (faults new) None made)) (told_at before.state.place made)
+    refers_as (Ok told_is) runs keeps there = record { up = refl; said = runs.said; after = goes_as runs.book }
+    refers_as (Err NotKept) runs keeps there = record {
+      up = refl;
+      place = refl;
+      entry = keeps.entry;
+      logged = keeps.one;
+      fault = record { caller = caller; count = faults new; payload = spelling keeps.entry };
+      caller_is = refl;
+      payload = refl;
+      after = falls_as (spelling keeps.entry) keeps.flies (as_before runs.state runs.log (runs.draft ∙ is.draft));
+    }
+    refers_as (Err (Failed failures.NoMemory)) runs keeps there =
+        let low : before.draft ≤ after.draft = runs.kept in
+        let high : after.draft ≤ before.draft = subst (λ (n : ℕ). after.draft ≤ n) is.draft runs.taken in
+        let n : after.draft ≡ before.draft = omega arith in
+        (refl, stays_as (as_before runs.state runs.log n))
+    refers_as (Err (Failed (failures.Refused why))) runs keeps there =
+        let none : called.logged ≡ [] = right.none _ runs.1.said in
+        let state : after.state ≡ before.state = ap (λ (b : Book). b.state) runs.1.book ∙ subst (λ (l : List LogEntry). Brings caller number before l called.state) none is.brings in
+        let log : after.log ≡ before.log = ap (λ (b : Book). b.log) runs.1.book ∙ ap (λ (l : List LogEntry). l ++ before.log) none in
+        let draft : after.draft ≡ before.draft = ap (λ (b : Book). b.draft) runs.1.book ∙ is.draft in
+        refuses called caller s _ (left None) s.left_open why runs.0 there (record { up = refl; said = runs.1.said; none = none; after = stays_as (as_before state log draft) })
+
+    -- all that is told
+    pub all_told : (fallen after_fallen : Option Fallen) (x y : Stored K) (place : ℕ) (made : Result Told Unmade) (result : Result Told Refused) → fallen ≡ None → after_fallen ≡ fallen_by caller (faults new) fallen made
+        → stored_at before old fallen drafter dropped held began ≡ x → left after_fallen ≡ y → place ≡ before.state.place → result ≡ told_at place made → down old ≡ None
+        → Runs called before after made → Keeps told kept down in_flight faults moment left_since may_leave old new called.logged made → IfErr made (λ why. unmade_expired why ≡ false)
+        → IsTold told kept down in_flight faults moment left_since may_leave caller x y (call x.book) result
+    all_told fallen after_fallen x y place made result none fell x_is y_is place_is result_is up runs keeps there =
+        let ended : Stored K = left (fallen_by caller (faults new) None made) in
+        let whole : IsTold told kept down in_flight faults moment left_since may_leave caller s ended (call before) (told_at before.state.place made) = record {
+          refers = refers_as made runs keeps there;
+          keeps = keeps_told told kept down in_flight faults moment left_since may_leave safe only_now old new called before after before.state.place made runs keeps;
+          crash = leaves_made told kept down in_flight faults moment left_since may_leave safe only_now old new called.logged made up keeps;
+        } in
+        let answer : told_at before.state.place made ≡ result = ap (λ (p : ℕ). told_at p made) (sym place_is) ∙ sym result_is in
+        let last : ended ≡ y = ap left (sym (fell ∙ ap (λ (f : Option Fallen). fallen_by caller (faults new) f made) none)) ∙ y_is in
+        let first : s ≡ x = ap (λ (f : Option Fallen). stored_at before old f drafter dropped held began) (sym none) ∙ x_is in
+        subst (λ (z : Stored K). IsTold told kept down in_flight faults moment left_since may_leave caller z y (call z.book) result) first
+        (subst (λ (z : Stored K). IsTold told kept down in_flight faults moment left_since may_leave caller s z (call before) result) last
+        (subst (λ (r : Result Told Refused). IsTold told kept down in_flight faults moment left_since may_leave caller s ended (call before) r) answer whole))

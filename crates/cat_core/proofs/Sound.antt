@@ -1,0 +1,275 @@
+-- Books that their logs lead to: what a call brings leads them on.
+use Rattle.std.proofs.Common.{◌≡◌, ◌≤◌, ◌<◌, ◌⊎◌, ℕ, ◌+◌, max, List, [], ◌∷◌, ◌++◌, reverse, Option, Some, None, Result, Ok, Err, Bool, true, false, not, ◌&&◌, cond, if◌then◌else◌, nat_eq, nat_lt, refl, sym, ap, ap₂, ◌∙◌, subst, arith, ne_eqb}
+use Rattle.std.proofs.lemmas.List.{append-nil, reverse-append, reverse-reverse}
+use Rattle.std.proofs.Math.Nat.{le-max_left, le-max_right}
+use Rattle.cat_codes.specs.ListLaws.{and_true}
+use Rattle.sha2.specs.Sha256.{sha256}
+use Rattle.cat_checks.specs.AcceptedLaws.{accepted_is_legal}
+use Rattle.cat_checks.specs.Histories.{AreLegal, IsLegalFrom, after_entry, begun, book_after, book_at}
+use Rattle.cat_checks.specs.HistoryLaws.{AreAtMost, at_most_more, book_more, legal_more, limits_stay, log_is}
+use Rattle.cat_checks.specs.Legal.{draft_after, draft_is_new, has_its_draft, is_just, is_legal, replayed_by, replayed_call, turn_of}
+use Rattle.cat_model.specs.declared.command.Command.{Command}
+use Rattle.cat_model.specs.declared.limits.Limits.{Limits}
+use Rattle.cat_model.specs.declared.log_entry.LogEntry.{LogEntry}
+use Rattle.cat_model.specs.declared.reply.Reply.{Reply}
+use Rattle.cat_model.specs.Book.{Book, after_call, call_on, first_book}
+use Rattle.cat_model.specs.Calls.{Called, call, entry_made, needs_draft, opened_call, stepped, tested_call, unchanged_by}
+use Rattle.cat_model.specs.Drafts.{OpenDraft}
+use Rattle.cat_model.specs.Refusing.{◌>>=◌, Outcome, Tested}
+use Rattle.cat_model.specs.State.{State, first_state}
+use Rattle.cat_model.specs.Step.{Turn, opening, opens_draft, step}
+use Rattle.cat_model.specs.Turns.{Opened}
+use Rattle.cat_model.specs.WellMade.{is_well_made}
+use Rattle.cat_ledger.specs.declared.logging.Turn as ledger
+use Rattle.cat_ledger.specs.declared.occasion.Occasion.{Occasion}
+use Rattle.cat_ledger.specs.Occasions.{left_on, made_on, opened_on, turn_on, turned}
+use Rattle.cat_core.proofs.Waiting.{waiting_on}
+use Rattle.cat_core.specs.Stored.{AreWaiting, IsNumberOfNone, IsSound}
+
+-- ---- whether an entry is legal has nothing to do with the last draft number
+
+abbrev SameLogged : Called → Called → Type 0
+SameLogged a b = (a.logged ≡ b.logged) × (a.state ≡ b.state)
+
+same_choice : (b : Bool) (x x' y y' : Called) → SameLogged x x' → SameLogged y y' → SameLogged (if b then x else y) (if b then x' else y')
+same_choice true x x' y y' p q = p
+same_choice false x x' y y' p q = q
+
+same_stepped : (state : State) (a b : ℕ) (command : Command) (turn : Turn) (outcome : Outcome) → SameLogged (stepped sha256 0 state a command turn outcome) (stepped sha256 0 state b command turn outcome)
+same_stepped state a b command turn (Err why) = (refl, refl)
+same_stepped state a b command turn (Ok (after, reply)) = same_choice (nat_lt state.place after.place) _ _ _ _ (refl, refl) (refl, refl)
+
+same_tested : (state : State) (a b : ℕ) (log : List LogEntry) (e : LogEntry) (t : Tested)
+    → SameLogged (replayed_by sha256 (record { state = state; draft = a; log = log }) e t) (replayed_by sha256 (record { state = state; draft = b; log = log }) e t)
+same_tested state a b log e (Err why) = (refl, refl)
+same_tested state a b log e (Ok u) = same_stepped state (max a e.draft) (max b e.draft) e.command _ (step sha256 state e.command _)
+
+same_replayed : (state : State) (a b : ℕ) (log : List LogEntry) (e : LogEntry)
+    → SameLogged (replayed_call sha256 (record { state = state; draft = a; log = log }) e) (replayed_call sha256 (record { state = state; draft = b; log = log }) e)
+unfolding replayed_call
+same_replayed state a b log e = same_tested state a b log e (opening sha256 state e.command)
+
+abbrev SameLegal : Book → Book → LogEntry → Type 0
+SameLegal x y e = (is_legal sha256 x e ≡ is_legal sha256 y e) × ((replayed_call sha256 x e).state ≡ (replayed_call sha256 y e).state)
+
+same_legal : (state : State) (a b : ℕ) (log : List LogEntry) (e : LogEntry) → SameLegal (record { state = state; draft = a; log = log }) (record { state = state; draft = b; log = log }) e
+unfolding is_legal
+same_legal state a b log e =
+    let same = same_replayed state a b log e in
+    (ap (λ (l : List LogEntry). is_well_made sha256 e.command && (if opens_draft e.command then not (nat_eq e.draft 0) else nat_eq e.draft 0) && draft_is_new log e.draft && is_just sha256 e l) same.0, same.1)
+
+legal_alike : (x y : Book) (e : LogEntry) → x.state ≡ y.state → x.log ≡ y.log → SameLegal x y e
+legal_alike x y e state log =
+    subst (λ (s : State). SameLegal x (record y { state = s }) e) state
+    (subst (λ (l : List LogEntry). SameLegal x (record { state = x.state; draft = y.draft; log = l }) e) log (same_legal x.state x.draft y.draft x.log e))
+
+-- ---- one entry more
+
+abbrev start : Limits → ℕ → Opened
+start limits faults = record { state = first_state sha256 limits; draft = 0; faults = faults }
+
+-- a book that its log leads to from the empty catalogue
+abbrev pub IsLed : Limits → ℕ → Book → Type 0
+IsLed limits faults book = IsLegalFrom (start limits faults) (reverse book.log) × ((book_at (start limits faults) (reverse book.log)).state ≡ book.state)
+
+turned_log : (e : LogEntry) (log : List LogEntry) → reverse (e ∷ log) ≡ reverse log ++ e ∷ []
+turned_log e log = reverse-append (e ∷ []) log
+
+-- the log of the book that it leads to
+own_log : (limits : Limits) (faults : ℕ) (log : List LogEntry) → (book_at (start limits faults) (reverse log)).log ≡ log
+own_log limits faults log = log_is sha256 (begun (start limits faults)) (reverse log) ∙ append-nil _ ∙ reverse-reverse log
+
+pub led_on : (limits : Limits) (faults : ℕ) (book : Book) (e : LogEntry) (after : State) (draft : ℕ) → IsLed limits faults book → is_legal sha256 book e ≡ true → (replayed_call sha256 book e).state ≡ after
+    → IsLed limits faults (record { state = after; draft = draft; log = e ∷ book.log })
+led_on limits faults book e after draft led legal leads =
+    let from = begun (start limits faults) in
+    let at : Book = book_at (start limits faults) (reverse book.log) in
+    let same : SameLegal at book e = legal_alike at book e led.1 (own_log limits faults book.log) in
+    let there : is_legal sha256 at e ≡ true = same.0 ∙ legal in
+    let all : AreLegal sha256 from (reverse book.log ++ e ∷ []) = legal_more sha256 from (reverse book.log) (e ∷ []) led.0 (there, tt) in
+    let state : (book_after sha256 from (reverse book.log ++ e ∷ [])).state ≡ after = ap (λ (b : Book). b.state) (book_more sha256 from (reverse book.log) (e ∷ [])) ∙ same.1 ∙ leads in
+    subst (λ (l : List LogEntry). AreLegal sha256 from l × ((book_after sha256 from l).state ≡ after)) (sym (turned_log e book.log)) (all, state)
+
+limits_same : (book : Book) (e : LogEntry) (after : State) → (replayed_call sha256 book e).state ≡ after → after.limits ≡ book.state.limits
+limits_same book e after leads = sym (ap (λ (s : State). s.limits) leads) ∙ limits_stay sha256 book (e ∷ [])
+
+pub sound_on : (book : Book) (faults : ℕ) (left_open ds : List OpenDraft) (e : LogEntry) (after : State) → IsSound book faults left_open → is_legal sha256 book e ≡ true → (replayed_call sha256 book e).state ≡ after → e.draft ≤ book.draft → AreWaiting book.draft book.log ds → IsNumberOfNone e.draft ds
+    → IsSound (record { state = after; draft = book.draft; log = e ∷ book.log }) faults ds
+sound_on book faults left_open ds e after sound legal leads low waiting none =
+    let led : IsLed after.limits faults (record { state = after; draft = book.draft; log = e ∷ book.log }) =
+    subst (λ (l : Limits). IsLed l faults (record { state = after; draft = book.draft; log = e ∷ book.log })) (sym (limits_same book e after leads)) (led_on book.state.limits faults book e after book.draft (sound.legal, sound.led) legal leads) in
+    record { legal = led.0; led = led.1; taken = (low, sound.taken); waiting = waiting_on book.draft book.log e ds none waiting }
+
+-- ---- what a call brings
+
+-- an entry of its caller in its draft that is legal and leads to the state; or none, and the state stays
+pub record BringsOne (caller number : ℕ) (book : Book) (e : LogEntry) (after : State) : Type 0 where
+  pub caller_is : e.caller ≡ caller
+  pub draft_is : e.draft ≡ number
+  pub legal : is_legal sha256 book e ≡ true
+  pub leads : (replayed_call sha256 book e).state ≡ after
+
+abbrev pub Brings : ℕ → ℕ → Book → List LogEntry → State → Type 0
+Brings caller number book [] after = after ≡ book.state
+Brings caller number book (e ∷ []) after = BringsOne caller number book e after
+Brings caller number book (e ∷ f ∷ more) after = ⊥
+
+pub record IsCallIn (caller number : ℕ) (book : Book) (called : Called) : Type 0 where
+  pub draft : called.draft ≡ book.draft
+  pub brings : Brings caller number book called.logged called.state
+
+brings_choice : (caller number : ℕ) (book : Book) (b test : Bool) (x y : Called) → test ≡ b → (test ≡ true → Brings caller number book x.logged x.state) → Brings caller number book y.logged y.state
+    → Brings caller number book (if b then x else y).logged (if b then x else y).state
+brings_choice caller number book true test x y is p q = p is
+brings_choice caller number book false test x y is p q = q
+
+draft_choice : (b : Bool) (x y : Called) (draft : ℕ) → x.draft ≡ draft → y.draft ≡ draft → (if b then x else y).draft ≡ draft
+draft_choice true x y draft p q = p
+draft_choice false x y draft p q = q
+
+stepped_draft : (caller : ℕ) (state : State) (draft : ℕ) (command : Command) (turn : Turn) (outcome : Outcome) → (stepped sha256 caller state draft command turn outcome).draft ≡ draft
+stepped_draft caller state draft command turn (Err why) = refl
+stepped_draft caller state draft command turn (Ok (after, reply)) = draft_choice (nat_lt state.place after.place) _ (unchanged_by state draft (Ok reply)) draft refl refl
+
+module _ (caller : ℕ) (book : Book) (command : Command) (turn : Turn) (made : is_well_made sha256 command ≡ true) (own : (if opens_draft command then not (nat_eq turn.draft 0) else nat_eq turn.draft 0) ≡ true) (new : draft_is_new book.log turn.draft ≡ true) where
+  accepted_brings : (after : State) (reply : Reply) → step sha256 book.state command turn ≡ Ok (after, reply) → nat_lt book.state.place after.place ≡ true → BringsOne caller turn.draft book (entry_made sha256 caller after command turn reply) after
+  unfolding entry_made
+  accepted_brings after reply e rose =
+      let legal = accepted_is_legal caller book command turn after reply made own new e rose in
+      record { caller_is = refl; draft_is = refl; legal = legal.0; leads = legal.1 }
+
+  -- a step that was made
+  stepped_logs : (draft : ℕ) (outcome : Outcome) → step sha256 book.state command turn ≡ outcome → Brings caller turn.draft book (stepped sha256 caller book.state draft command turn outcome).logged (stepped sha256 caller book.state draft command turn outcome).state
+  stepped_logs draft (Err why) e = refl
+  stepped_logs draft (Ok (after, reply)) e = brings_choice caller turn.draft book (nat_lt book.state.place after.place) (nat_lt book.state.place after.place) _ (unchanged_by book.state draft (Ok reply)) refl (accepted_brings after reply e) refl
+
+  stepped_brings : (draft : ℕ) → draft ≡ book.draft → IsCallIn caller turn.draft book (stepped sha256 caller book.state draft command turn (step sha256 book.state command turn))
+  stepped_brings draft same = record { draft = stepped_draft caller book.state draft command turn (step sha256 book.state command turn) ∙ same; brings = stepped_logs draft (step sha256 book.state command turn) refl }
+
+greatest : (a b : ℕ) → b ≤ a → max a b ≡ a
+greatest a b h = omega (arith, h)
+
+above_zero : (n : ℕ) → 0 < n → nat_eq n 0 ≡ false
+above_zero n h = ne_eqb n 0 (λ e. omega arith)
+
+-- a call in its draft
+module _ (caller number moment : ℕ) (book : Book) (command : Command) (made : is_well_made sha256 command ≡ true) (opens : opens_draft command ≡ true) (above : 0 < number) (below : number ≤ book.draft) (new : draft_is_new book.log number ≡ true) where
+  abbrev its_turn : ledger.Turn
+  its_turn = record { caller = caller; draft = number; moment = moment }
+
+  abbrev its_occasion : Occasion
+  its_occasion = record { caller = caller; moment = moment; draft = Some number }
+
+  numbered : (if opens_draft command then not (nat_eq number 0) else nat_eq number 0) ≡ true
+  numbered = rw (opens, above_zero number above) refl
+
+  tested_brings : (t : Tested) → IsCallIn caller number book (opened_on book its_turn command t)
+  tested_brings (Err why) = record { draft = refl; brings = refl }
+  tested_brings (Ok u) = stepped_brings caller book command _ made numbered new (max book.draft number) (greatest book.draft number below)
+
+  pub made_brings : IsCallIn caller number book (made_on book its_occasion command)
+  unfolding made_on
+  made_brings = rw opens (tested_brings (opening sha256 book.state command >>= λ _. left_on book (Some number) true))
+
+-- a call that opens none
+module _ (caller moment : ℕ) (book : Book) (command : Command) (made : is_well_made sha256 command ≡ true) (opens : opens_draft command ≡ false) where
+  unnumbered : (if opens_draft command then not (nat_eq 0 0) else nat_eq 0 0) ≡ true
+  unnumbered = rw opens refl
+
+  plain_brings : (t : Tested) → IsCallIn caller 0 book (tested_call sha256 caller book.state book.draft command moment t)
+  plain_brings (Err why) = record { draft = refl; brings = refl }
+  plain_brings (Ok u) = rw opens (stepped_brings caller book command (record { draft = 0; opened = book.state.place; moment = moment }) made unnumbered refl book.draft refl)
+
+  pub call_brings : IsCallIn caller 0 book (call_on sha256 caller book command moment)
+  unfolding call
+  call_brings = plain_brings (opening sha256 book.state command >>= λ _. needs_draft book.state book.draft (opens_draft command))
+
+-- ---- the book after it
+
+-- other drafts are open
+pub sound_with : (book : Book) (faults : ℕ) (left_open ds : List OpenDraft) → IsSound book faults left_open → AreWaiting book.draft book.log ds → IsSound book faults ds
+sound_with book faults left_open ds sound waiting = record { legal = sound.legal; led = sound.led; taken = sound.taken; waiting = waiting }
+
+module _ (caller number : ℕ) (book : Book) (faults : ℕ) (left_open ds : List OpenDraft) (sound : IsSound book faults left_open) (below : number ≤ book.draft) (waiting : AreWaiting book.draft book.log ds) (none : IsNumberOfNone number ds) where
+  sound_by : (logged : List LogEntry) (after : State) (draft : ℕ) → draft ≡ book.draft → Brings caller number book logged after → IsSound (record { state = after; draft = draft; log = logged ++ book.log }) faults ds
+  sound_by [] after draft same brings =
+      subst (λ (s : State). IsSound (record { state = s; draft = draft; log = book.log }) faults ds) (sym brings)
+      (subst (λ (n : ℕ). IsSound (record book { draft = n }) faults ds) (sym same) (sound_with book faults left_open ds sound waiting))
+  sound_by (e ∷ []) after draft same brings =
+      let n : e.draft ≡ number = brings.draft_is in
+      subst (λ (n : ℕ). IsSound (record { state = after; draft = n; log = e ∷ book.log }) faults ds) (sym same)
+      (sound_on book faults left_open ds e after sound brings.legal brings.leads (subst (λ (n : ℕ). n ≤ book.draft) (sym n) below) waiting (subst (λ (n : ℕ). IsNumberOfNone n ds) (sym n) none))
+  sound_by (e ∷ f ∷ more) after draft same brings = absurd brings
+
+  pub sound_called : (called : Called) → IsCallIn caller number book called → IsSound (after_call book called) faults ds
+  sound_called called is = sound_by called.logged called.state called.draft is.draft is.brings
+
+limits_by : (caller number : ℕ) (book : Book) (logged : List LogEntry) (after : State) → Brings caller number book logged after → after.limits ≡ book.state.limits
+limits_by caller number book [] after brings = ap (λ (s : State). s.limits) brings
+limits_by caller number book (e ∷ []) after brings = limits_same book e after brings.leads
+limits_by caller number book (e ∷ f ∷ more) after brings = absurd brings
+
+pub limits_called : (caller number : ℕ) (book : Book) (called : Called) → IsCallIn caller number book called → called.state.limits ≡ book.state.limits
+limits_called caller number book called is = limits_by caller number book called.logged called.state is.brings
+
+-- ---- logs that are read
+
+-- a book that was led to from the empty catalogue of these limits
+pub record IsReopened (limits : Limits) (faults : ℕ) (book : Book) : Type 0 where
+  pub led : IsLed limits faults book
+  pub limits_are : book.state.limits ≡ limits
+  pub taken : AreAtMost book.draft book.log
+
+pub reopened_first : (limits : Limits) (faults : ℕ) → IsReopened limits faults (first_book sha256 limits)
+reopened_first limits faults = record { led = (tt, refl); limits_are = refl; taken = tt }
+
+pub sound_reopened : (limits : Limits) (faults : ℕ) (book : Book) → IsReopened limits faults book → IsSound book faults []
+sound_reopened limits faults book is =
+    let led : IsLed book.state.limits faults book = subst (λ (l : Limits). IsLed l faults book) (sym is.limits_are) is.led in
+    record { legal = led.0; led = led.1; taken = is.taken; waiting = tt }
+
+module _ (limits : Limits) (faults number : ℕ) (book : Book) (is : IsReopened limits faults book) where
+  reopened_by : (logged : List LogEntry) (after : State) (draft : ℕ) → book.draft ≤ draft → number ≤ draft → Brings 0 number book logged after → IsReopened limits faults (record { state = after; draft = draft; log = logged ++ book.log })
+  reopened_by [] after draft more low brings =
+      subst (λ (s : State). IsReopened limits faults (record { state = s; draft = draft; log = book.log })) (sym brings)
+      record { led = is.led; limits_are = is.limits_are; taken = at_most_more book.draft draft book.log more is.taken }
+  reopened_by (e ∷ []) after draft more low brings =
+      let n : e.draft ≡ number = brings.draft_is in
+      record {
+        led = led_on limits faults book e after draft is.led brings.legal brings.leads;
+        limits_are = limits_same book e after brings.leads ∙ is.limits_are;
+        taken = (subst (λ (n : ℕ). n ≤ draft) (sym n) low, at_most_more book.draft draft book.log more is.taken);
+      }
+  reopened_by (e ∷ f ∷ more_entries) after draft more low brings = absurd brings
+
+legal_parts : (book : Book) (e : LogEntry) → is_legal sha256 book e ≡ true → (is_well_made sha256 e.command ≡ true) × (has_its_draft e ≡ true) × (draft_is_new book.log e.draft ≡ true)
+unfolding is_legal
+legal_parts book e legal =
+    let first = and_true (is_well_made sha256 e.command && has_its_draft e && draft_is_new book.log e.draft) (is_just sha256 e (replayed_call sha256 book e).logged) legal in
+    let second = and_true (is_well_made sha256 e.command && has_its_draft e) (draft_is_new book.log e.draft) first.0 in
+    let third = and_true (is_well_made sha256 e.command) (has_its_draft e) second.0 in
+    (third.0, third.1, second.1)
+
+-- what the call of a legal entry brings, by nobody
+module _ (book : Book) (e : LogEntry) (legal : is_legal sha256 book e ≡ true) where
+  abbrev Replays : Called → Type 0
+  Replays c = Brings 0 e.draft book c.logged c.state × (c.draft ≡ max book.draft e.draft)
+
+  replayed_at : (t : Tested) → Replays (replayed_by sha256 book e t)
+  replayed_at (Err why) = (refl, refl)
+  replayed_at (Ok u) =
+      let parts = legal_parts book e legal in (
+        stepped_logs 0 book e.command (turn_of book e) parts.0 parts.1 parts.2 (draft_after book e) (step sha256 book.state e.command (turn_of book e)) refl,
+        stepped_draft 0 book.state (draft_after book e) e.command (turn_of book e) (step sha256 book.state e.command (turn_of book e)),
+      )
+
+  replays : Replays (replayed_call sha256 book e)
+  unfolding replayed_call
+  replays = replayed_at (opening sha256 book.state e.command)
+
+pub reopened_on : (limits : Limits) (faults : ℕ) (book : Book) (e : LogEntry) → IsReopened limits faults book → is_legal sha256 book e ≡ true → IsReopened limits faults (after_call book (replayed_call sha256 book e))
+reopened_on limits faults book e is legal =
+    let r = replays book e legal in
+    let n : max book.draft e.draft ≡ (replayed_call sha256 book e).draft = sym r.1 in
+    reopened_by limits faults e.draft book is (replayed_call sha256 book e).logged (replayed_call sha256 book e).state (replayed_call sha256 book e).draft
+    (subst (λ (m : ℕ). book.draft ≤ m) n (le-max_left book.draft e.draft)) (subst (λ (m : ℕ). e.draft ≤ m) n (le-max_right book.draft e.draft)) r.0

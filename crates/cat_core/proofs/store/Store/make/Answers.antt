@@ -1,0 +1,41 @@
+use Rattle.std.proofs.Common.{refl}
+use Rattle.cat_builds.specs.Builds.{command_of}
+use Rattle.cat_ledger.proofs.Before.{call_opens, in_draft}
+use Rattle.cat_ledger.specs.Occasions.{made_on}
+use Rattle.cat_core.proofs.Held.{free_inside}
+use Rattle.cat_core.proofs.InStep.{right_made}
+use Rattle.cat_core.proofs.Making.{all_told, down_none, up_inside}
+use Rattle.cat_core.proofs.Sound.{made_brings}
+use Rattle.cat_core.proofs.Standing.{stands}
+use Rattle.cat_core.proofs.store.Store.make.Goals as goal
+
+pub settle-made-requires-clause-up : goal.settle-made-requires-clause-up
+settle-made-requires-clause-up g c κs within =
+    let laws = g.met.K.Keeper g.world.𝓛 g.world.𝓜 g.world.𝓡 ((λ s x. x), (λ x. x), (λ x. x), λ x. x) in
+    down_none g.K.Keeper.down c.self.inside.keeper c.self.inside.fallen c.self.invariant.0.fallen
+    (up_inside g.K.Keeper.down g.K.Keeper.in_flight laws.flies laws.waits c.self.inside.keeper c.self.inside.fallen c.self.invariant.0.fallen _ _ c.self.view_is refl c.requires.up)
+
+pub invariant_of-self : goal.invariant_of-self
+invariant_of-self g c =
+    let laws = g.met.K.Keeper g.world.𝓛 g.world.𝓜 g.world.𝓡 ((λ s x. x), (λ x. x), (λ x. x), λ x. x) in
+    let free = free_inside c.args.number _ _ c.self.view_is c.requires.free in
+    stands g.K.Keeper.told g.K.Keeper.kept g.K.Keeper.down g.K.Keeper.in_flight g.K.Keeper.faults g.K.Keeper.moment g.K.Keeper.left_since g.K.Keeper.may_leave
+    c.self.inside.keeper c.settle-made.new.keeper c.args.caller c.args.number (made_on c.self.inside.ledger (in_draft c.args.caller c.args.moment c.args.number) (command_of c.args.call)) c.self.inside.ledger c.settle-made.new.self c.self.inside.began _ c.self.inside.fallen c.tell.new.fallen c.settle-made.result
+    (right_made c.self.inside.ledger (in_draft c.args.caller c.args.moment c.args.number) (command_of c.args.call))
+    (made_brings c.args.caller c.args.number c.args.moment c.self.inside.ledger (command_of c.args.call) c.requires.well_made (call_opens c.args.call) free.above free.below free.new)
+    free.below free.none
+    (up_inside g.K.Keeper.down g.K.Keeper.in_flight laws.flies laws.waits c.self.inside.keeper c.self.inside.fallen c.self.invariant.0.fallen _ _ c.self.view_is refl c.requires.up)
+    c.tell.ensures.fallen c.settle-made.ensures.kept c.settle-made.ensures.call c.settle-made.ensures.keeps c.self.invariant
+
+pub returns : goal.returns
+returns g c =
+    let laws = g.met.K.Keeper g.world.𝓛 g.world.𝓜 g.world.𝓡 ((λ s x. x), (λ x. x), (λ x. x), λ x. x) in
+    let none = up_inside g.K.Keeper.down g.K.Keeper.in_flight laws.flies laws.waits c.self.inside.keeper c.self.inside.fallen c.self.invariant.0.fallen _ _ c.self.view_is refl c.requires.up in
+    let free = free_inside c.args.number _ _ c.self.view_is c.requires.free in
+    all_told g.K.Keeper.told g.K.Keeper.kept g.K.Keeper.down g.K.Keeper.in_flight g.K.Keeper.faults g.K.Keeper.moment g.K.Keeper.left_since g.K.Keeper.may_leave laws.safe laws.only_now
+    c.args.caller c.self.inside.ledger c.settle-made.new.self c.self.inside.keeper c.settle-made.new.keeper c.self.inside.drafter c.self.inside.dropped c.self.inside.drafts.items c.self.inside.began
+    (λ b. made_on b (in_draft c.args.caller c.args.moment c.args.number) (command_of c.args.call)) (right_made c.self.inside.ledger (in_draft c.args.caller c.args.moment c.args.number) (command_of c.args.call)) c.args.number
+    (made_brings c.args.caller c.args.number c.args.moment c.self.inside.ledger (command_of c.args.call) c.requires.well_made (call_opens c.args.call) free.above free.below free.new)
+    c.self.inside.fallen c.tell.new.fallen _ _ c.place-place.result c.settle-made.result c.tell.result none c.tell.ensures.fallen c.self.view_is refl c.place-place.ensures c.tell.ensures.told
+    (down_none g.K.Keeper.down c.self.inside.keeper c.self.inside.fallen c.self.invariant.0.fallen none)
+    c.settle-made.ensures.call c.settle-made.ensures.keeps c.settle-made.ensures.there

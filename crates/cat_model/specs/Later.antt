@@ -1,0 +1,15 @@
+-- States that grew: nothing was taken away.
+use Rattle.std.specs.Prelude.{◌≡◌, List, ◌++◌}
+use Rattle.cat_names.specs.declared.hash.Hash.{Hash}
+use Rattle.cat_model.specs.declared.content.Content.{Content}
+use Rattle.cat_model.specs.Chain.{Commits}
+use Rattle.cat_model.specs.State.{State}
+
+-- a list has another one behind some elements
+abbrev pub Adds : {A : Type 0} → List A → List A → Type 0
+Adds {A} older list = (front : List A) × (list ≡ front ++ older)
+
+-- each commit and each content of the one state is in the other, below those that were added
+pub record IsLater (a b : State) : Type 0 where
+  pub commits : Adds a.commits b.commits
+  pub present : Adds a.present b.present

@@ -1,0 +1,229 @@
+-- What a call brings, by its step: a refusal, an entry, or a reply alone.
+use Rattle.std.proofs.Common.{◌≡◌, ◌<◌, ◌⊎◌, inl, inr, ℕ, ◌+◌, max, List, [], ◌∷◌, Option, Some, None, Result, Ok, Err, Bool, true, false, if◌then◌else◌, nat_lt, refl, sym, ap, subst, ◌∙◌, arith}
+use Rattle.std.proofs.lemmas.Bool.Decides.{nat_tests}
+use Rattle.sha2.specs.Sha256.{sha256}
+use Rattle.cat_core.specs.Drafts.{may_open}
+use Rattle.cat_ledger.specs.declared.logging.Turn.{Turn}
+use Rattle.cat_ledger.specs.declared.occasion.Occasion.{Occasion}
+use Rattle.cat_ledger.specs.Occasions.{begun, made_on, opened_on, turn_on, turned, turned_step}
+use Rattle.cat_model.specs.declared.command.Command.{Command}
+use Rattle.cat_model.specs.declared.log_entry.LogEntry.{LogEntry}
+use Rattle.cat_model.specs.declared.refusal.Refusal.{Refusal}
+use Rattle.cat_model.specs.declared.refusal.Refused.{Refused}
+use Rattle.cat_model.specs.declared.reply.Reply.{Reply}
+use Rattle.cat_model.specs.declared.reply.Told.{Told}
+use Rattle.cat_model.specs.Book.{Book, call_on}
+use Rattle.cat_model.specs.Calls.{Called, call, entry_made, needs_draft, opened_call, stepped, tested_call, told_at, unchanged_by}
+use Rattle.cat_model.specs.Refusing.{◌>>=◌, Outcome, Tested}
+use Rattle.cat_model.specs.State.{State}
+use Rattle.cat_model.specs.Step as steps
+use Rattle.cat_model.specs.Step.{opening, opens_draft, step}
+use Rattle.cat_work.specs.Answers.{ComesTo, IsEntryOf}
+use Rattle.cat_work.proofs.Steps.{step_first, step_stays}
+
+-- the step refuses
+pub record Refusing (state : State) (c : Command) (moment : ℕ) (called : Called) : Type 0 where
+  pub why : Refusal
+  pub is : ComesTo state c moment (Err why)
+  pub said : called.said ≡ Err (record { place = Some state.place; why = why })
+  pub none : called.logged ≡ []
+  pub state_is : called.state ≡ state
+
+-- the step is accepted with an entry
+pub record Entering (n draft : ℕ) (state : State) (c : Command) (moment : ℕ) (called : Called) : Type 0 where
+  pub turn : steps.Turn
+  pub after : State
+  pub reply : Reply
+  pub is : step sha256 state c turn ≡ Ok (after, reply)
+  pub draft_is : turn.draft ≡ draft
+  pub moment_is : turn.moment ≡ moment
+  pub higher : state.place < after.place
+  pub said : called.said ≡ Ok (record { place = after.place; reply = reply })
+  pub logged : called.logged ≡ entry_made sha256 n after c turn reply ∷ []
+  pub state_is : called.state ≡ after
+
+-- the step is accepted without one
+pub record Telling (state : State) (c : Command) (moment : ℕ) (called : Called) : Type 0 where
+  pub reply : Reply
+  pub is : ComesTo state c moment (Ok (state, reply))
+  pub said : called.said ≡ Ok (record { place = state.place; reply = reply })
+  pub none : called.logged ≡ []
+  pub state_is : called.state ≡ state
+
+abbrev pub Brings : ℕ → ℕ → State → Command → ℕ → Called → Type 0
+Brings n draft state c moment called = Refusing state c moment called ⊎ Entering n draft state c moment called ⊎ Telling state c moment called
+
+-- ---- by the step
+
+rises : (a b : ℕ) → nat_lt a b ≡ true → a < b
+rises a b h = grind (arith, nat_tests, h)
+
+chosen : (n : ℕ) (state after : State) (last : ℕ) (c : Command) (turn : steps.Turn) (reply : Reply) (b : Bool) → nat_lt state.place after.place ≡ b → step sha256 state c turn ≡ Ok (after, reply)
+    → Brings n turn.draft state c turn.moment (if b then record { said = told_at after (Ok reply); logged = entry_made sha256 n after c turn reply ∷ []; state = after; draft = last } else unchanged_by state last (Ok reply))
+chosen n state after last c turn reply true up e = inr (inl (record { turn = turn; after = after; reply = reply; is = e; draft_is = refl; moment_is = refl; higher = rises state.place after.place up; said = refl; logged = refl; state_is = refl }))
+chosen n state after last c turn reply false flat e =
+    let same : after ≡ state = step_stays state after c turn reply e flat in
+    inr (inr (record { reply = reply; is = (turn.draft, (turn.opened, e ∙ ap (λ (s : State). Ok (s, reply)) same)); said = refl; none = refl; state_is = refl }))
+
+stepped_brings : (n : ℕ) (state : State) (last : ℕ) (c : Command) (turn : steps.Turn) (outcome : Outcome) → step sha256 state c turn ≡ outcome → Brings n turn.draft state c turn.moment (stepped sha256 n state last c turn outcome)
+stepped_brings n state last c turn (Err why) e = inl (record { why = why; is = (turn.draft, (turn.opened, e)); said = refl; none = refl; state_is = refl })
+stepped_brings n state last c turn (Ok (after, reply)) e = chosen n state after last c turn reply (nat_lt state.place after.place) refl e
+
+tests_refuse : (n draft moment : ℕ) (state : State) (last : ℕ) (c : Command) (why : Refusal) → opening sha256 state c ≡ Err why → Brings n draft state c moment (unchanged_by state last (Err why))
+tests_refuse n draft moment state last c why e = inl (record { why = why; is = (draft, (0, step_first state c (record { draft = draft; opened = 0; moment = moment }) why e)); said = refl; none = refl; state_is = refl })
+
+-- ---- in a draft
+
+-- a call in a draft that is given
+abbrev pub in_draft : ℕ → ℕ → ℕ → Occasion
+in_draft n moment draft = record { caller = n; moment = moment; draft = Some draft }
+
+passed_again : (t : Tested) → (t >>= λ _. Ok tt) ≡ t
+passed_again (Err why) = refl
+passed_again (Ok u) = refl
+
+made_by : (n moment draft : ℕ) (b : Book) (c : Command) (t : Tested) → opening sha256 b.state c ≡ t → Brings n draft b.state c moment (opened_on b (record { caller = n; draft = draft; moment = moment }) c t)
+made_by n moment draft b c (Err why) e = tests_refuse n draft moment b.state b.draft c why e
+made_by n moment draft b c (Ok u) e =
+    let turn : Turn = record { caller = n; draft = draft; moment = moment } in
+    stepped_brings n b.state (max b.draft draft) c (begun b turn) (turned_step b turn c) refl
+
+made_is : (n moment draft : ℕ) (b : Book) (c : Command) → opens_draft c ≡ true → made_on b (in_draft n moment draft) c ≡ opened_on b (record { caller = n; draft = draft; moment = moment }) c (opening sha256 b.state c)
+unfolding made_on
+made_is n moment draft b c opens = rw (opens, passed_again (opening sha256 b.state c)) refl
+
+pub made_brings : (n moment draft : ℕ) (b : Book) (c : Command) → opens_draft c ≡ true → Brings n draft b.state c moment (made_on b (in_draft n moment draft) c)
+made_brings n moment draft b c opens = subst (λ (called : Called). Brings n draft b.state c moment called) (sym (made_is n moment draft b c opens)) (made_by n moment draft b c (opening sha256 b.state c) refl)
+
+-- the last draft number stays, where the draft has it
+draft_by : (b : Bool) (x y : Called) (draft : ℕ) → x.draft ≡ draft → y.draft ≡ draft → (if b then x else y).draft ≡ draft
+draft_by true x y draft p q = p
+draft_by false x y draft p q = q
+
+draft_of : (n : ℕ) (state : State) (last : ℕ) (c : Command) (turn : steps.Turn) (outcome : Outcome) → (stepped sha256 n state last c turn outcome).draft ≡ last
+draft_of n state last c turn (Err why) = refl
+draft_of n state last c turn (Ok (after, reply)) = draft_by (nat_lt state.place after.place) _ (unchanged_by state last (Ok reply)) last refl refl
+
+greatest : (a b : ℕ) → b ≡ a → max a b ≡ a
+greatest a b e = omega arith
+
+draft_made : (n moment draft : ℕ) (b : Book) (c : Command) (t : Tested) → draft ≡ b.draft → (opened_on b (record { caller = n; draft = draft; moment = moment }) c t).draft ≡ b.draft
+draft_made n moment draft b c (Err why) same = refl
+draft_made n moment draft b c (Ok u) same =
+    let turn : Turn = record { caller = n; draft = draft; moment = moment } in
+    draft_of n b.state (max b.draft draft) c (begun b turn) (turned_step b turn c) ∙ greatest b.draft draft same
+
+pub made_draft : (n moment draft : ℕ) (b : Book) (c : Command) → opens_draft c ≡ true → draft ≡ b.draft → (made_on b (in_draft n moment draft) c).draft ≡ b.draft
+made_draft n moment draft b c opens same = ap (λ (called : Called). called.draft) (made_is n moment draft b c opens) ∙ draft_made n moment draft b c (opening sha256 b.state c) same
+
+-- ---- without a draft
+
+draft_called : (n moment : ℕ) (b : Book) (c : Command) (t : Tested) → opens_draft c ≡ false → (tested_call sha256 n b.state b.draft c moment t).draft ≡ b.draft
+draft_called n moment b c (Err why) opens = refl
+draft_called n moment b c (Ok u) opens = rw opens (draft_of n b.state b.draft c (record { draft = 0; opened = b.state.place; moment = moment }) (step sha256 b.state c (record { draft = 0; opened = b.state.place; moment = moment })))
+
+called_by : (n moment : ℕ) (b : Book) (c : Command) (t : Tested) → opening sha256 b.state c ≡ t → opens_draft c ≡ false → Brings n 0 b.state c moment (tested_call sha256 n b.state b.draft c moment t)
+called_by n moment b c (Err why) e opens = tests_refuse n 0 moment b.state b.draft c why e
+called_by n moment b c (Ok u) e opens = rw opens (stepped_brings n b.state b.draft c (record { draft = 0; opened = b.state.place; moment = moment }) (step sha256 b.state c (record { draft = 0; opened = b.state.place; moment = moment })) refl)
+
+call_is : (n moment : ℕ) (b : Book) (c : Command) → opens_draft c ≡ false → call_on sha256 n b c moment ≡ tested_call sha256 n b.state b.draft c moment (opening sha256 b.state c)
+unfolding call
+call_is n moment b c opens = ap (λ (t : Tested). tested_call sha256 n b.state b.draft c moment t) (rw opens (passed_again (opening sha256 b.state c)))
+
+pub call_brings : (n moment : ℕ) (b : Book) (c : Command) → opens_draft c ≡ false → Brings n 0 b.state c moment (call_on sha256 n b c moment)
+call_brings n moment b c opens = subst (λ (called : Called). Brings n 0 b.state c moment called) (sym (call_is n moment b c opens)) (called_by n moment b c (opening sha256 b.state c) refl opens)
+
+pub call_draft : (n moment : ℕ) (b : Book) (c : Command) → opens_draft c ≡ false → (call_on sha256 n b c moment).draft ≡ b.draft
+call_draft n moment b c opens = ap (λ (called : Called). called.draft) (call_is n moment b c opens) ∙ draft_called n moment b c (opening sha256 b.state c) opens
+
+-- ---- the draft of an opening, where nothing came between
+
+passes_first : (t : Tested) (next : Tested) → (t >>= λ _. next) ≡ Ok tt → t ≡ Ok tt
+passes_first (Ok u) next e = refl
+passes_first (Err why) next e = absurd cc
+
+-- the tests before the draft pass where one may be opened
+pub may_pass : (b : Book) (c : Command) → may_open b c ≡ Ok tt → opening sha256 b.state c ≡ Ok tt
+may_pass b c e = passes_first (opening sha256 b.state c) (needs_draft b.state b.draft true) e
+
+max_self : (n : ℕ) → max n n ≡ n
+max_self n = omega arith
+
+-- the call in its draft is the model's call, where the draft's number was the next
+pub called_alone : (n moment : ℕ) (b : Book) (c : Command) → opens_draft c ≡ true → may_open b c ≡ Ok tt → made_on (record b { draft = b.draft + 1 }) (in_draft n moment (b.draft + 1)) c ≡ call_on sha256 n b c moment
+unfolding call
+called_alone n moment b c opens passes =
+    let with_it : Book = record b { draft = b.draft + 1 } in
+    let turn : Turn = record { caller = n; draft = b.draft + 1; moment = moment } in
+    let opened : opening sha256 b.state c ≡ Ok tt = may_pass b c passes in
+    made_is n moment (b.draft + 1) with_it c opens
+    ∙ ap (λ (t : Tested). opened_on with_it turn c t) opened
+    ∙ ap (λ (last : ℕ). stepped sha256 n b.state last c (begun with_it turn) (turned_step with_it turn c)) (max_self (b.draft + 1))
+    ∙ sym (ap (λ (t : Tested). tested_call sha256 n b.state b.draft c moment t) (ap (λ (o : Bool). opening sha256 b.state c >>= λ _. needs_draft b.state b.draft o) opens ∙ passes) ∙ ap (λ (o : Bool). opened_call sha256 n b.state b.draft c moment o) opens)
+
+-- ---- what is told, by what is brought
+
+-- a refusal is the step's
+pub record IsStepsOwn (state : State) (c : Command) (moment : ℕ) (r : Refused) (called : Called) : Type 0 where
+  pub place : r.place ≡ Some state.place
+  pub why : ComesTo state c moment (Err r.why)
+  pub none : called.logged ≡ []
+  pub state_is : called.state ≡ state
+
+abbrev ok : Told → Result Told Refused
+ok told = Ok told
+
+abbrev err : Refused → Result Told Refused
+err r = Err r
+
+apart : {A : Type 0} (told : Told) (r : Refused) → ok told ≡ err r → A
+apart told r e = absurd cc
+
+same_refused : (a b : Refused) → err a ≡ err b → a ≡ b
+same_refused a b e = cc
+
+same_told : (a b : Told) → ok a ≡ ok b → a ≡ b
+same_told a b e = cc
+
+pub refused_is : (n draft : ℕ) (state : State) (c : Command) (moment : ℕ) (called : Called) (r : Refused) → Brings n draft state c moment called → called.said ≡ Err r → IsStepsOwn state c moment r called
+refused_is n draft state c moment called r (inl x) e =
+    let same : record { place = Some state.place; why = x.why } ≡ r = same_refused (record { place = Some state.place; why = x.why }) r (sym x.said ∙ e) in
+    record {
+      place = sym (ap (λ (y : Refused). y.place) same);
+      why = subst (λ (y : Refused). ComesTo state c moment (Err y.why)) same x.is;
+      none = x.none;
+      state_is = x.state_is;
+    }
+refused_is n draft state c moment called r (inr (inl x)) e = apart _ r (sym x.said ∙ e)
+refused_is n draft state c moment called r (inr (inr x)) e = apart _ r (sym x.said ∙ e)
+
+-- a reply comes with an entry, or alone
+abbrev pub IsTold : ℕ → ℕ → State → Command → ℕ → Told → Called → Type 0
+IsTold n draft state c moment told called = ((x : Entering n draft state c moment called) × (told ≡ record { place = x.after.place; reply = x.reply })) ⊎ ((x : Telling state c moment called) × (told ≡ record { place = state.place; reply = x.reply }))
+
+pub told_is : (n draft : ℕ) (state : State) (c : Command) (moment : ℕ) (called : Called) (told : Told) → Brings n draft state c moment called → called.said ≡ Ok told → IsTold n draft state c moment told called
+told_is n draft state c moment called told (inl x) e = apart told _ (sym e ∙ x.said)
+told_is n draft state c moment called told (inr (inl x)) e = inl (x, same_told told _ (sym e ∙ x.said))
+told_is n draft state c moment called told (inr (inr x)) e = inr (x, same_told told _ (sym e ∙ x.said))
+
+none_is_not_one : {A : Type 0} (entry : LogEntry) → [] ≡ entry ∷ [] → A
+none_is_not_one entry e = absurd cc
+
+head_in : List LogEntry → LogEntry → LogEntry
+head_in [] other = other
+head_in (entry ∷ entries) other = entry
+
+-- an entry is that of an accepted step
+pub entry_is : (n draft : ℕ) (state : State) (c : Command) (moment : ℕ) (called : Called) (entry : LogEntry) → Brings n draft state c moment called → called.logged ≡ entry ∷ [] → IsEntryOf n state c moment entry
+unfolding head_in
+entry_is n draft state c moment called entry (inl x) e = none_is_not_one entry (sym x.none ∙ e)
+entry_is n draft state c moment called entry (inr (inl x)) e = record {
+  turn = x.turn;
+  after = x.after;
+  reply = x.reply;
+  is = x.is;
+  higher = x.higher;
+  moment_is = x.moment_is;
+  entry_is = ap (λ (l : List LogEntry). head_in l entry) (sym e ∙ x.logged);
+}
+entry_is n draft state c moment called entry (inr (inr x)) e = none_is_not_one entry (sym x.none ∙ e)

@@ -1,0 +1,379 @@
+-- A call between its attempts, and what ends it.
+use Rattle.std.proofs.Common.{◌≡◌, ◌<◌, ◌≤◌, ◌⊎◌, inl, inr, ℕ, ◌+◌, List, [], ◌∷◌, ◌++◌, length, length-append, reverse, Option, Some, None, Result, Ok, Err, Bool, true, false, vec_capacity, refl, sym, ap, subst, ◌∙◌, arith}
+use Rattle.sha2.specs.Sha256.{sha256}
+use Rattle.cat_names.specs.declared.hash.Hash.{Hash}
+use Rattle.cat_builds.specs.declared.building.Built.{Built}
+use Rattle.cat_builds.specs.Builds.{HasHead, IsBuilt}
+use Rattle.cat_checks.specs.Histories.{IsLegalFrom}
+use Rattle.cat_core.specs.Drafts.{IsMoved, IsOn, Refuses, called_in, closed, command_in, may_open, open_draft_of, opening_in, without}
+use Rattle.cat_core.specs.Stored as stored
+use Rattle.cat_core.specs.Stored.{Stored, log_of}
+use Rattle.cat_core.specs.declared.draft.Draft.{Draft}
+use Rattle.cat_core.specs.declared.draft.Settled.TheVariants as settled
+use Rattle.cat_desk.specs.Log.{Follows}
+use Rattle.cat_desk.specs.Pass.{DeskId, Keeps, known, left_by, mark_of, number_of, seen, spare_of, stands_for}
+use Rattle.cat_desk.specs.declared.pass.Pass.{Pass}
+use Rattle.cat_ledger.specs.Occasions.{made_on}
+use Rattle.cat_model.specs.declared.command.Command.{Command}
+use Rattle.cat_model.specs.declared.log_entry.LogEntry.{LogEntry}
+use Rattle.cat_model.specs.declared.refusal.Refusal.{Refusal}
+use Rattle.cat_model.specs.declared.refusal.Refusal.TheVariants as refusals
+use Rattle.cat_model.specs.declared.refusal.Refused.{Refused}
+use Rattle.cat_model.specs.declared.reply.Told.{Told}
+use Rattle.cat_model.specs.Book.{Book, call_on}
+use Rattle.cat_model.specs.Calls.{Called}
+use Rattle.cat_model.specs.Drafts.{Open, OpenDraft, OpenSweep, Opening, StaysOpen, SweepAwaits, drafts_of, nothing_open, open_of, sweep_of}
+use Rattle.cat_model.specs.Mark.{FailedAppend, Mark}
+use Rattle.cat_model.specs.State.{State}
+use Rattle.cat_model.specs.Step.{opening, opens_draft}
+use Rattle.cat_model.specs.TurnLaws.{nothing_stays}
+use Rattle.cat_work.specs.declared.trying.Trying.{Trying}
+use Rattle.cat_work.specs.Answers.{Answers, AnswersAlone, Causes, IsDraftAbove, NoFaultIsNew, RefusesAlone, Spends, first_place}
+use Rattle.cat_work.specs.Passes.{IsAlone, IsReady, book_of, state_of}
+use Rattle.cat_work.specs.Turns.{Begins, Comes, Ends, EndsLast, Going, IsSpent, Moves, StoodAlone, Trail, Tries, Turned, out_of_memory}
+use Rattle.cat_work.proofs.Callings.{Brings, called_alone, in_draft, made_brings, made_draft, may_pass}
+use Rattle.cat_work.proofs.Opened.{drafts_more, drafts_one, none_left}
+use Rattle.cat_work.proofs.Telling.{AloneAt, Found, Left, alone_err, alone_ok, answers_ok, book_found, causes, faults_same, follows_same, given_up_alone, left_by_turn}
+use Rattle.cat_work.proofs.Trails.{built_on, follows_on, one_head, place_at, trail_next, trail_start}
+
+-- ---- what is open of the caller
+
+none_awaits : (a : Option OpenSweep) → SweepAwaits None a → a ≡ None
+none_awaits None is = refl
+none_awaits (Some a) is = absurd is
+
+-- one draft that was left open alone is found so
+pub one_stays : (x : OpenDraft) (a b : Open) → a ≡ record { drafts = x ∷ []; sweep = None } → StaysOpen a b → b ≡ record { drafts = x ∷ []; sweep = None }
+one_stays x a b is stays =
+    let same : StaysOpen (record { drafts = x ∷ []; sweep = None }) b = subst (λ (o : Open). StaysOpen o b) is stays in
+    λ i. record { drafts = same.drafts i; sweep = none_awaits b.sweep same.sweep i }
+
+-- a draft that was opened where nothing was
+pub one_opened : (n : ℕ) (x : OpenDraft) (o : Open) → x.opening.caller ≡ n → open_of n o ≡ nothing_open → open_of n (record o { drafts = o.drafts ++ x ∷ [] }) ≡ record { drafts = x ∷ []; sweep = None }
+one_opened n x o caller none =
+    let one : drafts_of n (x ∷ []) ≡ x ∷ [] = ap (λ (m : ℕ). drafts_of m (x ∷ [])) (sym caller) ∙ drafts_one x in
+    let drafts : drafts_of n (o.drafts ++ x ∷ []) ≡ x ∷ [] = drafts_more n o.drafts (x ∷ []) ∙ (ap (λ (l : List OpenDraft). l ++ drafts_of n (x ∷ [])) (ap (λ (y : Open). y.drafts) none) ∙ one) in
+    λ i. record { drafts = drafts i; sweep = (none i).sweep }
+
+-- a draft that was closed where it was the only one
+pub none_open : (n : ℕ) (x : OpenDraft) (o : Open) → x.opening.caller ≡ n → open_of n o ≡ record { drafts = x ∷ []; sweep = None } → open_of n (record o { drafts = without x.opening o.drafts }) ≡ nothing_open
+none_open n x o caller one =
+    let own : drafts_of x.opening.caller o.drafts ≡ x ∷ [] = ap (λ (m : ℕ). drafts_of m o.drafts) caller ∙ ap (λ (y : Open). y.drafts) one in
+    let drafts : drafts_of n (without x.opening o.drafts) ≡ [] = ap (λ (m : ℕ). drafts_of m (without x.opening o.drafts)) (sym caller) ∙ none_left x o.drafts own in
+    λ i. record { drafts = drafts i; sweep = (one i).sweep }
+
+-- ---- the first turn
+
+raised : (a b n : ℕ) → a ≤ b → n ≡ b + 1 → a < n
+raised a b n le e = omega arith
+
+known_at : (opened k size place here : ℕ) → k ≤ size → here ≡ opened + size → place ≡ here → opened + k ≤ place
+known_at opened k size place here le e same = omega arith
+
+pub begins : (K : Type 0) (desk : DeskId) (c : Command) (p q : Pass) (t : Trying) (attempts : ℕ) → left_by p ≡ nothing_open → IsLegalFrom desk.opened (seen q) → Keeps desk p q → known p ≤ length (seen q) → attempts + 1 ≤ vec_capacity t.pairs → Begins K desk c p q t → Going desk c p q t attempts 1
+begins K desk c p q t attempts none legal keeps known_is room b =
+    let s : Stored K = b.opens.0 in
+    let s' : Stored K = b.opens.1 in
+    let turn : Turned desk p q s s' = b.opens.2 in
+    let o = b.opens.3 in
+    let d : Draft = t.draft in
+    let log : seen q ≡ log_of s = turn.seen_is ∙ ap (λ (x : Stored K). log_of x) o.after in
+    let mark : mark_of q ≡ record (s.mark) { draft = d.number; drafter = d.caller } = turn.mark_is ∙ ap (λ (x : Stored K). x.mark) o.after in
+    let view : t.view ≡ state_of desk (seen q) = o.view_is ∙ (sym turn.led ∙ ap (state_of desk) (sym log)) in
+    let was : open_of (number_of p) (stored.open_of s) ≡ nothing_open = nothing_stays (open_of (number_of p) (stored.open_of s)) (subst (λ (x : Open). StaysOpen x (open_of (number_of p) (stored.open_of s))) none turn.own) in
+    let left : left_by q ≡ record { drafts = open_draft_of d ∷ []; sweep = None } = turn.left ∙ (ap (λ (x : Stored K). open_of (number_of p) (stored.open_of x)) o.after ∙ one_opened (number_of p) (open_draft_of d) (stored.open_of s) o.caller_is was) in
+    let passes : opening sha256 t.view c ≡ Ok tt = ap (λ (x : State). opening sha256 x c) o.view_is ∙ may_pass s.book c o.passes in
+    let has : HasHead (state_of desk (seen q)) (command_in d) b.head = subst (λ (x : State). HasHead x (command_in d) b.head) view (subst (λ (x : Command). HasHead t.view x b.head) (sym o.command_is) b.has) in
+    let pairs : ((state_of desk (seen q)).place, b.head) ∷ [] ≡ t.pairs.items = sym (b.pairs_are ∙ ap (λ (x : State). (x.place, b.head) ∷ []) view) in
+    let place : (state_of desk (seen q)).place ≡ d.place = sym (o.place ∙ (ap (λ (x : State). x.place) (sym o.view_is ∙ view))) in
+    let grew : (mark_of p).draft ≤ s.book.draft = subst (λ (x : ℕ). (mark_of p).draft ≤ x) turn.draft turn.linked.grows.draft in
+    record {
+      kept = keeps;
+      follows = subst (Follows (number_of p) (seen p)) (sym log) turn.follows;
+      tries = record {
+        left_is = left;
+        caller = o.caller_is ∙ sym keeps.number;
+        given = o.given;
+        view_is = view;
+        passes = ap (opening sha256 t.view) o.command_is ∙ passes;
+        trail = subst (λ (x : List (ℕ × Hash)). Trail desk (command_in d) (seen q) d.place x) pairs (subst (λ (x : ℕ). Trail desk (command_in d) (seen q) x (((state_of desk (seen q)).place, b.head) ∷ [])) place (trail_start desk (command_in d) (seen q) b.head legal has));
+      };
+      command_is = o.command_is;
+      newer = raised (mark_of p).draft s.book.draft d.number grew o.number;
+      known_then = known_at desk.opened.state.place (known p) (length (seen q)) d.place (state_of desk (seen q)).place known_is (place_at desk (seen q) legal) (sym place);
+      count = ap (λ (l : List (ℕ × Hash)). length l) b.pairs_are;
+      room = room;
+      faults = λ x is own. turn.linked.own_fault x (sym (ap (λ (m : Mark). m.fault) mark) ∙ is) own;
+      fallen = λ x is. ap (λ (m : Mark). m.fault) mark ∙ turn.linked.grows.fault x is;
+      alone = λ only. record {
+        seen_is = log ∙ (turn.alone only).0;
+        mark_is = mark ∙ (λ i. record ((turn.alone only).1 i) { draft = d.number; drafter = o.caller_is i });
+        number_is = o.number ∙ ap (λ (n : ℕ). n + 1) (sym turn.draft ∙ ap (λ (m : Mark). m.draft) (turn.alone only).1);
+        up = ap (λ (m : Mark). m.fault) (sym (turn.alone only).1) ∙ o.up;
+        passes = ap (λ (x : Book). may_open x c) (sym (book_found desk p q s s' turn only)) ∙ o.passes;
+      };
+    }
+
+-- ---- a later turn
+
+-- what a later turn finds, against the pass at first
+pub found_on : {K : Type 0} (desk : DeskId) (c : Command) (first present next : Pass) (t : Trying) (attempts number : ℕ) (s s' : Stored K) → Going desk c first present t attempts number → Turned desk present next s s' → Found desk (number_of first) first s
+found_on desk c first present next t attempts number s s' g turn = record {
+  follows = follows_on (number_of first) (seen first) (seen present) (log_of s) g.follows (subst (λ (n : ℕ). Follows n (seen present) (log_of s)) g.kept.number turn.follows);
+  led = turn.led;
+  no_new = λ x is own. g.faults x (turn.linked.own_fault x is (own ∙ sym g.kept.number)) own;
+  kept = λ x is. turn.linked.grows.fault x (g.fallen x is);
+}
+
+alone_still : (desk : DeskId) (first present : Pass) → Keeps desk first present → IsAlone first → IsAlone present
+alone_still desk first present kept alone = ap (λ (n : ℕ). n + spare_of present) kept.held ∙ (ap (λ (n : ℕ). stands_for first + n) kept.spare ∙ alone)
+
+-- the draft is found open, and its caller's only one
+pub found_open : {K : Type 0} (desk : DeskId) (p q : Pass) (s s' : Stored K) (d : Draft) → left_by p ≡ record { drafts = open_draft_of d ∷ []; sweep = None } → Turned desk p q s s' → open_of (number_of p) (stored.open_of s) ≡ record { drafts = open_draft_of d ∷ []; sweep = None }
+found_open desk p q s s' d left turn = one_stays (open_draft_of d) (left_by p) (open_of (number_of p) (stored.open_of s)) left turn.own
+
+-- the head that was built on was the last of the trail
+built_last : (desk : DeskId) (p : Pass) (d : Draft) (view : State) (pairs : List (ℕ × Hash)) (built : Built) (tries : Tries desk p d view pairs) → IsBuilt view d.call built → built.head ≡ tries.trail.head
+built_last desk p d view pairs built tries is =
+    one_head (state_of desk (seen p)) (command_in d) built.head tries.trail.head (subst (λ (x : State). HasHead x (command_in d) built.head) tries.view_is (built_on view d.call built is)) tries.trail.has
+
+-- on the only pass the head hasn't moved
+stays_alone : {K : Type 0} (desk : DeskId) (p q : Pass) (s s' : Stored K) (d : Draft) (view : State) (built : Built) → view ≡ state_of desk (seen p) → IsBuilt view d.call built → Turned desk p q s s' → IsAlone p → IsOn s d built
+stays_alone desk p q s s' d view built view_is is turn alone =
+    let same : view ≡ s.book.state = view_is ∙ (ap (state_of desk) (sym (turn.alone alone).0) ∙ turn.led) in
+    subst (λ (x : State). HasHead x (command_in d) built.head) same (built_on view d.call built is)
+
+-- the trail once the head has moved
+moved_on : {K : Type 0} (desk : DeskId) (p q : Pass) (s s' : Stored K) (d : Draft) (view : State) (pairs more : List (ℕ × Hash)) (built : Built) (next : State) (head : Hash) → Tries desk p d view pairs → IsBuilt view d.call built → Turned desk p q s s' → IsLegalFrom desk.opened (seen q)
+    → s'.book ≡ s.book → (IsOn s d built → ⊥) → next ≡ s.book.state → HasHead next (command_in d) head → more ≡ pairs ++ (next.place, head) ∷ [] → Trail desk (command_in d) (seen q) d.place more
+moved_on {K} desk p q s s' d view pairs more built next head tries is turn legal same other next_is has pairs_are =
+    let log : seen q ≡ log_of s = turn.seen_is ∙ ap (λ (b : Book). reverse b.log) same in
+    let state : state_of desk (seen q) ≡ s.book.state = ap (state_of desk) log ∙ turn.led in
+    let follows : Follows (number_of p) (seen p) (seen q) = subst (Follows (number_of p) (seen p)) (sym log) turn.follows in
+    let moved : HasHead (state_of desk (seen q)) (command_in d) tries.trail.head → ⊥ =
+    λ here. other (subst (λ (h : Hash). HasHead s.book.state (command_in d) h) (sym (built_last desk p d view pairs built tries is)) (subst (λ (x : State). HasHead x (command_in d) tries.trail.head) state here)) in
+    let there : next ≡ state_of desk (seen q) = next_is ∙ sym state in
+    let pairs_then : more ≡ pairs ++ ((state_of desk (seen q)).place, head) ∷ [] = pairs_are ∙ ap (λ (x : State). pairs ++ (x.place, head) ∷ []) there in
+    subst (λ (l : List (ℕ × Hash)). Trail desk (command_in d) (seen q) d.place l) (sym pairs_then)
+    (trail_next desk (command_in d) (number_of p) d.place (seen p) (seen q) pairs head tries.trail follows legal moved (subst (λ (x : State). HasHead x (command_in d) head) there has))
+
+more_long : (pairs more : List (ℕ × Hash)) (pair : ℕ × Hash) → more ≡ pairs ++ pair ∷ [] → length more ≡ length pairs + 1
+more_long pairs more pair e = ap (λ (l : List (ℕ × Hash)). length l) e ∙ length-append pairs (pair ∷ [])
+
+roomy : (a b c : ℕ) → a ≤ b → b ≤ c → a ≤ c
+roomy a b c p q = omega arith
+
+pub goes_on : {K : Type 0} (desk : DeskId) (c : Command) (first present next : Pass) (t u : Trying) (attempts number : ℕ) (s s' : Stored K) → Going desk c first present t attempts number → Keeps desk present next → IsLegalFrom desk.opened (seen next) → Turned desk present next s s'
+    → Moves s t.draft t.view t.pairs.items u.draft u.view u.pairs.items s' → vec_capacity t.pairs ≤ vec_capacity u.pairs → Going desk c first next u attempts (number + 1)
+goes_on {K} desk c first present next t u attempts number s s' g keeps legal turn m room =
+    let d : Draft = t.draft in
+    let found : Found desk (number_of first) first s = found_on desk c first present next t attempts number s s' g turn in
+    let book : s'.book ≡ s.book = ap (λ (x : Stored K). x.book) m.moved.after in
+    let log : seen next ≡ log_of s = turn.seen_is ∙ ap (λ (b : Book). reverse b.log) book in
+    let mark : mark_of next ≡ s.mark = turn.mark_is ∙ ap (λ (x : Stored K). x.mark) m.moved.after in
+    let view : u.view ≡ state_of desk (seen next) = m.moved.view_is ∙ (sym turn.led ∙ ap (state_of desk) (sym log)) in
+    let left : left_by next ≡ record { drafts = open_draft_of d ∷ []; sweep = None } = turn.left ∙ (ap (λ (x : Stored K). open_of (number_of present) (stored.open_of x)) m.moved.after ∙ found_open desk present next s s' d g.tries.left_is turn) in
+    let has : HasHead u.view (command_in d) m.head = subst (λ (x : Draft). HasHead u.view (command_in x) m.head) m.moved.draft m.has in
+    let here : Tries desk next d u.view u.pairs.items = record {
+      left_is = left;
+      caller = g.tries.caller ∙ sym keeps.number;
+      given = g.tries.given;
+      view_is = view;
+      passes = ap (λ (x : State). opening sha256 x (command_in d)) m.moved.view_is ∙ m.moved.passes;
+      trail = moved_on desk present next s s' d t.view t.pairs.items u.pairs.items m.built u.view m.head g.tries m.is_built turn legal book m.moved.other m.moved.view_is has m.pairs_are;
+    } in
+    record {
+      kept = record { free = keeps.free; number = keeps.number ∙ g.kept.number; spare = keeps.spare ∙ g.kept.spare; held = keeps.held ∙ g.kept.held };
+      follows = subst (Follows (number_of first) (seen first)) (sym log) found.follows;
+      tries = subst (λ (x : Draft). Tries desk next x u.view u.pairs.items) (sym m.moved.draft) here;
+      command_is = ap (λ (x : Draft). command_in x) m.moved.draft ∙ g.command_is;
+      newer = subst (λ (x : Draft). (mark_of first).draft < x.number) (sym m.moved.draft) g.newer;
+      known_then = subst (λ (x : Draft). desk.opened.state.place + known first ≤ x.place) (sym m.moved.draft) g.known_then;
+      count = more_long t.pairs.items u.pairs.items (u.view.place, m.head) m.pairs_are ∙ ap (λ (n : ℕ). n + 1) g.count;
+      room = roomy (attempts + 1) (vec_capacity t.pairs) (vec_capacity u.pairs) g.room room;
+      faults = λ x is own. found.no_new x (sym (ap (λ (y : Mark). y.fault) mark) ∙ is) own;
+      fallen = λ x is. ap (λ (y : Mark). y.fault) mark ∙ found.kept x is;
+      alone = λ only. absurd (m.moved.other (stays_alone desk present next s s' d t.view m.built g.tries.view_is m.is_built turn (alone_still desk first present g.kept only)));
+    }
+
+-- ---- an attempt that ends the call
+
+abbrev caller_was : {desk : DeskId} {c : Command} {first present : Pass} {t : Trying} {attempts number : ℕ} → Going desk c first present t attempts number → t.draft.caller ≡ number_of first
+caller_was g = g.tries.caller ∙ g.kept.number
+
+-- answers of the draft's own caller and command are those of the call
+as_asked : (desk : DeskId) (n m moment attempts k : ℕ) (c e : Command) (before after : Mark) (l log : List LogEntry) (r : Result Told Refused) → m ≡ n → e ≡ c → Answers desk m e moment attempts k before after l log r → Answers desk n c moment attempts k before after l log r
+as_asked desk n m moment attempts k c e before after l log r caller command a = subst (λ (z : ℕ × Command). Answers desk z.0 z.1 moment attempts k before after l log r) (λ i. (caller i, command i)) a
+
+-- a refusal for want of memory
+spared : {K : Type 0} (desk : DeskId) (n moment attempts k : ℕ) (c : Command) (first next : Pass) (s s' : Stored K) (r : Refused) → Found desk n first s → Left desk next s' → s'.book ≡ s.book → s'.mark.fault ≡ s.mark.fault → r ≡ out_of_memory
+    → Answers desk n c moment attempts k (mark_of first) (mark_of next) (seen first) (seen next) (Err r)
+spared desk n moment attempts k c first next s s' r found left book fault is =
+    subst (λ (x : Refused). Answers desk n c moment attempts k (mark_of first) (mark_of next) (seen first) (seen next) (Err x)) (sym is)
+    (follows_same desk n first next s s' found left book, (refl, faults_same desk n first next s s' found left fault))
+
+settled_answers : {K : Type 0} (desk : DeskId) (c : Command) (first present next : Pass) (t : Trying) (attempts number moment : ℕ) (s s' : Stored K) (r : Result Told Refused) → opens_draft c ≡ true → Going desk c first present t attempts number → Turned desk present next s s'
+    → Ends s t.draft t.view moment r s' → Answers desk (number_of first) c moment attempts (known first) (mark_of first) (mark_of next) (seen first) (seen next) r
+settled_answers {K} desk c first present next t attempts number moment s s' r opens g turn ends = by_result r ends
+  where
+    d : Draft
+    d = t.draft
+
+    found : Found desk (number_of first) first s
+    found = found_on desk c first present next t attempts number s s' g turn
+
+    own : Found desk t.draft.caller first s
+    own = subst (λ (n : ℕ). Found desk n first s) (sym (caller_was g)) found
+
+    left : Left desk next s'
+    left = left_by_turn desk present next s s' turn
+
+    opens_own : opens_draft (command_in t.draft) ≡ true
+    opens_own = ap (λ (x : Command). opens_draft x) g.command_is ∙ opens
+
+    brings : Brings t.draft.caller t.draft.number s.book.state (command_in t.draft) moment (called_in s t.draft moment)
+    brings = made_brings t.draft.caller moment t.draft.number s.book (command_in t.draft) opens_own
+
+    above : IsDraftAbove (mark_of first).draft (opens_draft (command_in t.draft)) t.draft.number
+    above = subst (λ (b : Bool). IsDraftAbove (mark_of first).draft b t.draft.number) (sym opens_own) g.newer
+
+    by_result : (x : Result Told Refused) → Ends s t.draft t.view moment x s' → Answers desk (number_of first) c moment attempts (known first) (mark_of first) (mark_of next) (seen first) (seen next) x
+    by_result (Ok told) h = as_asked desk (number_of first) t.draft.caller moment attempts (known first) c (command_in t.draft) (mark_of first) (mark_of next) (seen first) (seen next) (Ok told) (caller_was g) g.command_is
+        (answers_ok desk t.draft.caller t.draft.number moment attempts (known first) (command_in t.draft) first next s s' (called_in s t.draft moment) told (closed s t.draft) own left brings above h.2.1)
+    by_result (Err e) (inl h) = as_asked desk (number_of first) t.draft.caller moment attempts (known first) c (command_in t.draft) (mark_of first) (mark_of next) (seen first) (seen next) (Err e) (caller_was g) g.command_is
+        (causes desk t.draft.caller t.draft.number moment attempts (known first) (command_in t.draft) first next s s' (called_in s t.draft moment) e (closed s t.draft) e.why own left brings refl h.2.1)
+    by_result (Err e) (inr h) = spared desk (number_of first) moment attempts (known first) c first next s s' e found left (ap (λ (x : Stored K). x.book) h.1) (ap (λ (x : Stored K). x.mark.fault) h.1) h.0
+
+-- ---- nothing is left open
+
+pub refuses_open : {K : Type 0} (called : Called) (n : ℕ) (s : Stored K) (r : Refused) (why : Refusal) (s' : Stored K) (left_open : Open) → Refuses called n s r why s' left_open → (stored.open_of s') ≡ left_open
+refuses_open {K} called n s r refusals.NoMemory s' left_open h = ap (λ (x : Stored K). (stored.open_of x)) h.1
+refuses_open {K} called n s r (refusals.Down count) s' left_open h = ap (λ (x : Stored K). (stored.open_of x)) h.2
+refuses_open {K} called n s r refusals.Fault s' left_open h = ap (λ (x : Stored K). (stored.open_of x)) h.after
+refuses_open {K} called n s r (refusals.Expired keys place) s' left_open h = absurd h
+refuses_open {K} called n s r (refusals.RetriesSpent x) s' left_open h = ap (λ (x : Stored K). (stored.open_of x)) h.after
+refuses_open {K} called n s r (refusals.Limit x y) s' left_open h = ap (λ (x : Stored K). (stored.open_of x)) h.after
+refuses_open {K} called n s r (refusals.BadRequest x) s' left_open h = ap (λ (x : Stored K). (stored.open_of x)) h.after
+refuses_open {K} called n s r refusals.RefNotFound s' left_open h = ap (λ (x : Stored K). (stored.open_of x)) h.after
+refuses_open {K} called n s r refusals.RefExists s' left_open h = ap (λ (x : Stored K). (stored.open_of x)) h.after
+refuses_open {K} called n s r (refusals.ContentNotFound x) s' left_open h = ap (λ (x : Stored K). (stored.open_of x)) h.after
+refuses_open {K} called n s r (refusals.Conflicts x) s' left_open h = ap (λ (x : Stored K). (stored.open_of x)) h.after
+refuses_open {K} called n s r (refusals.SweepOpen x) s' left_open h = ap (λ (x : Stored K). (stored.open_of x)) h.after
+refuses_open {K} called n s r (refusals.Collision x y z) s' left_open h = ap (λ (x : Stored K). (stored.open_of x)) h.after
+refuses_open {K} called n s r refusals.NoRoute s' left_open h = ap (λ (x : Stored K). (stored.open_of x)) h.after
+refuses_open {K} called n s r (refusals.WrongMethod x) s' left_open h = ap (λ (x : Stored K). (stored.open_of x)) h.after
+refuses_open {K} called n s r refusals.TooLarge s' left_open h = ap (λ (x : Stored K). (stored.open_of x)) h.after
+refuses_open {K} called n s r refusals.Encoding s' left_open h = ap (λ (x : Stored K). (stored.open_of x)) h.after
+
+closed_then : {K : Type 0} (desk : DeskId) (p q : Pass) (s s' : Stored K) (d : Draft) → left_by p ≡ record { drafts = open_draft_of d ∷ []; sweep = None } → d.caller ≡ number_of p → Turned desk p q s s' → (stored.open_of s') ≡ closed s d → left_by q ≡ nothing_open
+closed_then desk p q s s' d left caller turn left_open = turn.left ∙ (ap (λ (o : Open). open_of (number_of p) o) left_open ∙ none_open (number_of p) (open_draft_of d) (stored.open_of s) caller (found_open desk p q s s' d left turn))
+
+ends_closed : {K : Type 0} (s s' : Stored K) (d : Draft) (view : State) (moment : ℕ) (r : Result Told Refused) → Ends s d view moment r s' → (stored.open_of s') ≡ closed s d
+ends_closed {K} s s' d view moment (Ok told) h = ap (λ (x : Stored K). (stored.open_of x)) h.2.1.after
+ends_closed {K} s s' d view moment (Err e) (inl h) = refuses_open (called_in s d moment) d.caller s e e.why s' (closed s d) h.2.1
+ends_closed {K} s s' d view moment (Err e) (inr h) = ap (λ (x : Stored K). (stored.open_of x)) h.1
+
+-- ---- on the only pass
+
+-- the store is found as the opening left it
+alone_at : {K : Type 0} (desk : DeskId) (c : Command) (first present next : Pass) (t : Trying) (attempts number moment : ℕ) (s s' : Stored K) → opens_draft c ≡ true → Going desk c first present t attempts number → Turned desk present next s s' → IsAlone first
+    → AloneAt (called_in s t.draft moment) (book_of desk first) (mark_of first).fault s × (called_in s t.draft moment ≡ call_on sha256 (number_of first) (book_of desk first) c moment)
+alone_at {K} desk c first present next t attempts number moment s s' opens g turn only =
+    let d : Draft = t.draft in
+    let b : Book = book_of desk first in
+    let stood : StoodAlone desk c first present d.number = g.alone only in
+    let still : IsAlone present = alone_still desk first present g.kept only in
+    let present_is : book_of desk present ≡ record b { draft = d.number } = λ i. record { state = state_of desk (stood.seen_is i); draft = (stood.mark_is i).draft; log = reverse (stood.seen_is i) } in
+    let found : s.book ≡ record b { draft = d.number } = book_found desk present next s s' turn still ∙ present_is in
+    let next_is : s.book ≡ record b { draft = b.draft + 1 } = found ∙ ap (λ (n : ℕ). record b { draft = n }) stood.number_is in
+    let draft : s.book.draft ≡ d.number = ap (λ (x : Book). x.draft) found in
+    let raised_by : s.book.draft ≡ b.draft + 1 = ap (λ (x : Book). x.draft) next_is in
+    let opens_own : opens_draft (command_in d) ≡ true = ap (λ (x : Command). opens_draft x) g.command_is ∙ opens in
+    let fault : s.mark.fault ≡ (mark_of first).fault = ap (λ (m : Mark). m.fault) ((turn.alone still).1 ∙ stood.mark_is) in
+    let same : called_in s d moment ≡ made_on (record b { draft = b.draft + 1 }) (in_draft (number_of first) moment (b.draft + 1)) c = λ i. made_on (next_is i) (in_draft (caller_was g i) moment (stood.number_is i)) (g.command_is i) in (
+      record {
+        log = ap (λ (x : Book). x.log) found;
+        state = ap (λ (x : Book). x.state) found;
+        low = omega arith;
+        high = omega arith;
+        draft = made_draft d.caller moment d.number s.book (command_in d) opens_own (sym draft);
+        fault = fault;
+        down = λ x is. absurd (let wrong : None ≡ Some x = sym stood.up ∙ is in cc);
+      },
+      same ∙ called_alone (number_of first) moment b c opens stood.passes,
+    )
+
+settled_alone : {K : Type 0} (desk : DeskId) (c : Command) (first present next : Pass) (t : Trying) (attempts number moment : ℕ) (s s' : Stored K) (r : Result Told Refused) → opens_draft c ≡ true → Going desk c first present t attempts number → Turned desk present next s s'
+    → Ends s t.draft t.view moment r s' → IsAlone first → AnswersAlone (number_of first) (call_on sha256 (number_of first) (book_of desk first) c moment) (book_of desk first) (book_of desk next) (mark_of first).fault (mark_of next).fault r
+settled_alone {K} desk c first present next t attempts number moment s s' r opens g turn ends only = subst (λ (z : ℕ × Called). AnswersAlone z.0 z.1 (book_of desk first) (book_of desk next) (mark_of first).fault (mark_of next).fault r) (λ i. (caller_was g i, both.1 i)) (by_result r ends)
+  where
+    both : AloneAt (called_in s t.draft moment) (book_of desk first) (mark_of first).fault s × (called_in s t.draft moment ≡ call_on sha256 (number_of first) (book_of desk first) c moment)
+    both = alone_at desk c first present next t attempts number moment s s' opens g turn only
+
+    left : Left desk next s'
+    left = left_by_turn desk present next s s' turn
+
+    brings : Brings t.draft.caller t.draft.number s.book.state (command_in t.draft) moment (called_in s t.draft moment)
+    brings = made_brings t.draft.caller moment t.draft.number s.book (command_in t.draft) (ap (λ (x : Command). opens_draft x) g.command_is ∙ opens)
+
+    by_result : (x : Result Told Refused) → Ends s t.draft t.view moment x s' → AnswersAlone t.draft.caller (called_in s t.draft moment) (book_of desk first) (book_of desk next) (mark_of first).fault (mark_of next).fault x
+    by_result (Ok told) h = alone_ok desk t.draft.caller next s s' (called_in s t.draft moment) (book_of desk first) (mark_of first).fault told (closed s t.draft) both.0 left h.2.1
+    by_result (Err e) (inl h) = alone_err desk t.draft.caller t.draft.number moment (command_in t.draft) next s s' (called_in s t.draft moment) (book_of desk first) (mark_of first).fault e (closed s t.draft) e.why both.0 left brings refl h.2.1
+    by_result (Err e) (inr h) = subst (λ (x : Refused). RefusesAlone t.draft.caller (called_in s t.draft moment) (book_of desk first) (book_of desk next) (mark_of first).fault (mark_of next).fault x x.why) (sym h.0)
+        (given_up_alone desk t.draft.caller next s s' (called_in s t.draft moment) (book_of desk first) (mark_of first).fault out_of_memory both.0 left (ap (λ (x : Stored K). x.book) h.1) (ap (λ (x : Stored K). x.mark.fault) h.1) refl)
+
+pub comes_early : {K : Type 0} (desk : DeskId) (c : Command) (first present next : Pass) (t : Trying) (attempts number moment : ℕ) (s s' : Stored K) (r : Result Told Refused) → opens_draft c ≡ true → Going desk c first present t attempts number → Turned desk present next s s'
+    → Ends s t.draft t.view moment r s' → Comes desk c first next attempts moment r
+comes_early desk c first present next t attempts number moment s s' r opens g turn ends = record {
+  none = closed_then desk present next s s' t.draft g.tries.left_is g.tries.caller turn (ends_closed s s' t.draft t.view moment r ends);
+  answers = settled_answers desk c first present next t attempts number moment s s' r opens g turn ends;
+  alone = settled_alone desk c first present next t attempts number moment s s' r opens g turn ends;
+}
+
+-- ---- the last attempt
+
+spent_pairs : {K : Type 0} (desk : DeskId) (c : Command) (first present next : Pass) (t : Trying) (attempts : ℕ) (s s' : Stored K) (built : Built) (r : Refused) → opens_draft c ≡ true → Going desk c first present t attempts attempts → IsLegalFrom desk.opened (seen next)
+    → Turned desk present next s s' → IsBuilt t.view t.draft.call built → (x : IsSpent s t.draft built t.pairs.items r s') → Spends desk (number_of first) c attempts (known first) (mark_of first) (mark_of next) (seen next) x.more
+spent_pairs {K} desk c first present next t attempts s s' built r opens g legal turn is x =
+    let d : Draft = t.draft in
+    let book : s'.book ≡ s.book = ap (λ (y : Stored K). y.book) x.after in
+    let own : Trail desk (command_in d) (seen next) d.place x.more = moved_on desk present next s s' d t.view t.pairs.items x.more built x.view x.head g.tries is turn legal book x.moved.other x.moved.view_is x.has x.pairs_are in
+    let trail : Trail desk c (seen next) d.place x.more = subst (λ (e : Command). Trail desk e (seen next) d.place x.more) g.command_is own in
+    let dropped : (mark_of next).dropped ≡ Some (opening_in d) = ap (λ (m : Mark). m.dropped) turn.mark_is ∙ ap (λ (y : Stored K). y.mark.dropped) x.after in
+    record {
+      opens = opens;
+      count = more_long t.pairs.items x.more (x.view.place, x.head) x.pairs_are ∙ ap (λ (n : ℕ). n + 1) g.count;
+      rises = trail.rises;
+      at = trail.at;
+      front = trail.front;
+      head = trail.head;
+      last = trail.last;
+      known = subst (λ (n : ℕ). desk.opened.state.place + known first ≤ n) (sym trail.begins) g.known_then;
+      number = d.number;
+      dropped = dropped ∙ (λ i. Some (record { number = d.number; caller = caller_was g i; place = sym trail.begins i }));
+      newer = g.newer;
+    }
+
+spent_comes : {K : Type 0} (desk : DeskId) (c : Command) (first present next : Pass) (t : Trying) (attempts moment : ℕ) (s s' : Stored K) (built : Built) (r : Refused) → opens_draft c ≡ true → Going desk c first present t attempts attempts → IsLegalFrom desk.opened (seen next)
+    → Turned desk present next s s' → IsBuilt t.view t.draft.call built → IsSpent s t.draft built t.pairs.items r s' → Comes desk c first next attempts moment (Err r)
+spent_comes {K} desk c first present next t attempts moment s s' built r opens g legal turn is x =
+    let book : s'.book ≡ s.book = ap (λ (y : Stored K). y.book) x.after in
+    let left : Left desk next s' = left_by_turn desk present next s s' turn in
+    let state : state_of desk (seen next) ≡ x.view = left.state_is ∙ (ap (λ (b : Book). b.state) book ∙ sym x.moved.view_is) in
+    let refused : Refused = record { place = Some x.view.place; why = refusals.RetriesSpent x.more } in
+    let found : Found desk (number_of first) first s = found_on desk c first present next t attempts attempts s s' g turn in
+    record {
+      none = closed_then desk present next s s' t.draft g.tries.left_is g.tries.caller turn (ap (λ (y : Stored K). (stored.open_of y)) x.after);
+      answers = subst (λ (e : Refused). Answers desk (number_of first) c moment attempts (known first) (mark_of first) (mark_of next) (seen first) (seen next) (Err e)) (sym x.is) (
+        follows_same desk (number_of first) first next s s' found left book,
+        (ap (λ (y : State). Some y.place) (sym state), spent_pairs desk c first present next t attempts s s' built r opens g legal turn is x),
+      );
+      alone = λ only. absurd (x.moved.other (stays_alone desk present next s s' t.draft t.view built g.tries.view_is is turn (alone_still desk first present g.kept only)));
+    }
+
+pub comes_late : {K : Type 0} (desk : DeskId) (c : Command) (first present next : Pass) (t : Trying) (attempts moment : ℕ) (s s' : Stored K) (r : Result Told Refused) → opens_draft c ≡ true → Going desk c first present t attempts attempts → IsLegalFrom desk.opened (seen next)
+    → Turned desk present next s s' → EndsLast s t.draft t.view t.pairs.items moment r s' → Comes desk c first next attempts moment r
+comes_late desk c first present next t attempts moment s s' (Ok told) opens g legal turn h = comes_early desk c first present next t attempts attempts moment s s' (Ok told) opens g turn h
+comes_late desk c first present next t attempts moment s s' (Err r) opens g legal turn (inl h) = comes_early desk c first present next t attempts attempts moment s s' (Err r) opens g turn (inl h)
+comes_late desk c first present next t attempts moment s s' (Err r) opens g legal turn (inr (inl h)) = spent_comes desk c first present next t attempts moment s s' h.0 r opens g legal turn h.1 h.2
+comes_late desk c first present next t attempts moment s s' (Err r) opens g legal turn (inr (inr h)) = comes_early desk c first present next t attempts attempts moment s s' (Err r) opens g turn (inr h)

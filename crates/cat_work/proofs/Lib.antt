@@ -1,0 +1,12 @@
+mod Usual
+mod Steps
+mod Callings
+mod Openings
+mod Opened
+mod Trails
+mod Telling
+mod Endings
+mod Turning
+mod Unopened
+mod AtOnce
+mod Made

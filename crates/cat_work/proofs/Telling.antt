@@ -1,0 +1,315 @@
+-- What a turn tells of a call, seen from the pass as it was at the call.
+use Rattle.std.proofs.Common.{◌≡◌, ◌<◌, ◌≤◌, ◌⊎◌, inl, inr, ℕ, ◌+◌, List, [], ◌∷◌, ◌++◌, reverse, Option, Some, None, Result, Ok, Err, Bool, true, false, refl, sym, ap, subst, ◌∙◌, arith}
+use Rattle.std.proofs.lemmas.List.{reverse-append, reverse-reverse}
+use Rattle.sha2.specs.Sha256.{sha256}
+use Rattle.cat_core.specs.Drafts as store
+use Rattle.cat_core.specs.Drafts.{Does, IsRefused, Refuses}
+use Rattle.cat_core.specs.Stored.{IsUp, Stored, log_of, opened_of}
+use Rattle.cat_desk.specs.Log.{Follows}
+use Rattle.cat_desk.specs.Pass.{DeskId, mark_of, number_of, seen}
+use Rattle.cat_desk.specs.declared.pass.Pass.{Pass}
+use Rattle.cat_model.specs.declared.command.Command.{Command}
+use Rattle.cat_model.specs.declared.limits.Quantity.{Quantity}
+use Rattle.cat_model.specs.declared.limits.Quantity.TheVariants as quantities
+use Rattle.cat_model.specs.declared.log_entry.LogEntry.{LogEntry}
+use Rattle.cat_model.specs.declared.refusal.Refusal.{Refusal}
+use Rattle.cat_model.specs.declared.refusal.Refusal.TheVariants as refusals
+use Rattle.cat_model.specs.declared.refusal.Refused.{Refused}
+use Rattle.cat_model.specs.declared.reply.Reply.{Reply}
+use Rattle.cat_model.specs.declared.reply.Told.{Told}
+use Rattle.cat_model.specs.Book.{Book, IsCalled, IsGivenUp, after_call}
+use Rattle.cat_model.specs.Calls.{Called, entry_made}
+use Rattle.cat_model.specs.Drafts.{Open}
+use Rattle.cat_model.specs.Mark.{FailedAppend, Mark}
+use Rattle.cat_model.specs.Refusing.{Outcome}
+use Rattle.cat_model.specs.State.{State}
+use Rattle.cat_model.specs.Step as steps
+use Rattle.cat_model.specs.Step.{opens_draft, step}
+use Rattle.cat_work.specs.Answers.{Answers, AnswersAlone, Causes, CausesLimit, ComesTo, ComesToIn, FallsAlone, IsAt, IsDraftAbove, IsEntryOf, NoFaultIsNew, RefusesAlone}
+use Rattle.cat_work.specs.Passes.{IsAlone, book_of, state_of}
+use Rattle.cat_work.specs.Turns.{Turned}
+use Rattle.cat_work.proofs.Callings.{Brings, Entering, IsStepsOwn, Telling, entry_is, refused_is, told_is}
+use Rattle.cat_work.proofs.Usual.{IsUsual, IsUsualCause, usual_step}
+
+-- ---- what is found and left
+
+-- the store as a turn of a call finds it, against the pass as it was at the call
+pub record Found {K : Type 0} (desk : DeskId) (n : ℕ) (first : Pass) (s : Stored K) : Type 0 where
+  pub follows : Follows n (seen first) (log_of s)
+  pub led : state_of desk (log_of s) ≡ s.book.state
+  pub no_new : NoFaultIsNew n (mark_of first) s.mark
+  pub kept : (x : FailedAppend) → (mark_of first).fault ≡ Some x → s.mark.fault ≡ Some x
+
+-- the store as a turn leaves it, against the pass after it
+pub record Left {K : Type 0} (desk : DeskId) (next : Pass) (s : Stored K) : Type 0 where
+  pub seen_is : seen next ≡ log_of s
+  pub mark_is : mark_of next ≡ s.mark
+  pub state_is : state_of desk (seen next) ≡ s.book.state
+  pub book_is : book_of desk next ≡ s.book
+
+pub left_by_turn : {K : Type 0} (desk : DeskId) (p q : Pass) (s s' : Stored K) → Turned desk p q s s' → Left desk q s'
+left_by_turn desk p q s s' t =
+    let state : state_of desk (seen q) ≡ s'.book.state = ap (state_of desk) t.seen_is ∙ t.led_on in
+    let draft : (mark_of q).draft ≡ s'.book.draft = ap (λ (m : Mark). m.draft) t.mark_is ∙ t.draft_on in
+    let log : reverse (seen q) ≡ s'.book.log = ap (λ (l : List LogEntry). reverse l) t.seen_is ∙ reverse-reverse s'.book.log in
+    record { seen_is = t.seen_is; mark_is = t.mark_is; state_is = state; book_is = λ i. record { state = state i; draft = draft i; log = log i } }
+
+-- the book that a pass finds alone is its own
+pub book_found : {K : Type 0} (desk : DeskId) (p q : Pass) (s s' : Stored K) → Turned desk p q s s' → IsAlone p → s.book ≡ book_of desk p
+book_found desk p q s s' t alone =
+    let there = t.alone alone in
+    let state : s.book.state ≡ state_of desk (seen p) = sym t.led ∙ ap (state_of desk) there.0 in
+    let draft : s.book.draft ≡ (mark_of p).draft = sym t.draft ∙ ap (λ (m : Mark). m.draft) there.1 in
+    let log : s.book.log ≡ reverse (seen p) = sym (reverse-reverse s.book.log) ∙ ap (λ (l : List LogEntry). reverse l) there.0 in
+    λ i. record { state = state i; draft = draft i; log = log i }
+
+-- ---- steps at the state that is left
+
+pub comes_at : (a b : State) (c : Command) (moment : ℕ) (outcome : Outcome) → a ≡ b → ComesTo b c moment outcome → ComesTo a c moment outcome
+comes_at a b c moment outcome same comes = subst (λ (x : State). ComesTo x c moment outcome) (sym same) comes
+
+entry_at : (a b : State) (n : ℕ) (c : Command) (moment : ℕ) (entry : LogEntry) → a ≡ b → IsEntryOf n b c moment entry → IsEntryOf n a c moment entry
+entry_at a b n c moment entry same is = subst (λ (x : State). IsEntryOf n x c moment entry) (sym same) is
+
+-- ---- a reply
+
+abbrev outcome : State → Reply → Outcome
+outcome state reply = Ok (state, reply)
+
+newest_last : (entry : LogEntry) (log : List LogEntry) → reverse (entry ∷ log) ≡ reverse log ++ entry ∷ []
+newest_last entry log = reverse-append (entry ∷ []) log
+
+entered : {K : Type 0} (desk : DeskId) (n draft moment attempts k : ℕ) (c : Command) (first next : Pass) (s s' : Stored K) (called : Called) (told : Told) → Found desk n first s → Left desk next s' → s'.book ≡ after_call s.book called
+    → (x : Entering n draft s.book.state c moment called) → told ≡ record { place = x.after.place; reply = x.reply } → IsDraftAbove (mark_of first).draft (opens_draft c) draft
+    → Answers desk n c moment attempts k (mark_of first) (mark_of next) (seen first) (seen next) (Ok told)
+unfolding entry_made
+entered desk n draft moment attempts k c first next s s' called told found left book x is above =
+    let entry : LogEntry = entry_made sha256 n x.after c x.turn x.reply in
+    let logged : seen next ≡ log_of s ++ entry ∷ [] = left.seen_is ∙ ap (λ (b : Book). reverse b.log) book ∙ ap (λ (l : List LogEntry). reverse (l ++ s.book.log)) x.logged ∙ newest_last entry s.book.log in
+    let state : state_of desk (seen next) ≡ x.after = left.state_is ∙ ap (λ (b : Book). b.state) book ∙ x.state_is in
+    let reply : told.reply ≡ x.reply = ap (λ (t : Told). t.reply) is in
+    let began : step sha256 (state_of desk (log_of s)) c (record { draft = x.turn.draft; opened = x.turn.opened; moment = moment }) ≡ step sha256 s.book.state c x.turn =
+    λ i. step sha256 (found.led i) c (record { draft = x.turn.draft; opened = x.turn.opened; moment = sym x.moment_is i }) in
+    let ends : outcome x.after x.reply ≡ outcome (state_of desk (seen next)) told.reply = λ i. outcome (sym state i) (sym reply i) in
+    inl (record {
+      before = log_of s;
+      entry = entry;
+      follows = found.follows;
+      log = logged;
+      caller = refl;
+      moment_is = x.moment_is;
+      command_is = refl;
+      draft = subst (IsDraftAbove (mark_of first).draft (opens_draft c)) (sym x.draft_is) above;
+      place = ap (λ (t : Told). t.place) is ∙ sym (ap (λ (y : State). y.place) state);
+      reply = (x.turn.opened, began ∙ x.is ∙ ends);
+    })
+
+told_only : {K : Type 0} (desk : DeskId) (n moment attempts k : ℕ) (c : Command) (first next : Pass) (s s' : Stored K) (called : Called) (told : Told) → Found desk n first s → Left desk next s' → s'.book ≡ after_call s.book called
+    → (x : Telling s.book.state c moment called) → told ≡ record { place = s.book.state.place; reply = x.reply }
+    → Answers desk n c moment attempts k (mark_of first) (mark_of next) (seen first) (seen next) (Ok told)
+told_only desk n moment attempts k c first next s s' called told found left book x is =
+    let same : seen next ≡ log_of s = left.seen_is ∙ ap (λ (b : Book). reverse b.log) book ∙ ap (λ (l : List LogEntry). reverse (l ++ s.book.log)) x.none in
+    let state : state_of desk (seen next) ≡ s.book.state = left.state_is ∙ ap (λ (b : Book). b.state) book ∙ x.state_is in
+    let reply : told.reply ≡ x.reply = ap (λ (t : Told). t.reply) is in
+    let ends : outcome s.book.state x.reply ≡ outcome (state_of desk (seen next)) told.reply = λ i. outcome (sym state i) (sym reply i) in
+    inr (record {
+      follows = subst (Follows n (seen first)) (sym same) found.follows;
+      place = ap (λ (t : Told). t.place) is ∙ sym (ap (λ (y : State). y.place) state);
+      reply = comes_at (state_of desk (seen next)) s.book.state c moment (Ok (state_of desk (seen next), told.reply)) state (subst (ComesTo s.book.state c moment) ends x.is);
+    })
+
+pub answers_ok : {K : Type 0} (desk : DeskId) (n draft moment attempts k : ℕ) (c : Command) (first next : Pass) (s s' : Stored K) (called : Called) (told : Told) (left_open : Open) → Found desk n first s → Left desk next s' → Brings n draft s.book.state c moment called
+    → IsDraftAbove (mark_of first).draft (opens_draft c) draft → Does called s told s' left_open → Answers desk n c moment attempts k (mark_of first) (mark_of next) (seen first) (seen next) (Ok told)
+answers_ok {K} desk n draft moment attempts k c first next s s' called told left_open found left brings above does = by_kind (told_is n draft s.book.state c moment called told brings does.said)
+  where
+    book : s'.book ≡ after_call s.book called
+    book = ap (λ (x : Stored K). x.book) does.after
+
+    by_kind : ((x : Entering n draft s.book.state c moment called) × (told ≡ record { place = x.after.place; reply = x.reply })) ⊎ ((x : Telling s.book.state c moment called) × (told ≡ record { place = s.book.state.place; reply = x.reply }))
+        → Answers desk n c moment attempts k (mark_of first) (mark_of next) (seen first) (seen next) (Ok told)
+    by_kind (inl x) = entered desk n draft moment attempts k c first next s s' called told found left book x.0 x.1 above
+    by_kind (inr x) = told_only desk n moment attempts k c first next s s' called told found left book x.0 x.1
+
+-- ---- a refusal
+
+-- the log was left as it was found
+pub follows_same : {K : Type 0} (desk : DeskId) (n : ℕ) (first next : Pass) (s s' : Stored K) → Found desk n first s → Left desk next s' → s'.book ≡ s.book → Follows n (seen first) (seen next)
+follows_same desk n first next s s' found left book = subst (Follows n (seen first)) (sym (left.seen_is ∙ ap (λ (b : Book). reverse b.log) book)) found.follows
+
+pub state_same : {K : Type 0} (desk : DeskId) (next : Pass) (s s' : Stored K) → Left desk next s' → s'.book ≡ s.book → state_of desk (seen next) ≡ s.book.state
+state_same desk next s s' left book = left.state_is ∙ ap (λ (b : Book). b.state) book
+
+pub at_state : (desk : DeskId) (next : Pass) (state : State) (place : Option ℕ) → state_of desk (seen next) ≡ state → place ≡ Some state.place → IsAt desk (seen next) place
+at_state desk next state place same is = is ∙ ap (λ (x : State). Some x.place) (sym same)
+
+-- no fault of the caller is new where the turn left the mark's faults
+pub faults_same : {K : Type 0} (desk : DeskId) (n : ℕ) (first next : Pass) (s s' : Stored K) → Found desk n first s → Left desk next s' → s'.mark.fault ≡ s.mark.fault → NoFaultIsNew n (mark_of first) (mark_of next)
+faults_same desk n first next s s' found left same x is own = found.no_new x (sym same ∙ (ap (λ (m : Mark). m.fault) (sym left.mark_is) ∙ is)) own
+
+-- what is refused by the rules
+refused_here : {K : Type 0} (desk : DeskId) (n draft moment : ℕ) (c : Command) (first next : Pass) (s s' : Stored K) (called : Called) (r : Refused) (left_open : Open) (why : Refusal) → Found desk n first s → Left desk next s' → Brings n draft s.book.state c moment called
+    → r.why ≡ why → IsRefused called s r s' left_open → Follows n (seen first) (seen next) × (IsAt desk (seen next) r.place × ComesTo (state_of desk (seen next)) c moment (Err why))
+refused_here {K} desk n draft moment c first next s s' called r left_open why found left brings same refused =
+    let book : s'.book ≡ s.book = ap (λ (x : Stored K). x.book) refused.after in
+    let state = state_same desk next s s' left book in
+    let own = refused_is n draft s.book.state c moment called r brings refused.said in (
+      follows_same desk n first next s s' found left book,
+      (at_state desk next s.book.state r.place state own.place, comes_at (state_of desk (seen next)) s.book.state c moment (Err why) state (subst (λ (w : Refusal). ComesTo s.book.state c moment (Err w)) same own.why)),
+    )
+
+-- no step refuses so
+never : {A : Type 0} (state : State) (c : Command) (moment : ℕ) (why : Refusal) → (IsUsualCause why → ⊥) → ComesTo state c moment (Err why) → A
+never state c moment why none comes = absurd (none (subst (λ (o : Outcome). IsUsual o) comes.1.1 (usual_step state c (record { draft = comes.0; opened = comes.1.0; moment = moment }))))
+
+is_false : (b : Bool) → b ≡ false → b ≡ true → ⊥
+is_false b f t = let wrong : false ≡ true = sym f ∙ t in cc
+
+by_limit : (desk : DeskId) (n moment attempts k : ℕ) (c : Command) (first next : Pass) (which : Quantity) (number : ℕ) (place : Option ℕ)
+    → Follows n (seen first) (seen next) × (IsAt desk (seen next) place × ComesTo (state_of desk (seen next)) c moment (Err (refusals.Limit which number)))
+    → Follows n (seen first) (seen next) × Causes desk n c moment attempts k (mark_of first) (mark_of next) (seen next) place (refusals.Limit which number)
+by_limit desk n moment attempts k c first next quantities.Drafts number place h = never (state_of desk (seen next)) c moment (refusals.Limit quantities.Drafts number) (is_false false refl) h.1.1
+by_limit desk n moment attempts k c first next quantities.References number place h = h
+by_limit desk n moment attempts k c first next quantities.Log number place h = h
+by_limit desk n moment attempts k c first next quantities.Commits number place h = h
+by_limit desk n moment attempts k c first next quantities.Keys number place h = h
+by_limit desk n moment attempts k c first next quantities.Contents number place h = h
+by_limit desk n moment attempts k c first next quantities.Names number place h = h
+
+not_none : (x : FailedAppend) → None ≡ Some x → ⊥
+not_none x e = cc
+
+pub causes : {K : Type 0} (desk : DeskId) (n draft moment attempts k : ℕ) (c : Command) (first next : Pass) (s s' : Stored K) (called : Called) (r : Refused) (left_open : Open) (why : Refusal) → Found desk n first s → Left desk next s' → Brings n draft s.book.state c moment called
+    → r.why ≡ why → Refuses called n s r why s' left_open → Follows n (seen first) (seen next) × Causes desk n c moment attempts k (mark_of first) (mark_of next) (seen next) r.place why
+causes {K} desk n draft moment attempts k c first next s s' called r left_open refusals.NoMemory found left brings same h =
+    let book : s'.book ≡ s.book = ap (λ (x : Stored K). x.book) h.1 in
+    (follows_same desk n first next s s' found left book, (h.0, faults_same desk n first next s s' found left (ap (λ (x : Stored K). x.mark.fault) h.1)))
+causes {K} desk n draft moment attempts k c first next s s' called r left_open (refusals.Down count) found left brings same h =
+    let book : s'.book ≡ s.book = ap (λ (x : Stored K). x.book) h.2 in
+    let state = state_same desk next s s' left book in
+    let is : (mark_of next).fault ≡ Some h.1.0 = ap (λ (m : Mark). m.fault) left.mark_is ∙ (ap (λ (x : Stored K). x.mark.fault) h.2 ∙ h.1.1) in (
+      follows_same desk n first next s s' found left book,
+      (at_state desk next s.book.state r.place state h.0, record { fault = h.1.0; is = is; count_is = h.1.2; known = λ own. found.no_new h.1.0 h.1.1 own }),
+    )
+causes {K} desk n draft moment attempts k c first next s s' called r left_open refusals.Fault found left brings same h =
+    let book : s'.book ≡ s.book = ap (λ (x : Stored K). x.book) h.after in
+    let state = state_same desk next s s' left book in
+    let is : (mark_of next).fault ≡ Some h.fault = ap (λ (m : Mark). m.fault) left.mark_is ∙ ap (λ (x : Stored K). x.mark.fault) h.after in (
+      follows_same desk n first next s s' found left book,
+      (
+        at_state desk next s.book.state r.place state h.place,
+        record {
+          fault = h.fault;
+          is = is;
+          caller_is = h.caller_is;
+          new = λ was. not_none h.fault (sym h.up ∙ found.kept h.fault was);
+          entry = h.entry;
+          accepted = entry_at (state_of desk (seen next)) s.book.state n c moment h.entry state (entry_is n draft s.book.state c moment called h.entry brings h.logged);
+          payload = h.payload;
+        },
+      ),
+    )
+causes desk n draft moment attempts k c first next s s' called r left_open (refusals.Expired keys opened) found left brings same h = absurd h
+causes desk n draft moment attempts k c first next s s' called r left_open (refusals.RetriesSpent pairs) found left brings same h =
+    never (state_of desk (seen next)) c moment (refusals.RetriesSpent pairs) (is_false false refl) (refused_here desk n draft moment c first next s s' called r left_open (refusals.RetriesSpent pairs) found left brings same h).1.1
+causes {K} desk n draft moment attempts k c first next s s' called r left_open (refusals.Limit which number) found left brings same h =
+    by_limit desk n moment attempts k c first next which number r.place (refused_here desk n draft moment c first next s s' called r left_open (refusals.Limit which number) found left brings same h)
+causes desk n draft moment attempts k c first next s s' called r left_open (refusals.BadRequest x) found left brings same h = refused_here desk n draft moment c first next s s' called r left_open (refusals.BadRequest x) found left brings same h
+causes desk n draft moment attempts k c first next s s' called r left_open refusals.RefNotFound found left brings same h = refused_here desk n draft moment c first next s s' called r left_open refusals.RefNotFound found left brings same h
+causes desk n draft moment attempts k c first next s s' called r left_open refusals.RefExists found left brings same h = refused_here desk n draft moment c first next s s' called r left_open refusals.RefExists found left brings same h
+causes desk n draft moment attempts k c first next s s' called r left_open (refusals.ContentNotFound x) found left brings same h = refused_here desk n draft moment c first next s s' called r left_open (refusals.ContentNotFound x) found left brings same h
+causes desk n draft moment attempts k c first next s s' called r left_open (refusals.Conflicts x) found left brings same h = refused_here desk n draft moment c first next s s' called r left_open (refusals.Conflicts x) found left brings same h
+causes desk n draft moment attempts k c first next s s' called r left_open (refusals.SweepOpen x) found left brings same h = refused_here desk n draft moment c first next s s' called r left_open (refusals.SweepOpen x) found left brings same h
+causes desk n draft moment attempts k c first next s s' called r left_open (refusals.Collision x y z) found left brings same h = refused_here desk n draft moment c first next s s' called r left_open (refusals.Collision x y z) found left brings same h
+causes desk n draft moment attempts k c first next s s' called r left_open refusals.NoRoute found left brings same h = refused_here desk n draft moment c first next s s' called r left_open refusals.NoRoute found left brings same h
+causes desk n draft moment attempts k c first next s s' called r left_open (refusals.WrongMethod x) found left brings same h = refused_here desk n draft moment c first next s s' called r left_open (refusals.WrongMethod x) found left brings same h
+causes desk n draft moment attempts k c first next s s' called r left_open refusals.TooLarge found left brings same h = refused_here desk n draft moment c first next s s' called r left_open refusals.TooLarge found left brings same h
+causes desk n draft moment attempts k c first next s s' called r left_open refusals.Encoding found left brings same h = refused_here desk n draft moment c first next s s' called r left_open refusals.Encoding found left brings same h
+
+-- ---- on the only pass
+
+-- the store as a turn finds it, against the book that the only pass stood at when the call came
+pub record AloneAt {K : Type 0} (called : Called) (b : Book) (f : Option FailedAppend) (s : Stored K) : Type 0 where
+  pub log : s.book.log ≡ b.log
+  pub state : s.book.state ≡ b.state
+  pub low : b.draft ≤ s.book.draft
+  pub high : s.book.draft ≤ b.draft + 1
+  pub draft : called.draft ≡ s.book.draft
+  pub fault : s.mark.fault ≡ f
+  pub down : (x : FailedAppend) → f ≡ Some x → s.book ≡ b
+
+pub alone_ok : {K : Type 0} (desk : DeskId) (n : ℕ) (next : Pass) (s s' : Stored K) (called : Called) (b : Book) (f : Option FailedAppend) (told : Told) (left_open : Open) → AloneAt called b f s → Left desk next s' → Does called s told s' left_open
+    → AnswersAlone n called b (book_of desk next) f (mark_of next).fault (Ok told)
+alone_ok {K} desk n next s s' called b f told left_open at left does =
+    let book : s'.book ≡ after_call s.book called = ap (λ (x : Stored K). x.book) does.after in (
+      record { said = does.said; book = left.book_is ∙ book ∙ ap (λ (l : List LogEntry). record { state = called.state; draft = called.draft; log = called.logged ++ l }) at.log },
+      sym at.fault ∙ does.up,
+      ap (λ (m : Mark). m.fault) left.mark_is ∙ (ap (λ (x : Stored K). x.mark.fault) does.after ∙ does.up),
+    )
+
+refused_alone : {K : Type 0} (desk : DeskId) (n draft moment : ℕ) (c : Command) (next : Pass) (s s' : Stored K) (called : Called) (b : Book) (f : Option FailedAppend) (r : Refused) (left_open : Open) → AloneAt called b f s → Left desk next s' → Brings n draft s.book.state c moment called
+    → IsRefused called s r s' left_open → IsCalled called b (book_of desk next) (Err r) × (f ≡ None) × ((mark_of next).fault ≡ None)
+refused_alone {K} desk n draft moment c next s s' called b f r left_open at left brings refused =
+    let own = refused_is n draft s.book.state c moment called r brings refused.said in
+    let same : s'.book ≡ s.book = ap (λ (x : Stored K). x.book) refused.after in
+    let state : s.book.state ≡ called.state = sym own.state_is in
+    let log : s.book.log ≡ called.logged ++ b.log = at.log ∙ ap (λ (l : List LogEntry). l ++ b.log) (sym own.none) in
+    let after : s.book ≡ after_call b called = λ i. record { state = state i; draft = sym at.draft i; log = log i } in (
+      record { said = refused.said; book = left.book_is ∙ same ∙ after },
+      sym at.fault ∙ refused.up,
+      ap (λ (m : Mark). m.fault) left.mark_is ∙ (ap (λ (x : Stored K). x.mark.fault) refused.after ∙ refused.up),
+    )
+
+pub given_up_alone : {K : Type 0} (desk : DeskId) (n : ℕ) (next : Pass) (s s' : Stored K) (called : Called) (b : Book) (f : Option FailedAppend) (r : Refused) → AloneAt called b f s → Left desk next s' → s'.book ≡ s.book → s'.mark.fault ≡ s.mark.fault → r.place ≡ None
+    → IsGivenUp b (book_of desk next) r × ((mark_of next).fault ≡ f)
+given_up_alone desk n next s s' called b f r at left same fault none =
+    let book : book_of desk next ≡ s.book = left.book_is ∙ same in
+    let draft : (book_of desk next).draft ≡ s.book.draft = ap (λ (x : Book). x.draft) book in
+    let low : b.draft ≤ s.book.draft = at.low in
+    let high : s.book.draft ≤ b.draft + 1 = at.high in (
+      record { place = none; state = ap (λ (x : Book). x.state) book ∙ at.state; log = ap (λ (x : Book). x.log) book ∙ at.log; draft_kept = omega arith; draft_taken = omega arith },
+      ap (λ (m : Mark). m.fault) left.mark_is ∙ (fault ∙ at.fault),
+    )
+
+pub alone_err : {K : Type 0} (desk : DeskId) (n draft moment : ℕ) (c : Command) (next : Pass) (s s' : Stored K) (called : Called) (b : Book) (f : Option FailedAppend) (r : Refused) (left_open : Open) (why : Refusal) → AloneAt called b f s → Left desk next s' → Brings n draft s.book.state c moment called
+    → r.why ≡ why → Refuses called n s r why s' left_open → RefusesAlone n called b (book_of desk next) f (mark_of next).fault r why
+alone_err {K} desk n draft moment c next s s' called b f r left_open refusals.NoMemory at left brings same h =
+    given_up_alone desk n next s s' called b f r at left (ap (λ (x : Stored K). x.book) h.1) (ap (λ (x : Stored K). x.mark.fault) h.1) h.0
+alone_err {K} desk n draft moment c next s s' called b f r left_open (refusals.Down count) at left brings same h =
+    let was : f ≡ Some h.1.0 = sym at.fault ∙ h.1.1 in
+    record {
+      place = h.0 ∙ ap (λ (x : State). Some x.place) at.state;
+      book = left.book_is ∙ (ap (λ (x : Stored K). x.book) h.2 ∙ at.down h.1.0 was);
+      fault = h.1.0;
+      was = was;
+      is = ap (λ (m : Mark). m.fault) left.mark_is ∙ (ap (λ (x : Stored K). x.mark.fault) h.2 ∙ h.1.1);
+      count_is = h.1.2;
+    }
+alone_err {K} desk n draft moment c next s s' called b f r left_open refusals.Fault at left brings same h =
+    let book : book_of desk next ≡ s.book = left.book_is ∙ ap (λ (x : Stored K). x.book) h.after in
+    record {
+      place = h.place ∙ ap (λ (x : State). Some x.place) at.state;
+      unkept = record { entry = h.entry; logged = h.logged; state = ap (λ (x : Book). x.state) book ∙ at.state; log = ap (λ (x : Book). x.log) book ∙ at.log; draft = ap (λ (x : Book). x.draft) book ∙ sym at.draft };
+      up = sym at.fault ∙ h.up;
+      fault = h.fault;
+      is = ap (λ (m : Mark). m.fault) left.mark_is ∙ ap (λ (x : Stored K). x.mark.fault) h.after;
+      caller_is = h.caller_is;
+      entry = h.entry;
+      logged = h.logged;
+      payload = h.payload;
+    }
+alone_err desk n draft moment c next s s' called b f r left_open (refusals.Expired keys opened) at left brings same h = absurd h
+alone_err desk n draft moment c next s s' called b f r left_open (refusals.RetriesSpent pairs) at left brings same h =
+    let own = refused_is n draft s.book.state c moment called r brings h.said in
+    never s.book.state c moment (refusals.RetriesSpent pairs) (is_false false refl) (subst (λ (w : Refusal). ComesTo s.book.state c moment (Err w)) same own.why)
+alone_err desk n draft moment c next s s' called b f r left_open (refusals.Limit x y) at left brings same h = refused_alone desk n draft moment c next s s' called b f r left_open at left brings h
+alone_err desk n draft moment c next s s' called b f r left_open (refusals.BadRequest x) at left brings same h = refused_alone desk n draft moment c next s s' called b f r left_open at left brings h
+alone_err desk n draft moment c next s s' called b f r left_open refusals.RefNotFound at left brings same h = refused_alone desk n draft moment c next s s' called b f r left_open at left brings h
+alone_err desk n draft moment c next s s' called b f r left_open refusals.RefExists at left brings same h = refused_alone desk n draft moment c next s s' called b f r left_open at left brings h
+alone_err desk n draft moment c next s s' called b f r left_open (refusals.ContentNotFound x) at left brings same h = refused_alone desk n draft moment c next s s' called b f r left_open at left brings h
+alone_err desk n draft moment c next s s' called b f r left_open (refusals.Conflicts x) at left brings same h = refused_alone desk n draft moment c next s s' called b f r left_open at left brings h
+alone_err desk n draft moment c next s s' called b f r left_open (refusals.SweepOpen x) at left brings same h = refused_alone desk n draft moment c next s s' called b f r left_open at left brings h
+alone_err desk n draft moment c next s s' called b f r left_open (refusals.Collision x y z) at left brings same h = refused_alone desk n draft moment c next s s' called b f r left_open at left brings h
+alone_err desk n draft moment c next s s' called b f r left_open refusals.NoRoute at left brings same h = refused_alone desk n draft moment c next s s' called b f r left_open at left brings h
+alone_err desk n draft moment c next s s' called b f r left_open (refusals.WrongMethod x) at left brings same h = refused_alone desk n draft moment c next s s' called b f r left_open at left brings h
+alone_err desk n draft moment c next s s' called b f r left_open refusals.TooLarge at left brings same h = refused_alone desk n draft moment c next s s' called b f r left_open at left brings h
+alone_err desk n draft moment c next s s' called b f r left_open refusals.Encoding at left brings same h = refused_alone desk n draft moment c next s s' called b f r left_open at left brings h

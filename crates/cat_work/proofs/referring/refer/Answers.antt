@@ -1,0 +1,11 @@
+use Rattle.std.proofs.Common.{ℕ, subst}
+use Rattle.cat_work.specs.Turns.{Comes}
+use Rattle.cat_work.proofs.referring.refer.Goals as goal
+
+pub returns-clause-ready : goal.returns-clause-ready
+returns-clause-ready g c = record { free = c.refer_at.ensures.kept.free; none = (c.refer_at.ensures.comes 0).none; legal = c.refer_at.ensures.legal }
+
+pub returns-clause-answers : goal.returns-clause-answers
+returns-clause-answers g c = let comes : (attempts : ℕ) → Comes c.args.desk.now c.args.command.now c.args.pass.now c.refer_at.new.pass attempts c.now.result c.refer_at.result =
+    λ attempts. subst (λ (n : ℕ). Comes c.args.desk.now c.args.command.now c.args.pass.now c.refer_at.new.pass attempts n c.refer_at.result) c.from_micros-moment.ensures (c.refer_at.ensures.comes attempts) in
+    (c.now.result, c.now.ensures.ticks, λ attempts. (comes attempts).answers, (comes 0).alone)

@@ -1,0 +1,214 @@
+-- What a call on a pass answers.
+use Rattle.std.specs.Prelude.{◌≡◌, ◌≢◌, ◌⊎◌, ◌<◌, ◌≤◌, ℕ, ◌+◌, List, [], ◌∷◌, ◌++◌, length, take, Option, Some, None, Result, Ok, Err, Bool, true, false, nat_lt}
+use Rattle.sha2.specs.Sha256.{sha256}
+use Rattle.cat_names.specs.declared.hash.Hash.{Hash}
+use Rattle.cat_builds.specs.Builds.{HasHead}
+use Rattle.cat_desk.specs.Log.{Follows}
+use Rattle.cat_desk.specs.Pass.{DeskId, known, seen}
+use Rattle.cat_desk.specs.declared.pass.Pass.{Pass}
+use Rattle.cat_ledger.specs.Kept.{spelling}
+use Rattle.cat_ledger.specs.Making.{IsNotKept}
+use Rattle.cat_model.specs.declared.command.Command.{Command}
+use Rattle.cat_model.specs.declared.limits.Quantity.{Quantity}
+use Rattle.cat_model.specs.declared.limits.Quantity.TheVariants.{Drafts}
+use Rattle.cat_model.specs.declared.log_entry.LogEntry.{LogEntry}
+use Rattle.cat_model.specs.declared.refusal.Refusal.{Refusal}
+use Rattle.cat_model.specs.declared.refusal.Refusal.TheVariants as refusals
+use Rattle.cat_model.specs.declared.refusal.Refused.{Refused}
+use Rattle.cat_model.specs.declared.reply.Reply.{Reply}
+use Rattle.cat_model.specs.declared.reply.Told.{Told}
+use Rattle.cat_model.specs.Book.{Book, IsCalled, IsGivenUp}
+use Rattle.cat_model.specs.Calls.{Called, entry_made}
+use Rattle.cat_model.specs.Drafts.{Opening}
+use Rattle.cat_model.specs.Mark.{FailedAppend, Mark}
+use Rattle.cat_model.specs.Refusing.{Outcome}
+use Rattle.cat_model.specs.State.{State}
+use Rattle.cat_model.specs.Step.{Turn, logged_command, opening, opens_draft, step}
+use Rattle.cat_work.specs.Passes.{state_of}
+
+-- ---- steps at a moment
+
+-- the step of a call in this draft, begun at some place, comes to this
+abbrev pub ComesToIn : ℕ → State → Command → ℕ → Outcome → Type 0
+ComesToIn draft state c moment outcome = (opened : ℕ) × (step sha256 state c (record { draft = draft; opened = opened; moment = moment }) ≡ outcome)
+
+-- and in some draft
+abbrev pub ComesTo : State → Command → ℕ → Outcome → Type 0
+ComesTo state c moment outcome = (draft : ℕ) × ComesToIn draft state c moment outcome
+
+-- the step is accepted on a state, and this is the caller's entry of it
+pub record IsEntryOf (n : ℕ) (state : State) (c : Command) (moment : ℕ) (entry : LogEntry) : Type 0 where
+  pub turn : Turn
+  pub after : State
+  pub reply : Reply
+  pub is : step sha256 state c turn ≡ Ok (after, reply)
+  pub higher : state.place < after.place
+  pub moment_is : turn.moment ≡ moment
+  pub entry_is : entry ≡ entry_made sha256 n after c turn reply
+
+-- ---- accepted
+
+-- a call that opens a draft has a new number, above the last one that was known; any other has none
+abbrev pub IsDraftAbove : ℕ → Bool → ℕ → Type 0
+IsDraftAbove last true draft = last < draft
+IsDraftAbove last false draft = draft ≡ 0
+
+-- its entry is the last
+pub record Accepts (desk : DeskId) (n : ℕ) (c : Command) (moment last : ℕ) (l : List LogEntry) (told : Told) (m : List LogEntry) : Type 0 where
+  pub before : List LogEntry
+  pub entry : LogEntry
+  pub follows : Follows n l before
+  pub log : m ≡ before ++ entry ∷ []
+  pub caller : entry.caller ≡ n
+  pub moment_is : entry.moment ≡ moment
+  pub command_is : entry.command ≡ logged_command sha256 entry.draft c
+  pub draft : IsDraftAbove last (opens_draft c) entry.draft
+  pub place : told.place ≡ (state_of desk m).place
+  pub reply : ComesToIn entry.draft (state_of desk before) c moment (Ok (state_of desk m, told.reply))
+
+-- it is told without an entry
+pub record Tells (desk : DeskId) (n : ℕ) (c : Command) (moment : ℕ) (l : List LogEntry) (told : Told) (m : List LogEntry) : Type 0 where
+  pub follows : Follows n l m
+  pub place : told.place ≡ (state_of desk m).place
+  pub reply : ComesTo (state_of desk m) c moment (Ok (state_of desk m, told.reply))
+
+-- ---- refused
+
+-- the refusal was decided on the state after this log
+abbrev pub IsAt : DeskId → List LogEntry → Option ℕ → Type 0
+IsAt desk m place = place ≡ Some (state_of desk m).place
+
+-- a fault of this caller was there before
+abbrev pub NoFaultIsNew : ℕ → Mark → Mark → Type 0
+NoFaultIsNew n before after = (x : FailedAppend) → after.fault ≡ Some x → x.caller ≡ n → before.fault ≡ Some x
+
+-- an append had failed, at this count of faults
+pub record IsDown (n count : ℕ) (before after : Mark) : Type 0 where
+  pub fault : FailedAppend
+  pub is : after.fault ≡ Some fault
+  pub count_is : fault.count ≡ count
+  pub known : fault.caller ≡ n → before.fault ≡ Some fault
+
+-- the call was accepted, and the append of its entry failed
+pub record Falls (n : ℕ) (state : State) (c : Command) (moment : ℕ) (before after : Mark) : Type 0 where
+  pub fault : FailedAppend
+  pub is : after.fault ≡ Some fault
+  pub caller_is : fault.caller ≡ n
+  pub new : before.fault ≡ Some fault → ⊥
+  pub entry : LogEntry
+  pub accepted : IsEntryOf n state c moment entry
+  pub payload : fault.payload ≡ spelling entry
+
+-- no draft number is left, and the last was known before or is another caller's
+pub record LacksDraft (n : ℕ) (state : State) (c : Command) (number : ℕ) (before after : Mark) : Type 0 where
+  pub opens : opens_draft c ≡ true
+  pub passes : opening sha256 state c ≡ Ok tt
+  pub limit : number ≡ state.limits.drafts
+  pub taken : number ≤ after.draft
+  pub others : after.drafter ≡ n → before.draft ≡ after.draft
+
+-- ---- attempts
+
+-- the head is the branch's at a place of the log
+pub record IsHeadAt (desk : DeskId) (c : Command) (log : List LogEntry) (pair : ℕ × Hash) : Type 0 where
+  pub entries : ℕ
+  pub within : entries ≤ length log
+  pub place : pair.0 ≡ desk.opened.state.place + entries
+  pub head : HasHead (state_of desk (take entries log)) c pair.1
+
+abbrev pub AreHeadsAt : DeskId → Command → List LogEntry → List (ℕ × Hash) → Type 0
+AreHeadsAt desk c log [] = Unit {0}
+AreHeadsAt desk c log (pair ∷ pairs) = IsHeadAt desk c log pair × AreHeadsAt desk c log pairs
+
+-- places rise, and neighbouring heads differ
+abbrev pub Climbs : ℕ × Hash → List (ℕ × Hash) → Type 0
+Climbs pair [] = Unit {0}
+Climbs pair (next ∷ pairs) = (pair.0 < next.0) × (pair.1 ≢ next.1) × Climbs next pairs
+
+abbrev pub Rises : List (ℕ × Hash) → Type 0
+Rises [] = Unit {0}
+Rises (pair ∷ pairs) = Climbs pair pairs
+
+abbrev pub first_place : List (ℕ × Hash) → ℕ
+first_place [] = 0
+first_place (pair ∷ pairs) = pair.0
+
+-- each head that was built on was the branch's, the first at the opening of the draft that was dropped, and the last is the branch's at the end
+pub record Spends (desk : DeskId) (n : ℕ) (c : Command) (attempts k : ℕ) (before after : Mark) (m : List LogEntry) (pairs : List (ℕ × Hash)) : Type 0 where
+  pub opens : opens_draft c ≡ true
+  pub count : length pairs ≡ attempts + 1
+  pub rises : Rises pairs
+  pub at : AreHeadsAt desk c m pairs
+  pub front : List (ℕ × Hash)
+  pub head : Hash
+  pub last : pairs ≡ front ++ ((state_of desk m).place, head) ∷ []
+  pub known : desk.opened.state.place + k ≤ first_place pairs
+  pub number : ℕ
+  pub dropped : after.dropped ≡ Some (record { number = number; caller = n; place = first_place pairs })
+  pub newer : before.draft < number
+
+-- ---- answers
+
+abbrev pub CausesLimit : DeskId → ℕ → Command → ℕ → Mark → Mark → List LogEntry → Quantity → ℕ → Type 0
+CausesLimit desk n c moment before after m Drafts number = LacksDraft n (state_of desk m) c number before after
+CausesLimit desk n c moment before after m which number = ComesTo (state_of desk m) c moment (Err (refusals.Limit which number))
+
+-- a refusal, by its reason
+abbrev pub Causes : DeskId → ℕ → Command → ℕ → ℕ → ℕ → Mark → Mark → List LogEntry → Option ℕ → Refusal → Type 0
+Causes desk n c moment attempts k before after m place refusals.NoMemory = (place ≡ None) × NoFaultIsNew n before after
+Causes desk n c moment attempts k before after m place (refusals.Down count) = IsAt desk m place × IsDown n count before after
+Causes desk n c moment attempts k before after m place refusals.Fault = IsAt desk m place × Falls n (state_of desk m) c moment before after
+Causes desk n c moment attempts k before after m place (refusals.RetriesSpent pairs) = IsAt desk m place × Spends desk n c attempts k before after m pairs
+Causes desk n c moment attempts k before after m place (refusals.Expired keys opened) = ⊥
+Causes desk n c moment attempts k before after m place (refusals.Limit which number) = IsAt desk m place × CausesLimit desk n c moment before after m which number
+Causes desk n c moment attempts k before after m place why = IsAt desk m place × ComesTo (state_of desk m) c moment (Err why)
+
+-- what a call at a moment answers on a pass with number n that had seen l, knew of k entries and held the mark before, and has then seen m and holds the mark after
+abbrev pub Answers : DeskId → ℕ → Command → ℕ → ℕ → ℕ → Mark → Mark → List LogEntry → List LogEntry → Result Told Refused → Type 0
+Answers desk n c moment attempts k before after l m (Ok told) = Accepts desk n c moment before.draft l told m ⊎ Tells desk n c moment l told m
+Answers desk n c moment attempts k before after l m (Err refused) = Follows n l m × Causes desk n c moment attempts k before after m refused.place refused.why
+
+-- where a state was looked at, the pass has seen all that it knows of, which is no less than before
+abbrev pub KnowsAt : Pass → Pass → Option ℕ → Type 0
+KnowsAt p q None = known p ≤ known q
+KnowsAt p q (Some place) = (known p ≤ length (seen q)) × (known q ≡ length (seen q))
+
+abbrev pub Knows : Pass → Pass → Result Told Refused → Type 0
+Knows p q (Ok told) = (known p ≤ length (seen q)) × (known q ≡ length (seen q))
+Knows p q (Err refused) = KnowsAt p q refused.place
+
+-- ---- the only pass
+
+-- its entry was to be kept, and the append failed, for the first time
+pub record FallsAlone (n : ℕ) (called : Called) (b b' : Book) (f f' : Option FailedAppend) (refused : Refused) : Type 0 where
+  pub place : refused.place ≡ Some b.state.place
+  pub unkept : IsNotKept called b b'
+  pub up : f ≡ None
+  pub fault : FailedAppend
+  pub is : f' ≡ Some fault
+  pub caller_is : fault.caller ≡ n
+  pub entry : LogEntry
+  pub logged : called.logged ≡ entry ∷ []
+  pub payload : fault.payload ≡ spelling entry
+
+-- an append had failed
+pub record IsDownAlone (count : ℕ) (b b' : Book) (f f' : Option FailedAppend) (refused : Refused) : Type 0 where
+  pub place : refused.place ≡ Some b.state.place
+  pub book : b' ≡ b
+  pub fault : FailedAppend
+  pub was : f ≡ Some fault
+  pub is : f' ≡ Some fault
+  pub count_is : fault.count ≡ count
+
+abbrev pub RefusesAlone : ℕ → Called → Book → Book → Option FailedAppend → Option FailedAppend → Refused → Refusal → Type 0
+RefusesAlone n called b b' f f' refused refusals.NoMemory = IsGivenUp b b' refused × (f' ≡ f)
+RefusesAlone n called b b' f f' refused (refusals.Down count) = IsDownAlone count b b' f f' refused
+RefusesAlone n called b b' f f' refused refusals.Fault = FallsAlone n called b b' f f' refused
+RefusesAlone n called b b' f f' refused (refusals.RetriesSpent pairs) = ⊥
+RefusesAlone n called b b' f f' refused (refusals.Expired keys opened) = ⊥
+RefusesAlone n called b b' f f' refused why = IsCalled called b b' (Err refused) × (f ≡ None) × (f' ≡ None)
+
+-- on the only pass: what the model's call on the pass's book does, unless memory ran out or an append failed
+abbrev pub AnswersAlone : ℕ → Called → Book → Book → Option FailedAppend → Option FailedAppend → Result Told Refused → Type 0
+AnswersAlone n called b b' f f' (Ok told) = IsCalled called b b' (Ok told) × (f ≡ None) × (f' ≡ None)
+AnswersAlone n called b b' f f' (Err refused) = RefusesAlone n called b b' f f' refused refused.why

@@ -1,0 +1,4 @@
+pub mod Passes
+pub mod Answers
+pub mod Turns
+pub mod BookLaws
