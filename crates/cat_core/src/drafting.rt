@@ -202,14 +202,17 @@ impl<K: Keeper> Store<K> {
     {
         let place = self.ledger.place();
         if let Some(count) = self.down() {
-            self.close(draft);
+            drop(built);
+            drop(self.close(draft));
             return Settled::Refused(down_at(place, count));
         }
         if let Err(why) = draft.call.open(self.ledger.catalogue()) {
-            self.close(draft);
+            drop(built);
+            drop(self.close(draft));
             return Settled::Refused(refused(place, Failure::Refused(why)));
         }
         if head_of(self.ledger.catalogue(), &draft.call) != built.head {
+            drop(built);
             return self.moved(draft);
         }
         self.is_built_now(&draft.call, &built);
