@@ -19,20 +19,24 @@ use Rattle.cat_work.specs.Passes.{IsAlone, book_of}
 use Rattle.cat_work.specs.Turns.{Comes, Turned}
 use Rattle.cat_work.proofs.Callings.{Brings, call_brings, call_draft}
 use Rattle.cat_work.proofs.Endings.{refuses_open}
-use Rattle.cat_work.proofs.Telling.{AloneAt, Found, Left, alone_err, alone_ok, answers_ok, book_found, causes, left_by_turn}
+use Rattle.cat_work.proofs.Telling.{AloneAt, Found, Left, Numbered, alone_err, alone_ok, answers_ok, book_found, causes, left_by_turn}
 use Rattle.cat_work.proofs.Unopened.{found_first, none_still}
 
 refers_open : {K : Type 0} (called : Called) (n : ℕ) (s s' : Stored K) (r : Result Told Refused) → Refers called n s s' r → stored.open_of s' ≡ stored.open_of s
 refers_open {K} called n s s' (Ok told) h = ap (λ (x : Stored K). stored.open_of x) h.after
 refers_open called n s s' (Err r) h = refuses_open called n s r r.why s' (stored.open_of s) h
 
+-- such a call has no draft
+unnumbered : (desk : DeskId) (c : Command) (p : Pass) → opens_draft c ≡ false → Numbered desk c p 0
+unnumbered desk c p opens = record { above = subst (λ (b : Bool). IsDraftAbove (mark_of p).draft b 0) (sym opens) refl; number = λ yes. absurd (let wrong : false ≡ true = sym opens ∙ yes in cc) }
+
 refers_answers : {K : Type 0} (desk : DeskId) (c : Command) (p q : Pass) (attempts moment : ℕ) (s s' : Stored K) (r : Result Told Refused) → opens_draft c ≡ false → Turned desk p q s s' → Refers (call_on sha256 (number_of p) s.book c moment) (number_of p) s s' r
     → Answers desk (number_of p) c moment attempts (known p) (mark_of p) (mark_of q) (seen p) (seen q) r
 refers_answers {K} desk c p q attempts moment s s' (Ok told) opens turn h =
     answers_ok desk (number_of p) 0 moment attempts (known p) c p q s s' (call_on sha256 (number_of p) s.book c moment) told (stored.open_of s) (found_first desk p q s s' turn) (left_by_turn desk p q s s' turn) (call_brings (number_of p) moment s.book c opens)
-    (subst (λ (b : Bool). IsDraftAbove (mark_of p).draft b 0) (sym opens) refl) h
+    (unnumbered desk c p opens) h
 refers_answers {K} desk c p q attempts moment s s' (Err r) opens turn h =
-    causes desk (number_of p) 0 moment attempts (known p) c p q s s' (call_on sha256 (number_of p) s.book c moment) r (stored.open_of s) r.why (found_first desk p q s s' turn) (left_by_turn desk p q s s' turn) (call_brings (number_of p) moment s.book c opens) refl h
+    causes desk (number_of p) 0 moment attempts (known p) c p q s s' (call_on sha256 (number_of p) s.book c moment) r (stored.open_of s) r.why (found_first desk p q s s' turn) (left_by_turn desk p q s s' turn) (call_brings (number_of p) moment s.book c opens) (unnumbered desk c p opens) refl h
 
 at_once : {K : Type 0} (desk : DeskId) (c : Command) (p q : Pass) (moment : ℕ) (s s' : Stored K) → opens_draft c ≡ false → Turned desk p q s s' → IsAlone p → AloneAt (call_on sha256 (number_of p) s.book c moment) (book_of desk p) (mark_of p).fault s
 at_once desk c p q moment s s' opens turn only =

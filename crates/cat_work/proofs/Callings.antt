@@ -18,13 +18,13 @@ use Rattle.cat_model.specs.Refusing.{◌>>=◌, Outcome, Tested}
 use Rattle.cat_model.specs.State.{State}
 use Rattle.cat_model.specs.Step as steps
 use Rattle.cat_model.specs.Step.{opening, opens_draft, step}
-use Rattle.cat_work.specs.Answers.{ComesTo, IsEntryOf}
+use Rattle.cat_work.specs.Answers.{ComesToIn, IsEntryOf}
 use Rattle.cat_work.proofs.Steps.{step_first, step_stays}
 
 -- the step refuses
-pub record Refusing (state : State) (c : Command) (moment : ℕ) (called : Called) : Type 0 where
+pub record Refusing (draft : ℕ) (state : State) (c : Command) (moment : ℕ) (called : Called) : Type 0 where
   pub why : Refusal
-  pub is : ComesTo state c moment (Err why)
+  pub is : ComesToIn draft state c moment (Err why)
   pub said : called.said ≡ Err (record { place = Some state.place; why = why })
   pub none : called.logged ≡ []
   pub state_is : called.state ≡ state
@@ -43,15 +43,15 @@ pub record Entering (n draft : ℕ) (state : State) (c : Command) (moment : ℕ)
   pub state_is : called.state ≡ after
 
 -- the step is accepted without one
-pub record Telling (state : State) (c : Command) (moment : ℕ) (called : Called) : Type 0 where
+pub record Telling (draft : ℕ) (state : State) (c : Command) (moment : ℕ) (called : Called) : Type 0 where
   pub reply : Reply
-  pub is : ComesTo state c moment (Ok (state, reply))
+  pub is : ComesToIn draft state c moment (Ok (state, reply))
   pub said : called.said ≡ Ok (record { place = state.place; reply = reply })
   pub none : called.logged ≡ []
   pub state_is : called.state ≡ state
 
 abbrev pub Brings : ℕ → ℕ → State → Command → ℕ → Called → Type 0
-Brings n draft state c moment called = Refusing state c moment called ⊎ Entering n draft state c moment called ⊎ Telling state c moment called
+Brings n draft state c moment called = Refusing draft state c moment called ⊎ Entering n draft state c moment called ⊎ Telling draft state c moment called
 
 -- ---- by the step
 
@@ -63,14 +63,14 @@ chosen : (n : ℕ) (state after : State) (last : ℕ) (c : Command) (turn : step
 chosen n state after last c turn reply true up e = inr (inl (record { turn = turn; after = after; reply = reply; is = e; draft_is = refl; moment_is = refl; higher = rises state.place after.place up; said = refl; logged = refl; state_is = refl }))
 chosen n state after last c turn reply false flat e =
     let same : after ≡ state = step_stays state after c turn reply e flat in
-    inr (inr (record { reply = reply; is = (turn.draft, (turn.opened, e ∙ ap (λ (s : State). Ok (s, reply)) same)); said = refl; none = refl; state_is = refl }))
+    inr (inr (record { reply = reply; is = (turn.opened, e ∙ ap (λ (s : State). Ok (s, reply)) same); said = refl; none = refl; state_is = refl }))
 
 stepped_brings : (n : ℕ) (state : State) (last : ℕ) (c : Command) (turn : steps.Turn) (outcome : Outcome) → step sha256 state c turn ≡ outcome → Brings n turn.draft state c turn.moment (stepped sha256 n state last c turn outcome)
-stepped_brings n state last c turn (Err why) e = inl (record { why = why; is = (turn.draft, (turn.opened, e)); said = refl; none = refl; state_is = refl })
+stepped_brings n state last c turn (Err why) e = inl (record { why = why; is = (turn.opened, e); said = refl; none = refl; state_is = refl })
 stepped_brings n state last c turn (Ok (after, reply)) e = chosen n state after last c turn reply (nat_lt state.place after.place) refl e
 
 tests_refuse : (n draft moment : ℕ) (state : State) (last : ℕ) (c : Command) (why : Refusal) → opening sha256 state c ≡ Err why → Brings n draft state c moment (unchanged_by state last (Err why))
-tests_refuse n draft moment state last c why e = inl (record { why = why; is = (draft, (0, step_first state c (record { draft = draft; opened = 0; moment = moment }) why e)); said = refl; none = refl; state_is = refl })
+tests_refuse n draft moment state last c why e = inl (record { why = why; is = (0, step_first state c (record { draft = draft; opened = 0; moment = moment }) why e); said = refl; none = refl; state_is = refl })
 
 -- ---- in a draft
 
@@ -164,9 +164,9 @@ called_alone n moment b c opens passes =
 -- ---- what is told, by what is brought
 
 -- a refusal is the step's
-pub record IsStepsOwn (state : State) (c : Command) (moment : ℕ) (r : Refused) (called : Called) : Type 0 where
+pub record IsStepsOwn (draft : ℕ) (state : State) (c : Command) (moment : ℕ) (r : Refused) (called : Called) : Type 0 where
   pub place : r.place ≡ Some state.place
-  pub why : ComesTo state c moment (Err r.why)
+  pub why : ComesToIn draft state c moment (Err r.why)
   pub none : called.logged ≡ []
   pub state_is : called.state ≡ state
 
@@ -185,12 +185,12 @@ same_refused a b e = cc
 same_told : (a b : Told) → ok a ≡ ok b → a ≡ b
 same_told a b e = cc
 
-pub refused_is : (n draft : ℕ) (state : State) (c : Command) (moment : ℕ) (called : Called) (r : Refused) → Brings n draft state c moment called → called.said ≡ Err r → IsStepsOwn state c moment r called
+pub refused_is : (n draft : ℕ) (state : State) (c : Command) (moment : ℕ) (called : Called) (r : Refused) → Brings n draft state c moment called → called.said ≡ Err r → IsStepsOwn draft state c moment r called
 refused_is n draft state c moment called r (inl x) e =
     let same : record { place = Some state.place; why = x.why } ≡ r = same_refused (record { place = Some state.place; why = x.why }) r (sym x.said ∙ e) in
     record {
       place = sym (ap (λ (y : Refused). y.place) same);
-      why = subst (λ (y : Refused). ComesTo state c moment (Err y.why)) same x.is;
+      why = subst (λ (y : Refused). ComesToIn draft state c moment (Err y.why)) same x.is;
       none = x.none;
       state_is = x.state_is;
     }
@@ -199,7 +199,7 @@ refused_is n draft state c moment called r (inr (inr x)) e = apart _ r (sym x.sa
 
 -- a reply comes with an entry, or alone
 abbrev pub IsTold : ℕ → ℕ → State → Command → ℕ → Told → Called → Type 0
-IsTold n draft state c moment told called = ((x : Entering n draft state c moment called) × (told ≡ record { place = x.after.place; reply = x.reply })) ⊎ ((x : Telling state c moment called) × (told ≡ record { place = state.place; reply = x.reply }))
+IsTold n draft state c moment told called = ((x : Entering n draft state c moment called) × (told ≡ record { place = x.after.place; reply = x.reply })) ⊎ ((x : Telling draft state c moment called) × (told ≡ record { place = state.place; reply = x.reply }))
 
 pub told_is : (n draft : ℕ) (state : State) (c : Command) (moment : ℕ) (called : Called) (told : Told) → Brings n draft state c moment called → called.said ≡ Ok told → IsTold n draft state c moment told called
 told_is n draft state c moment called told (inl x) e = apart told _ (sym e ∙ x.said)
@@ -227,3 +227,10 @@ entry_is n draft state c moment called entry (inr (inl x)) e = record {
   entry_is = ap (λ (l : List LogEntry). head_in l entry) (sym e ∙ x.logged);
 }
 entry_is n draft state c moment called entry (inr (inr x)) e = none_is_not_one entry (sym x.none ∙ e)
+
+-- and it is in the draft of the call
+pub entry_draft_is : (n draft : ℕ) (state : State) (c : Command) (moment : ℕ) (called : Called) (entry : LogEntry) → Brings n draft state c moment called → called.logged ≡ entry ∷ [] → entry.draft ≡ draft
+unfolding head_in entry_made
+entry_draft_is n draft state c moment called entry (inl x) e = none_is_not_one entry (sym x.none ∙ e)
+entry_draft_is n draft state c moment called entry (inr (inl x)) e = ap (λ (l : List LogEntry). (head_in l entry).draft) (sym e ∙ x.logged) ∙ x.draft_is
+entry_draft_is n draft state c moment called entry (inr (inr x)) e = none_is_not_one entry (sym x.none ∙ e)

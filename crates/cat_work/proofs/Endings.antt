@@ -4,7 +4,8 @@ use Rattle.sha2.specs.Sha256.{sha256}
 use Rattle.cat_names.specs.declared.hash.Hash.{Hash}
 use Rattle.cat_builds.specs.declared.building.Built.{Built}
 use Rattle.cat_builds.specs.Builds.{HasHead, IsBuilt}
-use Rattle.cat_checks.specs.Histories.{IsLegalFrom}
+use Rattle.cat_checks.specs.Histories.{IsLegalFrom, begun}
+use Rattle.cat_checks.specs.HistoryLaws.{limits_stay}
 use Rattle.cat_core.specs.Drafts.{IsMoved, IsOn, Refuses, called_in, closed, command_in, may_open, open_draft_of, opening_in, without}
 use Rattle.cat_core.specs.Stored as stored
 use Rattle.cat_core.specs.Stored.{Stored, log_of}
@@ -15,6 +16,7 @@ use Rattle.cat_desk.specs.Pass.{DeskId, Keeps, known, left_by, mark_of, number_o
 use Rattle.cat_desk.specs.declared.pass.Pass.{Pass}
 use Rattle.cat_ledger.specs.Occasions.{made_on}
 use Rattle.cat_model.specs.declared.command.Command.{Command}
+use Rattle.cat_model.specs.declared.limits.Limits.{Limits}
 use Rattle.cat_model.specs.declared.log_entry.LogEntry.{LogEntry}
 use Rattle.cat_model.specs.declared.refusal.Refusal.{Refusal}
 use Rattle.cat_model.specs.declared.refusal.Refusal.TheVariants as refusals
@@ -33,7 +35,8 @@ use Rattle.cat_work.specs.Passes.{IsAlone, IsReady, book_of, state_of}
 use Rattle.cat_work.specs.Turns.{Begins, Comes, Ends, EndsLast, Going, IsSpent, Moves, StoodAlone, Trail, Tries, Turned, out_of_memory}
 use Rattle.cat_work.proofs.Callings.{Brings, called_alone, in_draft, made_brings, made_draft, may_pass}
 use Rattle.cat_work.proofs.Opened.{drafts_more, drafts_one, none_left}
-use Rattle.cat_work.proofs.Telling.{AloneAt, Found, Left, alone_err, alone_ok, answers_ok, book_found, causes, faults_same, follows_same, given_up_alone, left_by_turn}
+use Rattle.cat_work.proofs.Openings.{may_room}
+use Rattle.cat_work.proofs.Telling.{AloneAt, Found, Left, Numbered, alone_err, alone_ok, answers_ok, book_found, causes, faults_same, follows_same, given_up_alone, left_by_turn}
 use Rattle.cat_work.proofs.Trails.{built_on, follows_on, one_head, place_at, trail_next, trail_start}
 
 -- ---- what is open of the caller
@@ -66,6 +69,13 @@ none_open n x o caller one =
 
 raised : (a b n : ℕ) → a ≤ b → n ≡ b + 1 → a < n
 raised a b n le e = omega arith
+
+-- the limits are those that the log starts from
+limits_are : {K : Type 0} (desk : DeskId) (p q : Pass) (s s' : Stored K) → Turned desk p q s s' → s.book.state.limits ≡ desk.opened.state.limits
+limits_are desk p q s s' turn = ap (λ (x : State). x.limits) (sym turn.led) ∙ limits_stay sha256 (begun desk.opened) (log_of s)
+
+within_by : (last limit number : ℕ) → last < limit → number ≡ last + 1 → number ≤ limit
+within_by last limit number low is = omega arith
 
 known_at : (opened k size place here : ℕ) → k ≤ size → here ≡ opened + size → place ≡ here → opened + k ≤ place
 known_at opened k size place here le e same = omega arith
@@ -100,6 +110,7 @@ begins K desk c p q t attempts none legal keeps known_is room b =
       };
       command_is = o.command_is;
       newer = raised (mark_of p).draft s.book.draft d.number grew o.number;
+      within = subst (λ (x : Limits). d.number ≤ x.drafts) (limits_are desk p q s s' turn) (within_by s.book.draft s.book.state.limits.drafts d.number (may_room s.book c o.passes) o.number);
       known_then = known_at desk.opened.state.place (known p) (length (seen q)) d.place (state_of desk (seen q)).place known_is (place_at desk (seen q) legal) (sym place);
       count = ap (λ (l : List (ℕ × Hash)). length l) b.pairs_are;
       room = room;
@@ -188,6 +199,7 @@ goes_on {K} desk c first present next t u attempts number s s' g keeps legal tur
       tries = subst (λ (x : Draft). Tries desk next x u.view u.pairs.items) (sym m.moved.draft) here;
       command_is = ap (λ (x : Draft). command_in x) m.moved.draft ∙ g.command_is;
       newer = subst (λ (x : Draft). (mark_of first).draft < x.number) (sym m.moved.draft) g.newer;
+      within = subst (λ (x : Draft). x.number ≤ desk.opened.state.limits.drafts) (sym m.moved.draft) g.within;
       known_then = subst (λ (x : Draft). desk.opened.state.place + known first ≤ x.place) (sym m.moved.draft) g.known_then;
       count = more_long t.pairs.items u.pairs.items (u.view.place, m.head) m.pairs_are ∙ ap (λ (n : ℕ). n + 1) g.count;
       room = roomy (attempts + 1) (vec_capacity t.pairs) (vec_capacity u.pairs) g.room room;
@@ -200,6 +212,9 @@ goes_on {K} desk c first present next t u attempts number s s' g keeps legal tur
 
 abbrev caller_was : {desk : DeskId} {c : Command} {first present : Pass} {t : Trying} {attempts number : ℕ} → Going desk c first present t attempts number → t.draft.caller ≡ number_of first
 caller_was g = g.tries.caller ∙ g.kept.number
+
+had_number : (last number limit : ℕ) → last < number → number ≤ limit → last < limit
+had_number last number limit p q = omega arith
 
 -- answers of the draft's own caller and command are those of the call
 as_asked : (desk : DeskId) (n m moment attempts k : ℕ) (c e : Command) (before after : Mark) (l log : List LogEntry) (r : Result Told Refused) → m ≡ n → e ≡ c → Answers desk m e moment attempts k before after l log r → Answers desk n c moment attempts k before after l log r
@@ -234,14 +249,17 @@ settled_answers {K} desk c first present next t attempts number moment s s' r op
     brings : Brings t.draft.caller t.draft.number s.book.state (command_in t.draft) moment (called_in s t.draft moment)
     brings = made_brings t.draft.caller moment t.draft.number s.book (command_in t.draft) opens_own
 
-    above : IsDraftAbove (mark_of first).draft (opens_draft (command_in t.draft)) t.draft.number
-    above = subst (λ (b : Bool). IsDraftAbove (mark_of first).draft b t.draft.number) (sym opens_own) g.newer
+    numbered : Numbered desk (command_in t.draft) first t.draft.number
+    numbered = record {
+      above = subst (λ (b : Bool). IsDraftAbove (mark_of first).draft b t.draft.number) (sym opens_own) g.newer;
+      number = λ _. had_number (mark_of first).draft t.draft.number desk.opened.state.limits.drafts g.newer g.within;
+    }
 
     by_result : (x : Result Told Refused) → Ends s t.draft t.view moment x s' → Answers desk (number_of first) c moment attempts (known first) (mark_of first) (mark_of next) (seen first) (seen next) x
     by_result (Ok told) h = as_asked desk (number_of first) t.draft.caller moment attempts (known first) c (command_in t.draft) (mark_of first) (mark_of next) (seen first) (seen next) (Ok told) (caller_was g) g.command_is
-        (answers_ok desk t.draft.caller t.draft.number moment attempts (known first) (command_in t.draft) first next s s' (called_in s t.draft moment) told (closed s t.draft) own left brings above h.2.1)
+        (answers_ok desk t.draft.caller t.draft.number moment attempts (known first) (command_in t.draft) first next s s' (called_in s t.draft moment) told (closed s t.draft) own left brings numbered h.2.1)
     by_result (Err e) (inl h) = as_asked desk (number_of first) t.draft.caller moment attempts (known first) c (command_in t.draft) (mark_of first) (mark_of next) (seen first) (seen next) (Err e) (caller_was g) g.command_is
-        (causes desk t.draft.caller t.draft.number moment attempts (known first) (command_in t.draft) first next s s' (called_in s t.draft moment) e (closed s t.draft) e.why own left brings refl h.2.1)
+        (causes desk t.draft.caller t.draft.number moment attempts (known first) (command_in t.draft) first next s s' (called_in s t.draft moment) e (closed s t.draft) e.why own left brings numbered refl h.2.1)
     by_result (Err e) (inr h) = spared desk (number_of first) moment attempts (known first) c first next s s' e found left (ap (λ (x : Stored K). x.book) h.1) (ap (λ (x : Stored K). x.mark.fault) h.1) h.0
 
 -- ---- nothing is left open
@@ -339,9 +357,13 @@ spent_pairs {K} desk c first present next t attempts s s' built r opens g legal 
     let book : s'.book ≡ s.book = ap (λ (y : Stored K). y.book) x.after in
     let own : Trail desk (command_in d) (seen next) d.place x.more = moved_on desk present next s s' d t.view t.pairs.items x.more built x.view x.head g.tries is turn legal book x.moved.other x.moved.view_is x.has x.pairs_are in
     let trail : Trail desk c (seen next) d.place x.more = subst (λ (e : Command). Trail desk e (seen next) d.place x.more) g.command_is own in
+    let state : state_of desk (seen next) ≡ s.book.state = (left_by_turn desk present next s s' turn).state_is ∙ ap (λ (b : Book). b.state) book in
     let dropped : (mark_of next).dropped ≡ Some (opening_in d) = ap (λ (m : Mark). m.dropped) turn.mark_is ∙ ap (λ (y : Stored K). y.mark.dropped) x.after in
     record {
+      up = ap (λ (m : Mark). m.fault) turn.mark_is ∙ (ap (λ (y : Stored K). y.mark.fault) x.after ∙ x.moved.up);
       opens = opens;
+      passes = (λ i. opening sha256 (state i) (sym g.command_is i)) ∙ x.moved.passes;
+      left = λ _. had_number (mark_of first).draft d.number desk.opened.state.limits.drafts g.newer g.within;
       count = more_long t.pairs.items x.more (x.view.place, x.head) x.pairs_are ∙ ap (λ (n : ℕ). n + 1) g.count;
       rises = trail.rises;
       at = trail.at;

@@ -1,5 +1,5 @@
 -- What the tests before a draft refuse.
-use Rattle.std.proofs.Common.{◌≡◌, ◌≤◌, ◌⊎◌, inl, inr, ℕ, List, Option, Some, None, Result, Ok, Err, Bool, true, false, if◌then◌else◌, nat_lt, refl, sym, ap, subst, ◌∙◌, arith}
+use Rattle.std.proofs.Common.{◌≡◌, ◌<◌, ◌≤◌, ◌⊎◌, inl, inr, ℕ, List, Option, Some, None, Result, Ok, Err, Bool, true, false, if◌then◌else◌, nat_lt, refl, sym, ap, subst, ◌∙◌, arith}
 use Rattle.std.proofs.lemmas.Bool.Decides.{nat_tests}
 use Rattle.sha2.specs.Sha256.{sha256}
 use Rattle.cat_names.specs.declared.hash.Hash.{Hash}
@@ -115,3 +115,15 @@ by_tests b c why (Ok u) first e =
 
 pub may_not : (b : Book) (c : Command) (why : Refusal) → may_open b c ≡ Err why → Refuses b.state c why ⊎ HasNone b c why
 may_not b c why e = by_tests b c why (opening sha256 b.state c) refl e
+
+-- a number is left where a draft may be opened
+room_by : (last limit : ℕ) (b : Bool) → nat_lt last limit ≡ b → needs b (Limit Drafts limit) ≡ Ok tt → last < limit
+room_by last limit true low e = grind (arith, nat_tests, low)
+room_by last limit false low e = absurd cc
+
+tests_room : (b : Book) (t : Tested) → (t >>= λ _. needs_draft b.state b.draft true) ≡ Ok tt → b.draft < b.state.limits.drafts
+tests_room b (Err why) e = absurd cc
+tests_room b (Ok u) e = room_by b.draft b.state.limits.drafts (nat_lt b.draft b.state.limits.drafts) refl e
+
+pub may_room : (b : Book) (c : Command) → may_open b c ≡ Ok tt → b.draft < b.state.limits.drafts
+may_room b c e = tests_room b (opening sha256 b.state c) e

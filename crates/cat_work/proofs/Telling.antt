@@ -25,10 +25,10 @@ use Rattle.cat_model.specs.Refusing.{Outcome}
 use Rattle.cat_model.specs.State.{State}
 use Rattle.cat_model.specs.Step as steps
 use Rattle.cat_model.specs.Step.{opens_draft, step}
-use Rattle.cat_work.specs.Answers.{Answers, AnswersAlone, Causes, CausesLimit, ComesTo, ComesToIn, FallsAlone, IsAt, IsDraftAbove, IsEntryOf, NoFaultIsNew, RefusesAlone}
+use Rattle.cat_work.specs.Answers.{Answers, AnswersAlone, Causes, ComesToIn, FallsAlone, HadNumber, IsAt, IsDraftAbove, IsEntryOf, IsRuledOut, NoFaultIsNew, RefusesAlone}
 use Rattle.cat_work.specs.Passes.{IsAlone, book_of, state_of}
 use Rattle.cat_work.specs.Turns.{Turned}
-use Rattle.cat_work.proofs.Callings.{Brings, Entering, IsStepsOwn, Telling, entry_is, refused_is, told_is}
+use Rattle.cat_work.proofs.Callings.{Brings, Entering, IsStepsOwn, Telling, entry_draft_is, entry_is, refused_is, told_is}
 use Rattle.cat_work.proofs.Usual.{IsUsual, IsUsualCause, usual_step}
 
 -- ---- what is found and left
@@ -39,6 +39,11 @@ pub record Found {K : Type 0} (desk : DeskId) (n : ℕ) (first : Pass) (s : Stor
   pub led : state_of desk (log_of s) ≡ s.book.state
   pub no_new : NoFaultIsNew n (mark_of first) s.mark
   pub kept : (x : FailedAppend) → (mark_of first).fault ≡ Some x → s.mark.fault ≡ Some x
+
+-- the draft of a call, against the pass as it was at the call
+pub record Numbered (desk : DeskId) (c : Command) (first : Pass) (draft : ℕ) : Type 0 where
+  pub above : IsDraftAbove (mark_of first).draft (opens_draft c) draft
+  pub number : HadNumber desk c (mark_of first).draft
 
 -- the store as a turn leaves it, against the pass after it
 pub record Left {K : Type 0} (desk : DeskId) (next : Pass) (s : Stored K) : Type 0 where
@@ -65,8 +70,8 @@ book_found desk p q s s' t alone =
 
 -- ---- steps at the state that is left
 
-pub comes_at : (a b : State) (c : Command) (moment : ℕ) (outcome : Outcome) → a ≡ b → ComesTo b c moment outcome → ComesTo a c moment outcome
-comes_at a b c moment outcome same comes = subst (λ (x : State). ComesTo x c moment outcome) (sym same) comes
+pub comes_at : (draft : ℕ) (a b : State) (c : Command) (moment : ℕ) (outcome : Outcome) → a ≡ b → ComesToIn draft b c moment outcome → ComesToIn draft a c moment outcome
+comes_at draft a b c moment outcome same comes = subst (λ (x : State). ComesToIn draft x c moment outcome) (sym same) comes
 
 entry_at : (a b : State) (n : ℕ) (c : Command) (moment : ℕ) (entry : LogEntry) → a ≡ b → IsEntryOf n b c moment entry → IsEntryOf n a c moment entry
 entry_at a b n c moment entry same is = subst (λ (x : State). IsEntryOf n x c moment entry) (sym same) is
@@ -80,10 +85,10 @@ newest_last : (entry : LogEntry) (log : List LogEntry) → reverse (entry ∷ lo
 newest_last entry log = reverse-append (entry ∷ []) log
 
 entered : {K : Type 0} (desk : DeskId) (n draft moment attempts k : ℕ) (c : Command) (first next : Pass) (s s' : Stored K) (called : Called) (told : Told) → Found desk n first s → Left desk next s' → s'.book ≡ after_call s.book called
-    → (x : Entering n draft s.book.state c moment called) → told ≡ record { place = x.after.place; reply = x.reply } → IsDraftAbove (mark_of first).draft (opens_draft c) draft
+    → s'.mark.fault ≡ None → (x : Entering n draft s.book.state c moment called) → told ≡ record { place = x.after.place; reply = x.reply } → Numbered desk c first draft
     → Answers desk n c moment attempts k (mark_of first) (mark_of next) (seen first) (seen next) (Ok told)
 unfolding entry_made
-entered desk n draft moment attempts k c first next s s' called told found left book x is above =
+entered desk n draft moment attempts k c first next s s' called told found left book up x is numbered =
     let entry : LogEntry = entry_made sha256 n x.after c x.turn x.reply in
     let logged : seen next ≡ log_of s ++ entry ∷ [] = left.seen_is ∙ ap (λ (b : Book). reverse b.log) book ∙ ap (λ (l : List LogEntry). reverse (l ++ s.book.log)) x.logged ∙ newest_last entry s.book.log in
     let state : state_of desk (seen next) ≡ x.after = left.state_is ∙ ap (λ (b : Book). b.state) book ∙ x.state_is in
@@ -92,43 +97,50 @@ entered desk n draft moment attempts k c first next s s' called told found left 
     λ i. step sha256 (found.led i) c (record { draft = x.turn.draft; opened = x.turn.opened; moment = sym x.moment_is i }) in
     let ends : outcome x.after x.reply ≡ outcome (state_of desk (seen next)) told.reply = λ i. outcome (sym state i) (sym reply i) in
     inl (record {
-      before = log_of s;
+      up = ap (λ (m : Mark). m.fault) left.mark_is ∙ up;
+      earlier = log_of s;
       entry = entry;
       follows = found.follows;
       log = logged;
       caller = refl;
       moment_is = x.moment_is;
       command_is = refl;
-      draft = subst (IsDraftAbove (mark_of first).draft (opens_draft c)) (sym x.draft_is) above;
+      draft = subst (IsDraftAbove (mark_of first).draft (opens_draft c)) (sym x.draft_is) numbered.above;
+      number = numbered.number;
       place = ap (λ (t : Told). t.place) is ∙ sym (ap (λ (y : State). y.place) state);
       reply = (x.turn.opened, began ∙ x.is ∙ ends);
     })
 
-told_only : {K : Type 0} (desk : DeskId) (n moment attempts k : ℕ) (c : Command) (first next : Pass) (s s' : Stored K) (called : Called) (told : Told) → Found desk n first s → Left desk next s' → s'.book ≡ after_call s.book called
-    → (x : Telling s.book.state c moment called) → told ≡ record { place = s.book.state.place; reply = x.reply }
+told_only : {K : Type 0} (desk : DeskId) (n draft moment attempts k : ℕ) (c : Command) (first next : Pass) (s s' : Stored K) (called : Called) (told : Told) → Found desk n first s → Left desk next s' → s'.book ≡ after_call s.book called
+    → s'.mark.fault ≡ None → (x : Telling draft s.book.state c moment called) → told ≡ record { place = s.book.state.place; reply = x.reply } → Numbered desk c first draft
     → Answers desk n c moment attempts k (mark_of first) (mark_of next) (seen first) (seen next) (Ok told)
-told_only desk n moment attempts k c first next s s' called told found left book x is =
+told_only desk n draft moment attempts k c first next s s' called told found left book up x is numbered =
     let same : seen next ≡ log_of s = left.seen_is ∙ ap (λ (b : Book). reverse b.log) book ∙ ap (λ (l : List LogEntry). reverse (l ++ s.book.log)) x.none in
     let state : state_of desk (seen next) ≡ s.book.state = left.state_is ∙ ap (λ (b : Book). b.state) book ∙ x.state_is in
     let reply : told.reply ≡ x.reply = ap (λ (t : Told). t.reply) is in
     let ends : outcome s.book.state x.reply ≡ outcome (state_of desk (seen next)) told.reply = λ i. outcome (sym state i) (sym reply i) in
     inr (record {
+      up = ap (λ (m : Mark). m.fault) left.mark_is ∙ up;
+      number = numbered.number;
       follows = subst (Follows n (seen first)) (sym same) found.follows;
       place = ap (λ (t : Told). t.place) is ∙ sym (ap (λ (y : State). y.place) state);
-      reply = comes_at (state_of desk (seen next)) s.book.state c moment (Ok (state_of desk (seen next), told.reply)) state (subst (ComesTo s.book.state c moment) ends x.is);
+      reply = record { draft = draft; above = numbered.above; is = comes_at draft (state_of desk (seen next)) s.book.state c moment (Ok (state_of desk (seen next), told.reply)) state (subst (ComesToIn draft s.book.state c moment) ends x.is) };
     })
 
 pub answers_ok : {K : Type 0} (desk : DeskId) (n draft moment attempts k : ℕ) (c : Command) (first next : Pass) (s s' : Stored K) (called : Called) (told : Told) (left_open : Open) → Found desk n first s → Left desk next s' → Brings n draft s.book.state c moment called
-    → IsDraftAbove (mark_of first).draft (opens_draft c) draft → Does called s told s' left_open → Answers desk n c moment attempts k (mark_of first) (mark_of next) (seen first) (seen next) (Ok told)
-answers_ok {K} desk n draft moment attempts k c first next s s' called told left_open found left brings above does = by_kind (told_is n draft s.book.state c moment called told brings does.said)
+    → Numbered desk c first draft → Does called s told s' left_open → Answers desk n c moment attempts k (mark_of first) (mark_of next) (seen first) (seen next) (Ok told)
+answers_ok {K} desk n draft moment attempts k c first next s s' called told left_open found left brings numbered does = by_kind (told_is n draft s.book.state c moment called told brings does.said)
   where
     book : s'.book ≡ after_call s.book called
     book = ap (λ (x : Stored K). x.book) does.after
 
-    by_kind : ((x : Entering n draft s.book.state c moment called) × (told ≡ record { place = x.after.place; reply = x.reply })) ⊎ ((x : Telling s.book.state c moment called) × (told ≡ record { place = s.book.state.place; reply = x.reply }))
+    up : s'.mark.fault ≡ None
+    up = ap (λ (x : Stored K). x.mark.fault) does.after ∙ does.up
+
+    by_kind : ((x : Entering n draft s.book.state c moment called) × (told ≡ record { place = x.after.place; reply = x.reply })) ⊎ ((x : Telling draft s.book.state c moment called) × (told ≡ record { place = s.book.state.place; reply = x.reply }))
         → Answers desk n c moment attempts k (mark_of first) (mark_of next) (seen first) (seen next) (Ok told)
-    by_kind (inl x) = entered desk n draft moment attempts k c first next s s' called told found left book x.0 x.1 above
-    by_kind (inr x) = told_only desk n moment attempts k c first next s s' called told found left book x.0 x.1
+    by_kind (inl x) = entered desk n draft moment attempts k c first next s s' called told found left book up x.0 x.1 numbered
+    by_kind (inr x) = told_only desk n draft moment attempts k c first next s s' called told found left book up x.0 x.1 numbered
 
 -- ---- a refusal
 
@@ -148,26 +160,31 @@ faults_same desk n first next s s' found left same x is own = found.no_new x (sy
 
 -- what is refused by the rules
 refused_here : {K : Type 0} (desk : DeskId) (n draft moment : ℕ) (c : Command) (first next : Pass) (s s' : Stored K) (called : Called) (r : Refused) (left_open : Open) (why : Refusal) → Found desk n first s → Left desk next s' → Brings n draft s.book.state c moment called
-    → r.why ≡ why → IsRefused called s r s' left_open → Follows n (seen first) (seen next) × (IsAt desk (seen next) r.place × ComesTo (state_of desk (seen next)) c moment (Err why))
-refused_here {K} desk n draft moment c first next s s' called r left_open why found left brings same refused =
+    → Numbered desk c first draft → r.why ≡ why → IsRefused called s r s' left_open → Follows n (seen first) (seen next) × IsRuledOut desk c moment (mark_of first) (mark_of next) (seen next) r.place why
+refused_here {K} desk n draft moment c first next s s' called r left_open why found left brings numbered same refused =
     let book : s'.book ≡ s.book = ap (λ (x : Stored K). x.book) refused.after in
     let state = state_same desk next s s' left book in
     let own = refused_is n draft s.book.state c moment called r brings refused.said in (
       follows_same desk n first next s s' found left book,
-      (at_state desk next s.book.state r.place state own.place, comes_at (state_of desk (seen next)) s.book.state c moment (Err why) state (subst (λ (w : Refusal). ComesTo s.book.state c moment (Err w)) same own.why)),
+      record {
+        at = at_state desk next s.book.state r.place state own.place;
+        up = ap (λ (m : Mark). m.fault) left.mark_is ∙ (ap (λ (x : Stored K). x.mark.fault) refused.after ∙ refused.up);
+        number = λ passes. numbered.number;
+        comes = record { draft = draft; above = numbered.above; is = comes_at draft (state_of desk (seen next)) s.book.state c moment (Err why) state (subst (λ (w : Refusal). ComesToIn draft s.book.state c moment (Err w)) same own.why) };
+      },
     )
 
 -- no step refuses so
-never : {A : Type 0} (state : State) (c : Command) (moment : ℕ) (why : Refusal) → (IsUsualCause why → ⊥) → ComesTo state c moment (Err why) → A
-never state c moment why none comes = absurd (none (subst (λ (o : Outcome). IsUsual o) comes.1.1 (usual_step state c (record { draft = comes.0; opened = comes.1.0; moment = moment }))))
+never : {A : Type 0} (draft : ℕ) (state : State) (c : Command) (moment : ℕ) (why : Refusal) → (IsUsualCause why → ⊥) → ComesToIn draft state c moment (Err why) → A
+never draft state c moment why none comes = absurd (none (subst (λ (o : Outcome). IsUsual o) comes.1 (usual_step state c (record { draft = draft; opened = comes.0; moment = moment }))))
 
 is_false : (b : Bool) → b ≡ false → b ≡ true → ⊥
 is_false b f t = let wrong : false ≡ true = sym f ∙ t in cc
 
 by_limit : (desk : DeskId) (n moment attempts k : ℕ) (c : Command) (first next : Pass) (which : Quantity) (number : ℕ) (place : Option ℕ)
-    → Follows n (seen first) (seen next) × (IsAt desk (seen next) place × ComesTo (state_of desk (seen next)) c moment (Err (refusals.Limit which number)))
+    → Follows n (seen first) (seen next) × IsRuledOut desk c moment (mark_of first) (mark_of next) (seen next) place (refusals.Limit which number)
     → Follows n (seen first) (seen next) × Causes desk n c moment attempts k (mark_of first) (mark_of next) (seen next) place (refusals.Limit which number)
-by_limit desk n moment attempts k c first next quantities.Drafts number place h = never (state_of desk (seen next)) c moment (refusals.Limit quantities.Drafts number) (is_false false refl) h.1.1
+by_limit desk n moment attempts k c first next quantities.Drafts number place h = never h.1.comes.draft (state_of desk (seen next)) c moment (refusals.Limit quantities.Drafts number) (is_false false refl) h.1.comes.is
 by_limit desk n moment attempts k c first next quantities.References number place h = h
 by_limit desk n moment attempts k c first next quantities.Log number place h = h
 by_limit desk n moment attempts k c first next quantities.Commits number place h = h
@@ -179,18 +196,18 @@ not_none : (x : FailedAppend) → None ≡ Some x → ⊥
 not_none x e = cc
 
 pub causes : {K : Type 0} (desk : DeskId) (n draft moment attempts k : ℕ) (c : Command) (first next : Pass) (s s' : Stored K) (called : Called) (r : Refused) (left_open : Open) (why : Refusal) → Found desk n first s → Left desk next s' → Brings n draft s.book.state c moment called
-    → r.why ≡ why → Refuses called n s r why s' left_open → Follows n (seen first) (seen next) × Causes desk n c moment attempts k (mark_of first) (mark_of next) (seen next) r.place why
-causes {K} desk n draft moment attempts k c first next s s' called r left_open refusals.NoMemory found left brings same h =
+    → Numbered desk c first draft → r.why ≡ why → Refuses called n s r why s' left_open → Follows n (seen first) (seen next) × Causes desk n c moment attempts k (mark_of first) (mark_of next) (seen next) r.place why
+causes {K} desk n draft moment attempts k c first next s s' called r left_open refusals.NoMemory found left brings numbered same h =
     let book : s'.book ≡ s.book = ap (λ (x : Stored K). x.book) h.1 in
     (follows_same desk n first next s s' found left book, (h.0, faults_same desk n first next s s' found left (ap (λ (x : Stored K). x.mark.fault) h.1)))
-causes {K} desk n draft moment attempts k c first next s s' called r left_open (refusals.Down count) found left brings same h =
+causes {K} desk n draft moment attempts k c first next s s' called r left_open (refusals.Down count) found left brings numbered same h =
     let book : s'.book ≡ s.book = ap (λ (x : Stored K). x.book) h.2 in
     let state = state_same desk next s s' left book in
     let is : (mark_of next).fault ≡ Some h.1.0 = ap (λ (m : Mark). m.fault) left.mark_is ∙ (ap (λ (x : Stored K). x.mark.fault) h.2 ∙ h.1.1) in (
       follows_same desk n first next s s' found left book,
       (at_state desk next s.book.state r.place state h.0, record { fault = h.1.0; is = is; count_is = h.1.2; known = λ own. found.no_new h.1.0 h.1.1 own }),
     )
-causes {K} desk n draft moment attempts k c first next s s' called r left_open refusals.Fault found left brings same h =
+causes {K} desk n draft moment attempts k c first next s s' called r left_open refusals.Fault found left brings numbered same h =
     let book : s'.book ≡ s.book = ap (λ (x : Stored K). x.book) h.after in
     let state = state_same desk next s s' left book in
     let is : (mark_of next).fault ≡ Some h.fault = ap (λ (m : Mark). m.fault) left.mark_is ∙ ap (λ (x : Stored K). x.mark.fault) h.after in (
@@ -204,26 +221,29 @@ causes {K} desk n draft moment attempts k c first next s s' called r left_open r
           new = λ was. not_none h.fault (sym h.up ∙ found.kept h.fault was);
           entry = h.entry;
           accepted = entry_at (state_of desk (seen next)) s.book.state n c moment h.entry state (entry_is n draft s.book.state c moment called h.entry brings h.logged);
+          draft = subst (IsDraftAbove (mark_of first).draft (opens_draft c)) (sym (entry_draft_is n draft s.book.state c moment called h.entry brings h.logged)) numbered.above;
+          number = numbered.number;
           payload = h.payload;
         },
       ),
     )
-causes desk n draft moment attempts k c first next s s' called r left_open (refusals.Expired keys opened) found left brings same h = absurd h
-causes desk n draft moment attempts k c first next s s' called r left_open (refusals.RetriesSpent pairs) found left brings same h =
-    never (state_of desk (seen next)) c moment (refusals.RetriesSpent pairs) (is_false false refl) (refused_here desk n draft moment c first next s s' called r left_open (refusals.RetriesSpent pairs) found left brings same h).1.1
-causes {K} desk n draft moment attempts k c first next s s' called r left_open (refusals.Limit which number) found left brings same h =
-    by_limit desk n moment attempts k c first next which number r.place (refused_here desk n draft moment c first next s s' called r left_open (refusals.Limit which number) found left brings same h)
-causes desk n draft moment attempts k c first next s s' called r left_open (refusals.BadRequest x) found left brings same h = refused_here desk n draft moment c first next s s' called r left_open (refusals.BadRequest x) found left brings same h
-causes desk n draft moment attempts k c first next s s' called r left_open refusals.RefNotFound found left brings same h = refused_here desk n draft moment c first next s s' called r left_open refusals.RefNotFound found left brings same h
-causes desk n draft moment attempts k c first next s s' called r left_open refusals.RefExists found left brings same h = refused_here desk n draft moment c first next s s' called r left_open refusals.RefExists found left brings same h
-causes desk n draft moment attempts k c first next s s' called r left_open (refusals.ContentNotFound x) found left brings same h = refused_here desk n draft moment c first next s s' called r left_open (refusals.ContentNotFound x) found left brings same h
-causes desk n draft moment attempts k c first next s s' called r left_open (refusals.Conflicts x) found left brings same h = refused_here desk n draft moment c first next s s' called r left_open (refusals.Conflicts x) found left brings same h
-causes desk n draft moment attempts k c first next s s' called r left_open (refusals.SweepOpen x) found left brings same h = refused_here desk n draft moment c first next s s' called r left_open (refusals.SweepOpen x) found left brings same h
-causes desk n draft moment attempts k c first next s s' called r left_open (refusals.Collision x y z) found left brings same h = refused_here desk n draft moment c first next s s' called r left_open (refusals.Collision x y z) found left brings same h
-causes desk n draft moment attempts k c first next s s' called r left_open refusals.NoRoute found left brings same h = refused_here desk n draft moment c first next s s' called r left_open refusals.NoRoute found left brings same h
-causes desk n draft moment attempts k c first next s s' called r left_open (refusals.WrongMethod x) found left brings same h = refused_here desk n draft moment c first next s s' called r left_open (refusals.WrongMethod x) found left brings same h
-causes desk n draft moment attempts k c first next s s' called r left_open refusals.TooLarge found left brings same h = refused_here desk n draft moment c first next s s' called r left_open refusals.TooLarge found left brings same h
-causes desk n draft moment attempts k c first next s s' called r left_open refusals.Encoding found left brings same h = refused_here desk n draft moment c first next s s' called r left_open refusals.Encoding found left brings same h
+causes desk n draft moment attempts k c first next s s' called r left_open (refusals.Expired keys opened) found left brings numbered same h = absurd h
+causes desk n draft moment attempts k c first next s s' called r left_open (refusals.RetriesSpent pairs) found left brings numbered same h =
+    let out = (refused_here desk n draft moment c first next s s' called r left_open (refusals.RetriesSpent pairs) found left brings numbered same h).1 in
+    never out.comes.draft (state_of desk (seen next)) c moment (refusals.RetriesSpent pairs) (is_false false refl) out.comes.is
+causes {K} desk n draft moment attempts k c first next s s' called r left_open (refusals.Limit which number) found left brings numbered same h =
+    by_limit desk n moment attempts k c first next which number r.place (refused_here desk n draft moment c first next s s' called r left_open (refusals.Limit which number) found left brings numbered same h)
+causes desk n draft moment attempts k c first next s s' called r left_open (refusals.BadRequest x) found left brings numbered same h = refused_here desk n draft moment c first next s s' called r left_open (refusals.BadRequest x) found left brings numbered same h
+causes desk n draft moment attempts k c first next s s' called r left_open refusals.RefNotFound found left brings numbered same h = refused_here desk n draft moment c first next s s' called r left_open refusals.RefNotFound found left brings numbered same h
+causes desk n draft moment attempts k c first next s s' called r left_open refusals.RefExists found left brings numbered same h = refused_here desk n draft moment c first next s s' called r left_open refusals.RefExists found left brings numbered same h
+causes desk n draft moment attempts k c first next s s' called r left_open (refusals.ContentNotFound x) found left brings numbered same h = refused_here desk n draft moment c first next s s' called r left_open (refusals.ContentNotFound x) found left brings numbered same h
+causes desk n draft moment attempts k c first next s s' called r left_open (refusals.Conflicts x) found left brings numbered same h = refused_here desk n draft moment c first next s s' called r left_open (refusals.Conflicts x) found left brings numbered same h
+causes desk n draft moment attempts k c first next s s' called r left_open (refusals.SweepOpen x) found left brings numbered same h = refused_here desk n draft moment c first next s s' called r left_open (refusals.SweepOpen x) found left brings numbered same h
+causes desk n draft moment attempts k c first next s s' called r left_open (refusals.Collision x y z) found left brings numbered same h = refused_here desk n draft moment c first next s s' called r left_open (refusals.Collision x y z) found left brings numbered same h
+causes desk n draft moment attempts k c first next s s' called r left_open refusals.NoRoute found left brings numbered same h = refused_here desk n draft moment c first next s s' called r left_open refusals.NoRoute found left brings numbered same h
+causes desk n draft moment attempts k c first next s s' called r left_open (refusals.WrongMethod x) found left brings numbered same h = refused_here desk n draft moment c first next s s' called r left_open (refusals.WrongMethod x) found left brings numbered same h
+causes desk n draft moment attempts k c first next s s' called r left_open refusals.TooLarge found left brings numbered same h = refused_here desk n draft moment c first next s s' called r left_open refusals.TooLarge found left brings numbered same h
+causes desk n draft moment attempts k c first next s s' called r left_open refusals.Encoding found left brings numbered same h = refused_here desk n draft moment c first next s s' called r left_open refusals.Encoding found left brings numbered same h
 
 -- ---- on the only pass
 
@@ -300,7 +320,7 @@ alone_err {K} desk n draft moment c next s s' called b f r left_open refusals.Fa
 alone_err desk n draft moment c next s s' called b f r left_open (refusals.Expired keys opened) at left brings same h = absurd h
 alone_err desk n draft moment c next s s' called b f r left_open (refusals.RetriesSpent pairs) at left brings same h =
     let own = refused_is n draft s.book.state c moment called r brings h.said in
-    never s.book.state c moment (refusals.RetriesSpent pairs) (is_false false refl) (subst (λ (w : Refusal). ComesTo s.book.state c moment (Err w)) same own.why)
+    never draft s.book.state c moment (refusals.RetriesSpent pairs) (is_false false refl) (subst (λ (w : Refusal). ComesToIn draft s.book.state c moment (Err w)) same own.why)
 alone_err desk n draft moment c next s s' called b f r left_open (refusals.Limit x y) at left brings same h = refused_alone desk n draft moment c next s s' called b f r left_open at left brings h
 alone_err desk n draft moment c next s s' called b f r left_open (refusals.BadRequest x) at left brings same h = refused_alone desk n draft moment c next s s' called b f r left_open at left brings h
 alone_err desk n draft moment c next s s' called b f r left_open refusals.RefNotFound at left brings same h = refused_alone desk n draft moment c next s s' called b f r left_open at left brings h

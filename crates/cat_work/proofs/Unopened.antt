@@ -1,8 +1,8 @@
 -- Calls for which no draft was opened.
-use Rattle.std.proofs.Common.{◌≡◌, ◌≤◌, ◌⊎◌, inl, inr, ℕ, ◌+◌, List, [], ◌∷◌, ◌++◌, Option, Some, None, Result, Ok, Err, Bool, true, false, refl, sym, ap, subst, ◌∙◌, arith, le_refl, length}
+use Rattle.std.proofs.Common.{◌≡◌, ◌<◌, ◌≤◌, ◌⊎◌, inl, inr, ℕ, ◌+◌, List, [], ◌∷◌, ◌++◌, Option, Some, None, Result, Ok, Err, Bool, true, false, refl, sym, ap, subst, ◌∙◌, arith, le_refl, length}
 use Rattle.sha2.specs.Sha256.{sha256}
 use Rattle.cat_core.specs.Drafts.{NotOpened, may_open}
-use Rattle.cat_core.specs.Stored.{Stored, log_of}
+use Rattle.cat_core.specs.Stored.{IsUp, Stored, log_of}
 use Rattle.cat_desk.specs.Log.{Follows}
 use Rattle.cat_desk.specs.Pass.{DeskId, known, left_by, mark_of, number_of, seen}
 use Rattle.cat_desk.specs.declared.pass.Pass.{Pass}
@@ -21,7 +21,7 @@ use Rattle.cat_model.specs.State.{State}
 use Rattle.cat_model.specs.Step.{opening, opens_draft}
 use Rattle.cat_model.specs.TurnLaws.{nothing_stays}
 use Rattle.cat_core.specs.Stored as stored
-use Rattle.cat_work.specs.Answers.{Answers, AnswersAlone, Causes, ComesTo, IsAt, KnowsAt, Knows, RefusesAlone}
+use Rattle.cat_work.specs.Answers.{Answers, AnswersAlone, Causes, IsAt, IsDraftAbove, IsRuledOut, KnowsAt, Knows, RefusesAlone}
 use Rattle.cat_work.specs.Passes.{IsAlone, book_of, state_of}
 use Rattle.cat_work.specs.Turns.{BeginsNone, Comes, Turned, out_of_memory}
 use Rattle.cat_work.proofs.Openings as openings
@@ -41,24 +41,24 @@ none_still desk p q s s' none turn same =
 
 -- ---- by the tests before a draft
 
-early_cause : (desk : DeskId) (n moment attempts k : ℕ) (c : Command) (p q : Pass) (place : Option ℕ) (why : Refusal) → is_early why ≡ true → IsAt desk (seen q) place → ComesTo (state_of desk (seen q)) c moment (Err why) → Causes desk n c moment attempts k (mark_of p) (mark_of q) (seen q) place why
-early_cause desk n moment attempts k c p q place (refusals.BadRequest x) early at comes = (at, comes)
-early_cause desk n moment attempts k c p q place refusals.RefNotFound early at comes = (at, comes)
-early_cause desk n moment attempts k c p q place refusals.RefExists early at comes = absurd cc
-early_cause desk n moment attempts k c p q place (refusals.ContentNotFound x) early at comes = absurd cc
-early_cause desk n moment attempts k c p q place (refusals.Conflicts x) early at comes = absurd cc
-early_cause desk n moment attempts k c p q place (refusals.Expired x y) early at comes = absurd cc
-early_cause desk n moment attempts k c p q place (refusals.RetriesSpent x) early at comes = absurd cc
-early_cause desk n moment attempts k c p q place (refusals.SweepOpen x) early at comes = absurd cc
-early_cause desk n moment attempts k c p q place (refusals.Limit x y) early at comes = absurd cc
-early_cause desk n moment attempts k c p q place (refusals.Collision x y z) early at comes = absurd cc
-early_cause desk n moment attempts k c p q place refusals.Fault early at comes = absurd cc
-early_cause desk n moment attempts k c p q place (refusals.Down x) early at comes = absurd cc
-early_cause desk n moment attempts k c p q place refusals.NoMemory early at comes = absurd cc
-early_cause desk n moment attempts k c p q place refusals.NoRoute early at comes = absurd cc
-early_cause desk n moment attempts k c p q place (refusals.WrongMethod x) early at comes = absurd cc
-early_cause desk n moment attempts k c p q place refusals.TooLarge early at comes = absurd cc
-early_cause desk n moment attempts k c p q place refusals.Encoding early at comes = absurd cc
+early_cause : (desk : DeskId) (n moment attempts k : ℕ) (c : Command) (p q : Pass) (place : Option ℕ) (why : Refusal) → is_early why ≡ true → IsRuledOut desk c moment (mark_of p) (mark_of q) (seen q) place why → Causes desk n c moment attempts k (mark_of p) (mark_of q) (seen q) place why
+early_cause desk n moment attempts k c p q place (refusals.BadRequest x) early is = is
+early_cause desk n moment attempts k c p q place refusals.RefNotFound early is = is
+early_cause desk n moment attempts k c p q place refusals.RefExists early is = absurd cc
+early_cause desk n moment attempts k c p q place (refusals.ContentNotFound x) early is = absurd cc
+early_cause desk n moment attempts k c p q place (refusals.Conflicts x) early is = absurd cc
+early_cause desk n moment attempts k c p q place (refusals.Expired x y) early is = absurd cc
+early_cause desk n moment attempts k c p q place (refusals.RetriesSpent x) early is = absurd cc
+early_cause desk n moment attempts k c p q place (refusals.SweepOpen x) early is = absurd cc
+early_cause desk n moment attempts k c p q place (refusals.Limit x y) early is = absurd cc
+early_cause desk n moment attempts k c p q place (refusals.Collision x y z) early is = absurd cc
+early_cause desk n moment attempts k c p q place refusals.Fault early is = absurd cc
+early_cause desk n moment attempts k c p q place (refusals.Down x) early is = absurd cc
+early_cause desk n moment attempts k c p q place refusals.NoMemory early is = absurd cc
+early_cause desk n moment attempts k c p q place refusals.NoRoute early is = absurd cc
+early_cause desk n moment attempts k c p q place (refusals.WrongMethod x) early is = absurd cc
+early_cause desk n moment attempts k c p q place refusals.TooLarge early is = absurd cc
+early_cause desk n moment attempts k c p q place refusals.Encoding early is = absurd cc
 
 early_alone : (n : ℕ) (called : Called) (b b' : Book) (f f' : Option FailedAppend) (r : Refused) (why : Refusal) → is_early why ≡ true → IsCalled called b b' (Err r) → f ≡ None → f' ≡ None → RefusesAlone n called b b' f f' r why
 early_alone n called b b' f f' r (refusals.BadRequest x) early is up down = (is, up, down)
@@ -81,18 +81,32 @@ early_alone n called b b' f f' r refusals.Encoding early is up down = absurd cc
 
 -- ---- the answer
 
-by_reason : {K : Type 0} (desk : DeskId) (moment attempts k : ℕ) (c : Command) (p q : Pass) (s s' : Stored K) (r : Refused) (why : Refusal) → opens_draft c ≡ true → Turned desk p q s s' → s' ≡ s → r ≡ record { place = Some s.book.state.place; why = why } → openings.Refuses s.book.state c why ⊎ HasNone s.book c why
+refused_passes : {A : Type 0} (t : Tested) (why : Refusal) → t ≡ Err why → t ≡ Ok tt → A
+refused_passes t why e o = absurd (let wrong : Err why ≡ Ok tt = sym e ∙ o in cc)
+
+next_above : (last : ℕ) → last < last + 1
+next_above last = omega arith
+
+by_reason : {K : Type 0} (desk : DeskId) (moment attempts k : ℕ) (c : Command) (p q : Pass) (s s' : Stored K) (r : Refused) (why : Refusal) → opens_draft c ≡ true → Turned desk p q s s' → s' ≡ s → IsUp s → r ≡ record { place = Some s.book.state.place; why = why } → openings.Refuses s.book.state c why ⊎ HasNone s.book c why
     → Follows (number_of p) (seen p) (seen q) × Causes desk (number_of p) c moment attempts k (mark_of p) (mark_of q) (seen q) r.place why
-by_reason {K} desk moment attempts k c p q s s' r why opens turn same is (inl x) =
+by_reason {K} desk moment attempts k c p q s s' r why opens turn same up is (inl x) =
     let found : Found desk (number_of p) p s = found_first desk p q s s' turn in
     let left : Left desk q s' = left_by_turn desk p q s s' turn in
     let book : s'.book ≡ s.book = ap (λ (y : Stored K). y.book) same in
     let state = state_same desk q s s' left book in (
       follows_same desk (number_of p) p q s s' found left book,
-      early_cause desk (number_of p) moment attempts k c p q r.place why x.early (at_state desk q s.book.state r.place state (ap (λ (y : Refused). y.place) is))
-          (comes_at (state_of desk (seen q)) s.book.state c moment (Err why) state (0, (0, step_first s.book.state c (record { draft = 0; opened = 0; moment = moment }) why x.is))),
+      early_cause desk (number_of p) moment attempts k c p q r.place why x.early record {
+        at = at_state desk q s.book.state r.place state (ap (λ (y : Refused). y.place) is);
+        up = ap (λ (m : Mark). m.fault) left.mark_is ∙ (ap (λ (y : Stored K). y.mark.fault) same ∙ up);
+        number = λ passes. refused_passes (opening sha256 s.book.state c) why x.is (ap (λ (y : State). opening sha256 y c) (sym state) ∙ passes);
+        comes = record {
+          draft = (mark_of p).draft + 1;
+          above = subst (λ (b : Bool). IsDraftAbove (mark_of p).draft b ((mark_of p).draft + 1)) (sym opens) (next_above (mark_of p).draft);
+          is = comes_at ((mark_of p).draft + 1) (state_of desk (seen q)) s.book.state c moment (Err why) state (0, step_first s.book.state c (record { draft = (mark_of p).draft + 1; opened = 0; moment = moment }) why x.is);
+        };
+      },
     )
-by_reason {K} desk moment attempts k c p q s s' r why opens turn same is (inr x) =
+by_reason {K} desk moment attempts k c p q s s' r why opens turn same up is (inr x) =
     let found : Found desk (number_of p) p s = found_first desk p q s s' turn in
     let left : Left desk q s' = left_by_turn desk p q s s' turn in
     let book : s'.book ≡ s.book = ap (λ (y : Stored K). y.book) same in
@@ -105,6 +119,7 @@ by_reason {K} desk moment attempts k c p q s s' r why opens turn same is (inr x)
       subst (λ (w : Refusal). Causes desk (number_of p) c moment attempts k (mark_of p) (mark_of q) (seen q) r.place w) (sym x.is) (
         at,
         record {
+          up = ap (λ (m : Mark). m.fault) mark ∙ up;
           opens = opens;
           passes = ap (λ (y : State). opening sha256 y c) state ∙ x.passes;
           limit = ap (λ (y : State). y.limits.drafts) (sym state);
@@ -128,21 +143,21 @@ answers_none {K} desk moment attempts k c p q s s' r (refusals.Down count) opens
       follows_same desk (number_of p) p q s s' found left book,
       (at_state desk q s.book.state r.place (state_same desk q s s' left book) h.0, record { fault = h.1.0; is = is; count_is = h.1.2; known = λ own. found.no_new h.1.0 h.1.1 own }),
     )
-answers_none desk moment attempts k c p q s s' r (refusals.BadRequest x) opens turn same reason h = by_reason desk moment attempts k c p q s s' r (refusals.BadRequest x) opens turn same h.1 (may_not s.book c (refusals.BadRequest x) h.2)
-answers_none desk moment attempts k c p q s s' r refusals.RefNotFound opens turn same reason h = by_reason desk moment attempts k c p q s s' r refusals.RefNotFound opens turn same h.1 (may_not s.book c refusals.RefNotFound h.2)
-answers_none desk moment attempts k c p q s s' r refusals.RefExists opens turn same reason h = by_reason desk moment attempts k c p q s s' r refusals.RefExists opens turn same h.1 (may_not s.book c refusals.RefExists h.2)
-answers_none desk moment attempts k c p q s s' r (refusals.ContentNotFound x) opens turn same reason h = by_reason desk moment attempts k c p q s s' r (refusals.ContentNotFound x) opens turn same h.1 (may_not s.book c (refusals.ContentNotFound x) h.2)
-answers_none desk moment attempts k c p q s s' r (refusals.Conflicts x) opens turn same reason h = by_reason desk moment attempts k c p q s s' r (refusals.Conflicts x) opens turn same h.1 (may_not s.book c (refusals.Conflicts x) h.2)
-answers_none desk moment attempts k c p q s s' r (refusals.Expired x y) opens turn same reason h = by_reason desk moment attempts k c p q s s' r (refusals.Expired x y) opens turn same h.1 (may_not s.book c (refusals.Expired x y) h.2)
-answers_none desk moment attempts k c p q s s' r (refusals.RetriesSpent x) opens turn same reason h = by_reason desk moment attempts k c p q s s' r (refusals.RetriesSpent x) opens turn same h.1 (may_not s.book c (refusals.RetriesSpent x) h.2)
-answers_none desk moment attempts k c p q s s' r (refusals.SweepOpen x) opens turn same reason h = by_reason desk moment attempts k c p q s s' r (refusals.SweepOpen x) opens turn same h.1 (may_not s.book c (refusals.SweepOpen x) h.2)
-answers_none desk moment attempts k c p q s s' r (refusals.Limit x y) opens turn same reason h = by_reason desk moment attempts k c p q s s' r (refusals.Limit x y) opens turn same h.1 (may_not s.book c (refusals.Limit x y) h.2)
-answers_none desk moment attempts k c p q s s' r (refusals.Collision x y z) opens turn same reason h = by_reason desk moment attempts k c p q s s' r (refusals.Collision x y z) opens turn same h.1 (may_not s.book c (refusals.Collision x y z) h.2)
-answers_none desk moment attempts k c p q s s' r refusals.Fault opens turn same reason h = by_reason desk moment attempts k c p q s s' r refusals.Fault opens turn same h.1 (may_not s.book c refusals.Fault h.2)
-answers_none desk moment attempts k c p q s s' r refusals.NoRoute opens turn same reason h = by_reason desk moment attempts k c p q s s' r refusals.NoRoute opens turn same h.1 (may_not s.book c refusals.NoRoute h.2)
-answers_none desk moment attempts k c p q s s' r (refusals.WrongMethod x) opens turn same reason h = by_reason desk moment attempts k c p q s s' r (refusals.WrongMethod x) opens turn same h.1 (may_not s.book c (refusals.WrongMethod x) h.2)
-answers_none desk moment attempts k c p q s s' r refusals.TooLarge opens turn same reason h = by_reason desk moment attempts k c p q s s' r refusals.TooLarge opens turn same h.1 (may_not s.book c refusals.TooLarge h.2)
-answers_none desk moment attempts k c p q s s' r refusals.Encoding opens turn same reason h = by_reason desk moment attempts k c p q s s' r refusals.Encoding opens turn same h.1 (may_not s.book c refusals.Encoding h.2)
+answers_none desk moment attempts k c p q s s' r (refusals.BadRequest x) opens turn same reason h = by_reason desk moment attempts k c p q s s' r (refusals.BadRequest x) opens turn same h.0 h.1 (may_not s.book c (refusals.BadRequest x) h.2)
+answers_none desk moment attempts k c p q s s' r refusals.RefNotFound opens turn same reason h = by_reason desk moment attempts k c p q s s' r refusals.RefNotFound opens turn same h.0 h.1 (may_not s.book c refusals.RefNotFound h.2)
+answers_none desk moment attempts k c p q s s' r refusals.RefExists opens turn same reason h = by_reason desk moment attempts k c p q s s' r refusals.RefExists opens turn same h.0 h.1 (may_not s.book c refusals.RefExists h.2)
+answers_none desk moment attempts k c p q s s' r (refusals.ContentNotFound x) opens turn same reason h = by_reason desk moment attempts k c p q s s' r (refusals.ContentNotFound x) opens turn same h.0 h.1 (may_not s.book c (refusals.ContentNotFound x) h.2)
+answers_none desk moment attempts k c p q s s' r (refusals.Conflicts x) opens turn same reason h = by_reason desk moment attempts k c p q s s' r (refusals.Conflicts x) opens turn same h.0 h.1 (may_not s.book c (refusals.Conflicts x) h.2)
+answers_none desk moment attempts k c p q s s' r (refusals.Expired x y) opens turn same reason h = by_reason desk moment attempts k c p q s s' r (refusals.Expired x y) opens turn same h.0 h.1 (may_not s.book c (refusals.Expired x y) h.2)
+answers_none desk moment attempts k c p q s s' r (refusals.RetriesSpent x) opens turn same reason h = by_reason desk moment attempts k c p q s s' r (refusals.RetriesSpent x) opens turn same h.0 h.1 (may_not s.book c (refusals.RetriesSpent x) h.2)
+answers_none desk moment attempts k c p q s s' r (refusals.SweepOpen x) opens turn same reason h = by_reason desk moment attempts k c p q s s' r (refusals.SweepOpen x) opens turn same h.0 h.1 (may_not s.book c (refusals.SweepOpen x) h.2)
+answers_none desk moment attempts k c p q s s' r (refusals.Limit x y) opens turn same reason h = by_reason desk moment attempts k c p q s s' r (refusals.Limit x y) opens turn same h.0 h.1 (may_not s.book c (refusals.Limit x y) h.2)
+answers_none desk moment attempts k c p q s s' r (refusals.Collision x y z) opens turn same reason h = by_reason desk moment attempts k c p q s s' r (refusals.Collision x y z) opens turn same h.0 h.1 (may_not s.book c (refusals.Collision x y z) h.2)
+answers_none desk moment attempts k c p q s s' r refusals.Fault opens turn same reason h = by_reason desk moment attempts k c p q s s' r refusals.Fault opens turn same h.0 h.1 (may_not s.book c refusals.Fault h.2)
+answers_none desk moment attempts k c p q s s' r refusals.NoRoute opens turn same reason h = by_reason desk moment attempts k c p q s s' r refusals.NoRoute opens turn same h.0 h.1 (may_not s.book c refusals.NoRoute h.2)
+answers_none desk moment attempts k c p q s s' r (refusals.WrongMethod x) opens turn same reason h = by_reason desk moment attempts k c p q s s' r (refusals.WrongMethod x) opens turn same h.0 h.1 (may_not s.book c (refusals.WrongMethod x) h.2)
+answers_none desk moment attempts k c p q s s' r refusals.TooLarge opens turn same reason h = by_reason desk moment attempts k c p q s s' r refusals.TooLarge opens turn same h.0 h.1 (may_not s.book c refusals.TooLarge h.2)
+answers_none desk moment attempts k c p q s s' r refusals.Encoding opens turn same reason h = by_reason desk moment attempts k c p q s s' r refusals.Encoding opens turn same h.0 h.1 (may_not s.book c refusals.Encoding h.2)
 
 -- ---- on the only pass
 

@@ -32,9 +32,20 @@ use Rattle.cat_work.specs.Passes.{state_of}
 abbrev pub ComesToIn : ℕ → State → Command → ℕ → Outcome → Type 0
 ComesToIn draft state c moment outcome = (opened : ℕ) × (step sha256 state c (record { draft = draft; opened = opened; moment = moment }) ≡ outcome)
 
--- and in some draft
-abbrev pub ComesTo : State → Command → ℕ → Outcome → Type 0
-ComesTo state c moment outcome = (draft : ℕ) × ComesToIn draft state c moment outcome
+-- a call that opens a draft has a new number, above the last one that was known; any other has none
+abbrev pub IsDraftAbove : ℕ → Bool → ℕ → Type 0
+IsDraftAbove last true draft = last < draft
+IsDraftAbove last false draft = draft ≡ 0
+
+-- it comes to this in a draft of its own
+pub record ComesTo (last : ℕ) (state : State) (c : Command) (moment : ℕ) (outcome : Outcome) : Type 0 where
+  pub draft : ℕ
+  pub above : IsDraftAbove last (opens_draft c) draft
+  pub is : ComesToIn draft state c moment outcome
+
+-- where a call opens a draft, a number was left when the last one was known
+abbrev pub HadNumber : DeskId → Command → ℕ → Type 0
+HadNumber desk c last = opens_draft c ≡ true → last < desk.opened.state.limits.drafts
 
 -- the step is accepted on a state, and this is the caller's entry of it
 pub record IsEntryOf (n : ℕ) (state : State) (c : Command) (moment : ℕ) (entry : LogEntry) : Type 0 where
@@ -48,35 +59,41 @@ pub record IsEntryOf (n : ℕ) (state : State) (c : Command) (moment : ℕ) (ent
 
 -- ---- accepted
 
--- a call that opens a draft has a new number, above the last one that was known; any other has none
-abbrev pub IsDraftAbove : ℕ → Bool → ℕ → Type 0
-IsDraftAbove last true draft = last < draft
-IsDraftAbove last false draft = draft ≡ 0
-
--- its entry is the last
-pub record Accepts (desk : DeskId) (n : ℕ) (c : Command) (moment last : ℕ) (l : List LogEntry) (told : Told) (m : List LogEntry) : Type 0 where
-  pub before : List LogEntry
+-- its entry is the last, and no append has failed
+pub record Accepts (desk : DeskId) (n : ℕ) (c : Command) (moment : ℕ) (before after : Mark) (l : List LogEntry) (told : Told) (m : List LogEntry) : Type 0 where
+  pub up : after.fault ≡ None
+  pub earlier : List LogEntry
   pub entry : LogEntry
-  pub follows : Follows n l before
-  pub log : m ≡ before ++ entry ∷ []
+  pub follows : Follows n l earlier
+  pub log : m ≡ earlier ++ entry ∷ []
   pub caller : entry.caller ≡ n
   pub moment_is : entry.moment ≡ moment
   pub command_is : entry.command ≡ logged_command sha256 entry.draft c
-  pub draft : IsDraftAbove last (opens_draft c) entry.draft
+  pub draft : IsDraftAbove before.draft (opens_draft c) entry.draft
+  pub number : HadNumber desk c before.draft
   pub place : told.place ≡ (state_of desk m).place
-  pub reply : ComesToIn entry.draft (state_of desk before) c moment (Ok (state_of desk m, told.reply))
+  pub reply : ComesToIn entry.draft (state_of desk earlier) c moment (Ok (state_of desk m, told.reply))
 
 -- it is told without an entry
-pub record Tells (desk : DeskId) (n : ℕ) (c : Command) (moment : ℕ) (l : List LogEntry) (told : Told) (m : List LogEntry) : Type 0 where
+pub record Tells (desk : DeskId) (n : ℕ) (c : Command) (moment : ℕ) (before after : Mark) (l : List LogEntry) (told : Told) (m : List LogEntry) : Type 0 where
+  pub up : after.fault ≡ None
   pub follows : Follows n l m
+  pub number : HadNumber desk c before.draft
   pub place : told.place ≡ (state_of desk m).place
-  pub reply : ComesTo (state_of desk m) c moment (Ok (state_of desk m, told.reply))
+  pub reply : ComesTo before.draft (state_of desk m) c moment (Ok (state_of desk m, told.reply))
 
 -- ---- refused
 
 -- the refusal was decided on the state after this log
 abbrev pub IsAt : DeskId → List LogEntry → Option ℕ → Type 0
 IsAt desk m place = place ≡ Some (state_of desk m).place
+
+-- the rules refuse it on that state, and no append has failed; past the tests before a draft, a number was left
+pub record IsRuledOut (desk : DeskId) (c : Command) (moment : ℕ) (before after : Mark) (m : List LogEntry) (place : Option ℕ) (why : Refusal) : Type 0 where
+  pub at : IsAt desk m place
+  pub up : after.fault ≡ None
+  pub number : opening sha256 (state_of desk m) c ≡ Ok tt → HadNumber desk c before.draft
+  pub comes : ComesTo before.draft (state_of desk m) c moment (Err why)
 
 -- a fault of this caller was there before
 abbrev pub NoFaultIsNew : ℕ → Mark → Mark → Type 0
@@ -90,17 +107,20 @@ pub record IsDown (n count : ℕ) (before after : Mark) : Type 0 where
   pub known : fault.caller ≡ n → before.fault ≡ Some fault
 
 -- the call was accepted, and the append of its entry failed
-pub record Falls (n : ℕ) (state : State) (c : Command) (moment : ℕ) (before after : Mark) : Type 0 where
+pub record Falls (desk : DeskId) (n : ℕ) (state : State) (c : Command) (moment : ℕ) (before after : Mark) : Type 0 where
   pub fault : FailedAppend
   pub is : after.fault ≡ Some fault
   pub caller_is : fault.caller ≡ n
   pub new : before.fault ≡ Some fault → ⊥
   pub entry : LogEntry
   pub accepted : IsEntryOf n state c moment entry
+  pub draft : IsDraftAbove before.draft (opens_draft c) entry.draft
+  pub number : HadNumber desk c before.draft
   pub payload : fault.payload ≡ spelling entry
 
 -- no draft number is left, and the last was known before or is another caller's
 pub record LacksDraft (n : ℕ) (state : State) (c : Command) (number : ℕ) (before after : Mark) : Type 0 where
+  pub up : after.fault ≡ None
   pub opens : opens_draft c ≡ true
   pub passes : opening sha256 state c ≡ Ok tt
   pub limit : number ≡ state.limits.drafts
@@ -133,9 +153,12 @@ abbrev pub first_place : List (ℕ × Hash) → ℕ
 first_place [] = 0
 first_place (pair ∷ pairs) = pair.0
 
--- each head that was built on was the branch's, the first at the opening of the draft that was dropped, and the last is the branch's at the end
+-- each head that was built on was the branch's, the first at the opening of the draft that was dropped, and the last is the branch's at the end, where the tests before a draft pass and no append has failed
 pub record Spends (desk : DeskId) (n : ℕ) (c : Command) (attempts k : ℕ) (before after : Mark) (m : List LogEntry) (pairs : List (ℕ × Hash)) : Type 0 where
+  pub up : after.fault ≡ None
   pub opens : opens_draft c ≡ true
+  pub passes : opening sha256 (state_of desk m) c ≡ Ok tt
+  pub left : HadNumber desk c before.draft
   pub count : length pairs ≡ attempts + 1
   pub rises : Rises pairs
   pub at : AreHeadsAt desk c m pairs
@@ -149,23 +172,23 @@ pub record Spends (desk : DeskId) (n : ℕ) (c : Command) (attempts k : ℕ) (be
 
 -- ---- answers
 
-abbrev pub CausesLimit : DeskId → ℕ → Command → ℕ → Mark → Mark → List LogEntry → Quantity → ℕ → Type 0
-CausesLimit desk n c moment before after m Drafts number = LacksDraft n (state_of desk m) c number before after
-CausesLimit desk n c moment before after m which number = ComesTo (state_of desk m) c moment (Err (refusals.Limit which number))
+abbrev pub CausesLimit : DeskId → ℕ → Command → ℕ → Mark → Mark → List LogEntry → Option ℕ → Quantity → ℕ → Type 0
+CausesLimit desk n c moment before after m place Drafts number = IsAt desk m place × LacksDraft n (state_of desk m) c number before after
+CausesLimit desk n c moment before after m place which number = IsRuledOut desk c moment before after m place (refusals.Limit which number)
 
 -- a refusal, by its reason
 abbrev pub Causes : DeskId → ℕ → Command → ℕ → ℕ → ℕ → Mark → Mark → List LogEntry → Option ℕ → Refusal → Type 0
 Causes desk n c moment attempts k before after m place refusals.NoMemory = (place ≡ None) × NoFaultIsNew n before after
 Causes desk n c moment attempts k before after m place (refusals.Down count) = IsAt desk m place × IsDown n count before after
-Causes desk n c moment attempts k before after m place refusals.Fault = IsAt desk m place × Falls n (state_of desk m) c moment before after
+Causes desk n c moment attempts k before after m place refusals.Fault = IsAt desk m place × Falls desk n (state_of desk m) c moment before after
 Causes desk n c moment attempts k before after m place (refusals.RetriesSpent pairs) = IsAt desk m place × Spends desk n c attempts k before after m pairs
 Causes desk n c moment attempts k before after m place (refusals.Expired keys opened) = ⊥
-Causes desk n c moment attempts k before after m place (refusals.Limit which number) = IsAt desk m place × CausesLimit desk n c moment before after m which number
-Causes desk n c moment attempts k before after m place why = IsAt desk m place × ComesTo (state_of desk m) c moment (Err why)
+Causes desk n c moment attempts k before after m place (refusals.Limit which number) = CausesLimit desk n c moment before after m place which number
+Causes desk n c moment attempts k before after m place why = IsRuledOut desk c moment before after m place why
 
 -- what a call at a moment answers on a pass with number n that had seen l, knew of k entries and held the mark before, and has then seen m and holds the mark after
 abbrev pub Answers : DeskId → ℕ → Command → ℕ → ℕ → ℕ → Mark → Mark → List LogEntry → List LogEntry → Result Told Refused → Type 0
-Answers desk n c moment attempts k before after l m (Ok told) = Accepts desk n c moment before.draft l told m ⊎ Tells desk n c moment l told m
+Answers desk n c moment attempts k before after l m (Ok told) = Accepts desk n c moment before after l told m ⊎ Tells desk n c moment before after l told m
 Answers desk n c moment attempts k before after l m (Err refused) = Follows n l m × Causes desk n c moment attempts k before after m refused.place refused.why
 
 -- where a state was looked at, the pass has seen all that it knows of, which is no less than before

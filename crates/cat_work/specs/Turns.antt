@@ -173,6 +173,7 @@ pub record Going (desk : DeskId) (c : Command) (first present : Pass) (t : Tryin
   pub tries : Tries desk present t.draft t.view t.pairs.items
   pub command_is : command_in t.draft ≡ c
   pub newer : (mark_of first).draft < t.draft.number
+  pub within : t.draft.number ≤ desk.opened.state.limits.drafts
   pub known_then : desk.opened.state.place + known first ≤ t.draft.place
   pub count : length t.pairs.items ≡ number
   pub room : attempts + 1 ≤ vec_capacity t.pairs
