@@ -1,15 +1,15 @@
 -- The turn of a request that is answered.
-use Rattle.std.proofs.Common.{◌≡◌, ℕ, ◌==◌, List, ◌++◌, Bool, ◌||◌, Option, Result, refl, inl, inr}
+use Rattle.std.proofs.Common.{◌≡◌, ℕ, ◌==◌, List, ◌++◌, ◌||◌, true, Option, Result, refl, sym, ◌∙◌, ap, inr}
 use Rattle.cat_model.specs.declared.refusal.Refused.{Refused}
 use Rattle.cat_model.specs.declared.reply.Told.{Told}
 use Rattle.cat_http.specs.Message.{Message}
 use Rattle.cat_desk.specs.Pass.{DeskId}
 use Rattle.cat_desk.specs.declared.pass.Pass.{Pass}
 use Rattle.cat_cli.specs.declared.ending.Session.TheVariants as ends
-use Rattle.cat_cli.specs.Replies.{is_head, said_bytes}
+use Rattle.cat_cli.specs.Replies.{is_head, must_be_told, said_bytes}
 use Rattle.cat_cli.specs.Sessions.{Readings, Point, Turn, Answered, IsAt, asks_to_close}
 use Rattle.cat_cli.specs.Answers.{SaysTo, RepliesTo, IsAsked, LeavesAt}
-use Rattle.cat_cli.proofs.Points.{tells, turn_of, answered_by}
+use Rattle.cat_cli.proofs.Points.{Tells, tells, turn_of, answered_by}
 
 module _ (desk : DeskId) where
   -- the turn whose reply is these bytes
@@ -21,12 +21,12 @@ module _ (desk : DeskId) where
     pub written_is : t.after.written ≡ c.written ++ bytes
     pub pass_at : IsAt desk k t.after.standing pass ahead
 
-  pub made : (k : Readings) (c : Point) (left : ℕ) (m : Message) (rest bytes : List ℕ) (pass pass' : Pass) (ahead ahead' : Option Readings) (held : Option (List ℕ)) (told : Result Told Refused) (stands : Bool)
-      → IsAsked desk k c left m rest pass ahead held → SaysTo desk m pass ahead told stands pass' ahead' → RepliesTo (asks_to_close m || left == 0) (is_head m) told stands bytes
+  pub made : (k : Readings) (c : Point) (left : ℕ) (m : Message) (rest bytes : List ℕ) (pass pass' : Pass) (ahead ahead' : Option Readings) (held : Option (List ℕ)) (told : Result Told Refused)
+      → IsAsked desk k c left m rest pass ahead held → SaysTo desk m pass ahead told pass' ahead' → RepliesTo (asks_to_close m || left == 0) (is_head m) told bytes
       → (t : Turn) × IsMade k c left m rest bytes pass' ahead' t
-  made k c left m rest bytes pass pass' ahead ahead' held told stands asked says replies =
+  made k c left m rest bytes pass pass' ahead ahead' held told asked says replies =
       let said = says k c.standing asked.pass_at in
-      let t = tells k c.standing m (asks_to_close m || left == 0) told stands said.0 said.1 bytes said.2 replies in (
+      let t = tells k c.standing m (asks_to_close m || left == 0) told said.0 said.1 bytes said.2 replies in (
         turn_of m left rest (c.written ++ bytes) t.0 said.1,
         record {
           answered = answered_by k c left m rest bytes said.1 t.0 asked.reads asked.one_more t.1;
@@ -38,9 +38,25 @@ module _ (desk : DeskId) where
         },
       )
 
-  -- a request was answered by the store, and no memory is left for its reply
-  pub untold : (k : Readings) (c : Point) (left : ℕ) (m : Message) (rest : List ℕ) (pass pass' : Pass) (ahead ahead' : Option Readings) (held : Option (List ℕ)) (told : Result Told Refused) (stands : Bool)
-      → IsAsked desk k c left m rest pass ahead held → SaysTo desk m pass ahead told stands pass' ahead' → LeavesAt desk k c ends.NoMemory pass' ahead' held
-  untold k c left m rest pass pass' ahead ahead' held told stands asked says =
-      let t = made k c left m rest (said_bytes (asks_to_close m || left == 0) (is_head m) told) pass pass' ahead ahead' held told stands asked says (inl refl) in
-      (c.written, asked.held_is, t.0.after.standing, (refl, inr (t.0, t.1.answered, refl)), t.1.pass_at)
+  -- a request was answered by what must be told, and no memory is left for its text
+  pub untold : (k : Readings) (c : Point) (left : ℕ) (m : Message) (rest : List ℕ) (pass pass' : Pass) (ahead ahead' : Option Readings) (held : Option (List ℕ)) (told : Result Told Refused)
+      → IsAsked desk k c left m rest pass ahead held → SaysTo desk m pass ahead told pass' ahead' → must_be_told told ≡ true → LeavesAt desk k c ends.NoMemory pass' ahead' held
+  untold k c left m rest pass pass' ahead ahead' held told asked says must =
+      let said = says k c.standing asked.pass_at in
+      let close = asks_to_close m || left == 0 in
+      let bytes = said_bytes close (is_head m) told in
+      let written : Tells k c.standing m close said.1 bytes said.0 = record { brings = said.2.comes; bytes_are = ap (said_bytes close (is_head m)) (sym said.2.said) } in (
+        c.written,
+        asked.held_is,
+        said.1,
+        (
+          refl,
+          inr (
+            turn_of m left rest (c.written ++ bytes) said.0 said.1,
+            answered_by k c left m rest bytes said.1 said.0 asked.reads asked.one_more written,
+            ap must_be_told said.2.said ∙ must,
+            refl,
+          ),
+        ),
+        said.3,
+      )

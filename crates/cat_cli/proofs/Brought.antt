@@ -1,5 +1,5 @@
 -- What a request that changes nothing comes to, by what the store's calls tell.
-use Rattle.std.proofs.Common.{◌≡◌, ◌⊎◌, ℕ, false, Option, Some, None, Result, Ok, Err, refl, sym, ◌∙◌, ap, inl, inr, arith}
+use Rattle.std.proofs.Common.{◌≡◌, ◌⊎◌, ℕ, Option, Some, None, Result, Ok, Err, refl, sym, ◌∙◌, ap, inl, inr, arith}
 use Rattle.sha2.specs.Sha256.{sha256}
 use Rattle.cat_model.specs.declared.ask.Ask.{Ask}
 use Rattle.cat_model.specs.declared.refusal.Refusal.{Refusal}
@@ -57,7 +57,7 @@ comes_to k s (Some f) w told at (inl is) = (inl (is.down f.count), untouched s t
 comes_to k s (Some f) w told at (inr given) = (inr given, untouched s told, at)
 
 -- a request that changes nothing
-unchanged : (k : Readings) (s : Standing) (m : Message) (told : Result Told Refused) → MaySay k (session_of s) (wanted m) told → Brings k s m told false (said_only (session_of s) told) s
+unchanged : (k : Readings) (s : Standing) (m : Message) (told : Result Told Refused) → MaySay k (session_of s) (wanted m) told → Brings k s m told (said_only (session_of s) told) s
 unchanged k s m told may = record {
   comes = comes_to k s s.fallen (wanted m) told refl may;
   said = refl;
@@ -73,7 +73,7 @@ refused_says k s w place why none p = inl (record {
   down = λ count. ap (λ x. said_only s (refusal_at why x)) none ∙ ap (down_request k s count) (sym p);
 })
 
-pub refused_by_bytes : (k : Readings) (s : Standing) (m : Message) (refused : Refused) → Answers {A = Wanted} (Err refused) (wanted m) → Brings k s m (Err refused) false (said_only (session_of s) (Err refused)) s
+pub refused_by_bytes : (k : Readings) (s : Standing) (m : Message) (refused : Refused) → Answers {A = Wanted} (Err refused) (wanted m) → Brings k s m (Err refused) (said_only (session_of s) (Err refused)) s
 refused_by_bytes k s m refused p = unchanged k s m (Err refused) (refused_says k (session_of s) (wanted m) refused.place refused.why p.0 p.1)
 
 -- ---- reading calls
@@ -90,6 +90,6 @@ read_refused k s w ask place NoMemory is p = inr (given_up_at (session_of s) pla
 read_refused k s w ask place why is p = inl (answer_is k (session_of s) w ask (refusal_at why place) is p)
 
 pub read : (k : Readings) (s : Standing) (m : Message) (ask : Ask) (told : Result Told Refused) → wanted m ≡ Ok (Read ask) → Reads sha256 s.book ask told
-    → Brings k s m told false (said_only (session_of s) told) s
+    → Brings k s m told (said_only (session_of s) told) s
 read k s m ask (Ok told) w p = unchanged k s m (Ok told) (inl (answer_is k (session_of s) (wanted m) ask (Ok told) w p))
 read k s m ask (Err refused) w p = unchanged k s m (Err refused) (read_refused k s (wanted m) ask refused.place refused.why w p)

@@ -1,5 +1,5 @@
 -- What a change comes to, by what the store's call tells.
-use Rattle.std.proofs.Common.{◌≡◌, ℕ, ◌+◌, ◌≤◌, List, [], ◌∷◌, ◌++◌, true, false, Option, Some, None, Result, Ok, Err, refl, sym, ◌∙◌, ap, subst, inl, inr, arith}
+use Rattle.std.proofs.Common.{◌≡◌, ℕ, ◌+◌, ◌≤◌, List, [], ◌∷◌, ◌++◌, Bool, true, false, Option, Some, None, Result, Ok, Err, refl, sym, ◌∙◌, ap, subst, inl, inr, arith}
 use Rattle.sha2.specs.Sha256.{sha256}
 use Rattle.cat_model.specs.declared.command.Command.{Command}
 use Rattle.cat_model.specs.declared.log_entry.LogEntry.{LogEntry}
@@ -18,9 +18,11 @@ use Rattle.cat_http.specs.Message.{Message}
 use Rattle.cat_rest.specs.Wanted.{wanted}
 use Rattle.cat_ledger.specs.Making.{IsNotKept}
 use Rattle.cat_cli.specs.Sessions.{Readings, Fallen, Standing, Went, MayComeTo, session_of, down_request}
-use Rattle.cat_cli.specs.Answers.{Brings, change_stands, given_up}
+use Rattle.cat_cli.specs.Answers.{Brings, given_up}
+use Rattle.cat_cli.specs.Replies.{must_be_told}
 use Rattle.cat_cli.proofs.Brought.{no_memory_at}
 use Rattle.cat_cli.proofs.Calls.{Spares, call_draft, call_spares}
+use Rattle.cat_cli.proofs.Changing.{SaysChange, call_says}
 
 -- a standing after a change: its moment is taken
 abbrev pub after_change : Standing → Book → Option Fallen → Standing
@@ -46,7 +48,7 @@ at_fallen k s fallen m b s' at p = subst (λ (x : Option Fallen). MayComeTo k s 
 -- ---- while the store is down
 
 pub down : (k : Readings) (s : Standing) (f : Fallen) (m : Message) (command : Command) → s.fallen ≡ Some f → wanted m ≡ Ok (Change command)
-    → Brings k s m (Err (record { place = Some s.book.state.place; why = Down f.count })) false (down_request k (session_of s) f.count (Ok (Change command))) (after_change s s.book s.fallen)
+    → Brings k s m (Err (record { place = Some s.book.state.place; why = Down f.count })) (down_request k (session_of s) f.count (Ok (Change command))) (after_change s s.book s.fallen)
 down k s f m command at w =
     let went : (told : Result Told Refused) → Went s (after_change s s.book s.fallen) (left_so s told s.book.state s.book.draft) = λ told. record { book = refl; readings = refl } in
     record {
@@ -57,22 +59,24 @@ down k s f m command at w =
 
 -- ---- while it is not
 
-ok_stands : (told : Told) → change_stands (Ok told) ≡ false → ⊥
-ok_stands told h = let no : true ≡ false = h in cc
+clash : (b : Bool) → b ≡ true → b ≡ false → ⊥
+clash b one other = cc
 
--- a call that is told otherwise than Ok spared the book
-spared : (called : Called) (state : State) (told : Result Told Refused) → called.said ≡ told → ((e : Refused) → called.said ≡ Err e → Spares called state) → change_stands told ≡ false → Spares called state
-spared called state (Ok t) said refused h = absurd (ok_stands t h)
-spared called state (Err e) said refused h = refused e said
+-- a call of which want of memory may be told spared the book
+spared : (called : Called) (state : State) (told : Result Told Refused) → called.said ≡ told → SaysChange called.said → ((e : Refused) → called.said ≡ Err e → Spares called state) → must_be_told told ≡ false
+    → Spares called state
+spared called state (Ok t) said says refused h = absurd (clash (must_be_told (Ok t)) (subst (λ (r : Result Told Refused). SaysChange r) said says) h)
+spared called state (Err e) said says refused h = refused e said
 
 -- what was told is what the call brings
 pub called : (k : Readings) (s : Standing) (m : Message) (command : Command) (after : Book) (told : Result Told Refused) → s.fallen ≡ None → wanted m ≡ Ok (Change command)
     → IsCalled (call_on sha256 1 s.book command (k s.readings)) s.book after told
-    → Brings k s m told (change_stands told) (brought (session_of s) (call_on sha256 1 s.book command (k s.readings))) (after_change s after None)
+    → Brings k s m told (brought (session_of s) (call_on sha256 1 s.book command (k s.readings))) (after_change s after None)
 called k s m command after told at w p =
     let c = call_on sha256 1 s.book command (k s.readings) in
     let draft = call_draft sha256 1 s.book.state s.book.draft command (k s.readings) in
-    let spares : change_stands told ≡ false → Spares c s.book.state = spared c s.book.state told p.said (call_spares sha256 1 s.book.state s.book.draft command (k s.readings)) in
+    let spares : must_be_told told ≡ false → Spares c s.book.state =
+    spared c s.book.state told p.said (call_says sha256 1 s.book.state s.book.draft command (k s.readings)) (call_spares sha256 1 s.book.state s.book.draft command (k s.readings)) in
     record {
       comes = at_fallen k s None m _ _ at (inl (inl (ap (request sha256 1 k (session_of s)) (sym w)), record { book = p.book; readings = refl }, refl));
       said = p.said;
@@ -90,7 +94,7 @@ gives_up k s (Some f) m b s' at given went = (inr given, went, at)
 
 -- the call was given up for want of memory
 pub given_up_change : (k : Readings) (s : Standing) (m : Message) (after : Book) (place : Option ℕ)
-    → LeavesBook s.book after (record { place = place; why = NoMemory }) → Brings k s m (no_memory_at place) false (left_so s (no_memory_at place) after.state after.draft) (after_change s after s.fallen)
+    → LeavesBook s.book after (record { place = place; why = NoMemory }) → Brings k s m (no_memory_at place) (left_so s (no_memory_at place) after.state after.draft) (after_change s after s.fallen)
 given_up_change k s m after place p =
     let went : (told : Result Told Refused) → Went s (after_change s after s.fallen) (left_so s told after.state after.draft) = λ told. record { book = book_is after after.state after.draft s.book.log refl refl p.log; readings = refl } in
     record {
@@ -105,7 +109,7 @@ true_stands h = cc
 -- the entry of the call wasn't kept
 pub falls : (k : Readings) (s : Standing) (m : Message) (command : Command) (after : Book) (place : Option ℕ) (fallen : Fallen) → s.fallen ≡ None → wanted m ≡ Ok (Change command) → place ≡ Some s.book.state.place
     → (call_on sha256 1 s.book command (k s.readings)).logged ≡ fallen.entry ∷ [] → IsNotKept (call_on sha256 1 s.book command (k s.readings)) s.book after
-    → Brings k s m (Err (record { place = place; why = Fault })) true (left_so s (Err (record { place = place; why = Fault })) s.book.state (call_on sha256 1 s.book command (k s.readings)).draft) (after_change s after (Some fallen))
+    → Brings k s m (Err (record { place = place; why = Fault })) (left_so s (Err (record { place = place; why = Fault })) s.book.state (call_on sha256 1 s.book command (k s.readings)).draft) (after_change s after (Some fallen))
 falls k s m command after place fallen at w is one p =
     let c = call_on sha256 1 s.book command (k s.readings) in
     record {

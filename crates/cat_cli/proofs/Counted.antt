@@ -1,17 +1,17 @@
 -- A journal that was opened, counted and given back.
-use Rattle.std.proofs.Common.{◌≡◌, ℕ, List, [], ◌++◌, Option, Some, None, IfSome, Ok, Bool, true, false, sym, ◌∙◌, ap, subst, inl, inr}
+use Rattle.std.proofs.Common.{◌≡◌, ◌⊎◌, ℕ, List, [], ◌++◌, Option, Some, None, IfSome, Ok, Bool, true, false, refl, sym, ◌∙◌, ap, subst, inl, inr}
 use Rattle.cat_io.specs.Causes.{Rose}
 use Rattle.cat_io.specs.Places.{stood, taken}
 use Rattle.cat_core.specs.Stored.{Stored}
 use Rattle.cat_journal.specs.Frames.{recovered}
 use Rattle.cat_cli.specs.declared.status.Status.{Status}
 use Rattle.cat_cli.specs.declared.status.Status.TheVariants as statuses
-use Rattle.cat_cli.specs.Journals.{DiskRose, StandsFor, told_at}
+use Rattle.cat_cli.specs.Journals.{DiskRose, DiskStays, StandsFor, told_at}
 use Rattle.cat_cli.specs.Lines.{check_line, no_memory_line}
 use Rattle.cat_cli.specs.Opening.{Counted, CountedKnown, HoldsLog, IsOpened, IsClosed}
 use Rattle.cat_cli.specs.Runs.{Checks, Opens, RefusesSo, Says, Seen, TellsKnown}
 use Rattle.cat_cli.specs.Sessions.{Readings}
-use Rattle.cat_cli.proofs.Opened.{begins_at, disk_rose, left_at}
+use Rattle.cat_cli.proofs.Opened.{begins_at, disk_rose, disk_stays, left_at}
 use Rattle.cat_cli.proofs.Told.{some_is, not_none}
 
 stands_both : (told after : Option (List ℕ)) (payloads : List (List ℕ)) → IfSome told (λ bytes. recovered bytes ≡ Ok payloads) → IfSome after (λ bytes. recovered bytes ≡ Ok payloads) → StandsFor told after
@@ -43,46 +43,56 @@ module _ {D K : Type 0} (told : D → Option (List ℕ)) (faults : D → ℕ) (d
   pub stands : StandsFor (told_at told place) (told_at told place')
   stands = let o = opens [] [] in stands_both (told_at told place) (told_at told place') o.payloads o.begins.recovers o.keeps
 
-  counts : (line w h : List ℕ) → line ≡ check_line store.book → (rose : Bool) (status : Status) → Counted line rose w status h before now → Checks (seen w h) status
-  counts line w h is false statuses.Done p = inl (store.book, opens w h, p ∙ ap (λ (l : List ℕ). w ++ l) is)
-  counts line w h is false statuses.WriteFault p = inl (store.book, opens w h, subst (λ (l : List ℕ). Counted l false w statuses.WriteFault h before now) is p)
-  counts line w h is false statuses.DiskFault p = absurd p
-  counts line w h is false statuses.Usage p = absurd p
-  counts line w h is false statuses.Unreadable p = absurd p
-  counts line w h is false statuses.NoMemory p = absurd p
-  counts line w h is false statuses.ReadFault p = absurd p
-  counts line w h is false statuses.Cut p = absurd p
-  counts line w h is true statuses.DiskFault p = inr (p, stands)
-  counts line w h is true statuses.WriteFault p = inr (p, stands)
-  counts line w h is true statuses.Done p = absurd p
-  counts line w h is true statuses.Usage p = absurd p
-  counts line w h is true statuses.Unreadable p = absurd p
-  counts line w h is true statuses.NoMemory p = absurd p
-  counts line w h is true statuses.ReadFault p = absurd p
-  counts line w h is true statuses.Cut p = absurd p
-
-  -- what the check says
-  pub checks : (line w : List ℕ) (rose : Bool) (status : Status) → line ≡ check_line store.book → CountedKnown line rose held status after before now → held ≡ Some w
-      → (h : List ℕ) × (after ≡ Some h) × Checks (seen w h) status
-  checks line w rose status is told e = let x = told w e in (x.0, x.1, counts line w x.0 is rose status x.2)
-
-  -- or that memory ran out
-  tells_none : (w : List ℕ) (status : Status) → status ≡ statuses.NoMemory → TellsKnown no_memory_line held after before now → held ≡ Some w
-      → (h : List ℕ) × (after ≡ Some h) × RefusesSo (seen w h) status
-  tells_none w status is told e = let x = told w e in (x.0, x.1, subst (λ (st : Status). RefusesSo (seen w x.0) st) (sym is) (x.2, stands))
-
-  pub checks_none : (w : List ℕ) (status : Status) → status ≡ statuses.NoMemory → TellsKnown no_memory_line held after before now → held ≡ Some w
-      → (h : List ℕ) × (after ≡ Some h) × Checks (seen w h) status
-  checks_none w status is told e = let x = tells_none w status is told e in (x.0, x.1, inr x.2)
-
-  -- where it ran out before a session on the catalogue began
-  pub says_none : (clock : Readings) (b w : List ℕ) (status : Status) → status ≡ statuses.NoMemory → TellsKnown no_memory_line held after before now → held ≡ Some w
-      → (h : List ℕ) × (after ≡ Some h) × Says clock b (seen w h) status
-  says_none clock b w status is told e = let x = tells_none w status is told e in (x.0, x.1, inr x.2)
-
   -- its disk failed
   pub failed : Rose count (kept_faults store.keeper) → DiskRose faults place place'
   failed rose =
       let by_disk : Rose (faults opened.disk) (faults closed.disk) =
       subst (λ (n : ℕ). Rose n (faults closed.disk)) opened.counted (subst (λ (n : ℕ). Rose count n) (sym closed.counted) rose) in
       subst (λ (q : Option (Option D)). DiskRose faults place q) (sym there) (disk_rose faults place opened.disk closed.disk opened.was by_disk)
+
+  -- or didn't
+  stayed : (Rose count (kept_faults store.keeper) → ⊥) → DiskStays faults place place'
+  stayed stays =
+      let at_rest : Rose (faults opened.disk) (faults closed.disk) → ⊥ =
+      λ rose. stays (subst (λ (n : ℕ). Rose n (kept_faults store.keeper)) (sym opened.counted) (subst (λ (n : ℕ). Rose (faults opened.disk) n) closed.counted rose)) in
+      subst (λ (q : Option (Option D)). DiskStays faults place q) (sym there) (disk_stays faults place opened.disk closed.disk opened.was at_rest)
+
+  module _ (others : Type 0) where
+    counts : (line w h : List ℕ) → line ≡ check_line store.book → (rose : Bool) → (rose ≡ true → Rose count (kept_faults store.keeper)) → (rose ≡ false → Rose count (kept_faults store.keeper) → ⊥)
+        → (status : Status) → Counted line rose w status h before now → Checks (others ⊎ DiskRose faults place place') (DiskStays faults place place') (seen w h) status
+    counts line w h is false rises stays statuses.Done p = inl (store.book, opens w h, p ∙ ap (λ (l : List ℕ). w ++ l) is, stayed (stays refl))
+    counts line w h is false rises stays statuses.WriteFault p = inl (store.book, opens w h, subst (λ (l : List ℕ). Counted l false w statuses.WriteFault h before now) is p)
+    counts line w h is false rises stays statuses.DiskFault p = absurd p
+    counts line w h is false rises stays statuses.Usage p = absurd p
+    counts line w h is false rises stays statuses.Unreadable p = absurd p
+    counts line w h is false rises stays statuses.NoMemory p = absurd p
+    counts line w h is false rises stays statuses.ReadFault p = absurd p
+    counts line w h is false rises stays statuses.Cut p = absurd p
+    counts line w h is true rises stays statuses.DiskFault p = inr ((inr (failed (rises refl)), p), stands)
+    counts line w h is true rises stays statuses.WriteFault p = inr ((inr (failed (rises refl)), p), stands)
+    counts line w h is true rises stays statuses.Done p = absurd p
+    counts line w h is true rises stays statuses.Usage p = absurd p
+    counts line w h is true rises stays statuses.Unreadable p = absurd p
+    counts line w h is true rises stays statuses.NoMemory p = absurd p
+    counts line w h is true rises stays statuses.ReadFault p = absurd p
+    counts line w h is true rises stays statuses.Cut p = absurd p
+
+    -- what the check says
+    pub checks : (line w : List ℕ) (rose : Bool) (status : Status) → line ≡ check_line store.book → (rose ≡ true → Rose count (kept_faults store.keeper)) → (rose ≡ false → Rose count (kept_faults store.keeper) → ⊥)
+        → CountedKnown line rose held status after before now → held ≡ Some w
+        → (h : List ℕ) × (after ≡ Some h) × Checks (others ⊎ DiskRose faults place place') (DiskStays faults place place') (seen w h) status
+    checks line w rose status is rises stays told e = let x = told w e in (x.0, x.1, counts line w x.0 is rose rises stays status x.2)
+
+    -- or that memory ran out
+    tells_none : (w : List ℕ) (status : Status) → status ≡ statuses.NoMemory → TellsKnown no_memory_line held after before now → held ≡ Some w
+        → (h : List ℕ) × (after ≡ Some h) × RefusesSo (others ⊎ DiskRose faults place place') (seen w h) status
+    tells_none w status is told e = let x = told w e in (x.0, x.1, subst (λ (st : Status). RefusesSo (others ⊎ DiskRose faults place place') (seen w x.0) st) (sym is) (x.2, stands))
+
+    pub checks_none : (w : List ℕ) (status : Status) → status ≡ statuses.NoMemory → TellsKnown no_memory_line held after before now → held ≡ Some w
+        → (h : List ℕ) × (after ≡ Some h) × Checks (others ⊎ DiskRose faults place place') (DiskStays faults place place') (seen w h) status
+    checks_none w status is told e = let x = tells_none w status is told e in (x.0, x.1, inr x.2)
+
+    -- where it ran out before a session on the catalogue began
+    pub says_none : (clock : Readings) (to_come : Option Readings) (b w : List ℕ) (status : Status) → status ≡ statuses.NoMemory → TellsKnown no_memory_line held after before now → to_come ≡ Some clock → held ≡ Some w
+        → (h : List ℕ) × (after ≡ Some h) × Says (others ⊎ DiskRose faults place place') clock to_come b (seen w h) status
+    says_none clock to_come b w status is told still e = let x = tells_none w status is told e in (x.0, x.1, inr (x.2, still))

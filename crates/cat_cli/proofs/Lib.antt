@@ -1,6 +1,7 @@
 pub mod Points
 pub mod Told
 pub mod Calls
+pub mod Changing
 pub mod Brought
 pub mod Changed
 pub mod Standing

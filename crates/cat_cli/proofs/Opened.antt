@@ -23,8 +23,9 @@ use Rattle.cat_cli.specs.declared.status.Status.{Status}
 use Rattle.cat_cli.specs.declared.status.Status.TheVariants as statuses
 use Rattle.cat_cli.specs.declared.unopened.Unopened.{Unopened}
 use Rattle.cat_cli.specs.declared.unopened.Unopened.TheVariants as whys
-use Rattle.cat_cli.specs.Journals.{Begins, DiskRose, Holds, IsBack, StandsFor, told_at}
+use Rattle.cat_cli.specs.Journals.{Begins, DiskRose, DiskStays, Holds, IsBack, StandsFor, told_at}
 use Rattle.cat_cli.specs.Opening.{FaultKnown, FaultTold, IsReason, IsStored, Refused, RefusedKnown, by_journal, by_store}
+use Rattle.cat_cli.specs.Runs.{Refuses, RefusesSo, Seen}
 use Rattle.cat_cli.specs.Sessions.{Fallen}
 use Rattle.cat_cli.proofs.Told.{some_is, not_none}
 
@@ -113,8 +114,8 @@ store_failed (store_faults.Illegal p) e = cc
 
 -- a disk's fault is one of the reasons
 refused_fault : (w h : List ℕ) (status : Status) (before now : ℕ) → FaultTold w status h before now → Refused whys.Fault w status h before now
-refused_fault w h statuses.DiskFault before now p = p
-refused_fault w h statuses.WriteFault before now p = p
+refused_fault w h statuses.DiskFault before now p = (refl, p)
+refused_fault w h statuses.WriteFault before now p = (refl, p)
 refused_fault w h statuses.Done before now p = absurd p
 refused_fault w h statuses.Usage before now p = absurd p
 refused_fault w h statuses.Unreadable before now p = absurd p
@@ -124,6 +125,25 @@ refused_fault w h statuses.Cut before now p = absurd p
 
 pub refused_known : (held after : Option (List ℕ)) (status : Status) (before now : ℕ) → FaultKnown held status after before now → RefusedKnown whys.Fault held status after before now
 refused_known held after status before now told w e = let x = told w e in (x.0, x.1, refused_fault w x.0 status before now x.2)
+
+-- what the run says then
+refuses : (fell : Type 0) (s : Seen) (why : Unopened) (status : Status) → IsReason s.journal why → (why ≡ whys.Fault → fell) → Refused why s.written status s.held s.before s.now → Refuses fell s status
+refuses fell s why statuses.DiskFault reason cause p = (cause p.0, p.1)
+refuses fell s why statuses.WriteFault reason cause p = (cause p.0, p.1)
+refuses fell s why statuses.Unreadable reason cause p = (why, reason p.0, p.1)
+refuses fell s why statuses.NoMemory reason cause p = p
+refuses fell s why statuses.Done reason cause p = absurd p
+refuses fell s why statuses.Usage reason cause p = absurd p
+refuses fell s why statuses.ReadFault reason cause p = absurd p
+refuses fell s why statuses.Cut reason cause p = absurd p
+
+pub refuses_known : (fell : Type 0) (why : Unopened) (status : Status) (held after journal left : Option (List ℕ)) (before now : ℕ) (w : List ℕ)
+    → IsReason journal why → (why ≡ whys.Fault → fell) → StandsFor journal left → RefusedKnown why held status after before now → held ≡ Some w
+    → (h : List ℕ) × (after ≡ Some h) × RefusesSo fell (record { written = w; held = h; before = before; now = now; journal = journal; left = left }) status
+refuses_known fell why status held after journal left before now w reason cause stands told e =
+    let x = told w e in
+    let s : Seen = record { written = w; held = x.0; before = before; now = now; journal = journal; left = left } in
+    (x.0, x.1, (refuses fell s why status reason cause x.2, stands))
 
 -- ---- the store that is opened
 
@@ -214,3 +234,8 @@ module _ {D : Type 0} where
 
   pub disk_rose : (faults : D → ℕ) (place : Option (Option D)) (disk again : D) → IfSome place (λ p. p ≡ Some disk) → Rose (faults disk) (faults again) → DiskRose faults place (stood again (taken place))
   disk_rose faults place disk again is rose = record { opened = disk; again = again; was = is; is = is_there place again; rose = rose }
+
+  pub disk_stays : (faults : D → ℕ) (place : Option (Option D)) (disk again : D) → IfSome place (λ p. p ≡ Some disk) → (Rose (faults disk) (faults again) → ⊥) → DiskStays faults place (stood again (taken place))
+  disk_stays faults None disk again is stays = tt
+  disk_stays faults (Some None) disk again is stays = absurd (nothing_stands disk is)
+  disk_stays faults (Some (Some d)) disk again is stays = subst (λ (p : Option D). DiskStays faults (Some p) (Some (Some again))) (sym is) stays

@@ -23,11 +23,11 @@ pub record Tells (k : Readings) (s : Standing) (m : Message) (close : Bool) (s' 
   pub brings : MayComeTo k s s.fallen (wanted m) b s'
   pub bytes_are : bytes ≡ said_bytes close (is_head m) b.said
 
-pub tells : (k : Readings) (s : Standing) (m : Message) (close : Bool) (told : Result Told Refused) (stands : Bool) (b : Brought) (s' : Standing) (bytes : List ℕ)
-    → Brings k s m told stands b s' → RepliesTo close (is_head m) told stands bytes → (d : Brought) × Tells k s m close s' bytes d
-tells k s m close told stands b s' bytes p (inl same) =
+pub tells : (k : Readings) (s : Standing) (m : Message) (close : Bool) (told : Result Told Refused) (b : Brought) (s' : Standing) (bytes : List ℕ)
+    → Brings k s m told b s' → RepliesTo close (is_head m) told bytes → (d : Brought) × Tells k s m close s' bytes d
+tells k s m close told b s' bytes p (inl same) =
     (b, record { brings = p.comes; bytes_are = same ∙ ap (said_bytes close (is_head m)) (sym p.said) })
-tells k s m close told stands b s' bytes p (inr (needless, same)) =
+tells k s m close told b s' bytes p (inr (needless, same)) =
     (record { said = Err given_up; logged = []; after = b.after }, record { brings = p.or_given_up needless; bytes_are = same })
 
 -- the turn of a request that is answered by these bytes

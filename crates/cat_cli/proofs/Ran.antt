@@ -1,5 +1,5 @@
 -- A session on the catalogue of a journal that was opened, and is given back.
-use Rattle.std.proofs.Common.{◌≡◌, ℕ, List, ◌++◌, reverse, Option, Some, None, IfSome, Bool, true, false, refl, sym, ◌∙◌, ap, subst, inl, inr}
+use Rattle.std.proofs.Common.{◌≡◌, ◌⊎◌, ℕ, List, ◌++◌, reverse, Option, Some, None, IfSome, Bool, true, false, refl, sym, ◌∙◌, ap, subst, inl, inr}
 use Rattle.std.specs.Option.{option_map}
 use Rattle.std.proofs.lemmas.List.{reverse-append, reverse-reverse, map-append}
 use Rattle.cat_io.specs.Causes.{Rose}
@@ -28,18 +28,19 @@ log_of payloads before after news is grew =
     ∙ ap (λ (l : List (List ℕ)). l ++ spellings (reverse news)) (sym is)
 
 -- by how it ended, and whether the disk failed
-pub answers : (clock : Readings) (bytes : List ℕ) (s : Seen) (end : End) (rose : Bool) (ran : Ran clock bytes s end) → (rose ≡ false → ran.last.fallen ≡ None) → Answers clock bytes s (status_of end rose)
-answers clock bytes s ends.NoMemory rose ran well = ran
-answers clock bytes s ends.WriteFault rose ran well = ran
-answers clock bytes s ends.ReadFault rose ran well = ran
-answers clock bytes s ends.Closed true ran well = inl ran
-answers clock bytes s ends.Closed false ran well = (ran, well refl)
-answers clock bytes s ends.Capped true ran well = inr (inl ran)
-answers clock bytes s ends.Capped false ran well = inl (ran, well refl)
-answers clock bytes s ends.BadHead true ran well = inr (inr (inl ran))
-answers clock bytes s ends.BadHead false ran well = inr (inl (ran, well refl))
-answers clock bytes s ends.TooLarge true ran well = inr (inr (inr ran))
-answers clock bytes s ends.TooLarge false ran well = inr (inr (ran, well refl))
+module _ (fell : Type 0) (clock : Readings) (to_come : Option Readings) (bytes : List ℕ) (s : Seen) where
+  pub answers : (end : End) (rose : Bool) (ran : Ran fell clock to_come bytes s end) → (rose ≡ false → ran.last.fallen ≡ None) → Answers fell clock to_come bytes s (status_of end rose)
+  answers ends.NoMemory rose ran well = ran
+  answers ends.WriteFault rose ran well = ran
+  answers ends.ReadFault rose ran well = ran
+  answers ends.Closed true ran well = inl ran
+  answers ends.Closed false ran well = (ran, well refl)
+  answers ends.Capped true ran well = inr (inl ran)
+  answers ends.Capped false ran well = inl (ran, well refl)
+  answers ends.BadHead true ran well = inr (inr (inl ran))
+  answers ends.BadHead false ran well = inr (inl (ran, well refl))
+  answers ends.TooLarge true ran well = inr (inr (inr ran))
+  answers ends.TooLarge false ran well = inr (inr (ran, well refl))
 
 pub read_failed : (end : End) (rose : Bool) → status_of end rose ≡ statuses.ReadFault → end ≡ ends.ReadFault
 read_failed ends.NoMemory rose e = cc
@@ -95,22 +96,34 @@ none_fell : (down : Option ℕ) (fallen : Option Fallen) → down ≡ option_map
 none_fell down None is up = refl
 none_fell down (Some f) is up = absurd (up f.count is)
 
+-- and where one did, so did the disk
+one_fell : (P : Type 0) (down : Option ℕ) (fallen : Option Fallen) → down ≡ option_map (λ (f : Fallen). f.count) fallen → ((c : ℕ) → down ≡ Some c → P) → IfSome fallen (λ _. P)
+one_fell P down None is rose = tt
+one_fell P down (Some f) is rose = rose f.count is
+
 module _ {D K : Type 0} (told : D → Option (List ℕ)) (faults : D → ℕ) (down : K → Option ℕ) (in_flight : K → Option (List ℕ)) (kept_faults : K → ℕ)
-    (place mid place' : Option (Option D)) (count : ℕ) (old new : Stored K) (ahead : Option Readings) (bytes held after : Option (List ℕ)) (before now : ℕ) (end : End)
+    (place mid place' : Option (Option D)) (count : ℕ) (old new : Stored K) (ahead ahead' : Option Readings) (bytes held after : Option (List ℕ)) (before now : ℕ) (end : End)
     (opened : IsOpened told faults place mid count old.book (down old.keeper) (kept_faults old.keeper))
-    (session : RunsKnown down in_flight old ahead bytes held end new after)
+    (session : RunsKnown down in_flight old ahead bytes held end new ahead' after)
     (closed : IsClosed faults mid place' (kept_faults new.keeper) (λ disk. HoldsLog down in_flight new.keeper new.book (told disk))) where
   there : place' ≡ stood closed.disk (taken place)
   there = closed.back ∙ ap (stood closed.disk) opened.out
+
+  -- its disk failed
+  pub failed : Rose count (kept_faults new.keeper) → DiskRose faults place place'
+  failed rose =
+      let by_disk : Rose (faults opened.disk) (faults closed.disk) =
+      subst (λ (n : ℕ). Rose n (faults closed.disk)) opened.counted (subst (λ (n : ℕ). Rose count n) (sym closed.counted) rose) in
+      subst (λ (q : Option (Option D)). DiskRose faults place q) (sym there) (disk_rose faults place opened.disk closed.disk opened.was by_disk)
 
   -- what is seen of it
   abbrev pub seen : List ℕ → List ℕ → Seen
   seen w h = record { written = w; held = h; before = before; now = now; journal = told_at told place; left = told_at told place' }
 
-  -- how it went
-  pub ran : (clock : Readings) (b w : List ℕ) → ahead ≡ Some clock → bytes ≡ Some b → held ≡ Some w
-      → (h : List ℕ) × (after ≡ Some h) × (r : Ran clock b (seen w h) end) × (down new.keeper ≡ option_map (λ (f : Fallen). f.count) r.last.fallen)
-  ran clock b w a e f =
+  -- how it went, where a failed append has raised its disk's count
+  pub ran : (others : Type 0) (clock : Readings) (b w : List ℕ) → ((c : ℕ) → down new.keeper ≡ Some c → Rose count (kept_faults new.keeper)) → ahead ≡ Some clock → bytes ≡ Some b → held ≡ Some w
+      → (h : List ℕ) × (after ≡ Some h) × (r : Ran (others ⊎ DiskRose faults place place') clock ahead' b (seen w h) end) × (down new.keeper ≡ option_map (λ (f : Fallen). f.count) r.last.fallen)
+  ran others clock b w raised a e f =
       let x = session clock b w a e f in
       let grew = log_grows clock (start old.book b w) end x.0 x.2 x.3 in
       let holds : IfSome (told closed.disk) (Holds (spellings (reverse new.book.log)) x.2.fallen) = closed.has x.2.fallen x.4.down_is x.4.flies in
@@ -130,24 +143,21 @@ module _ {D K : Type 0} (told : D → Option (List ℕ)) (faults : D → ℕ) (d
               subst (λ (q : Option (Option D)). IfSome (told_at told q) (Holds (opened.stored.payloads ++ spellings (reverse grew.0)) x.2.fallen)) (sym there)
               (left_at told place closed.disk (Holds (opened.stored.payloads ++ spellings (reverse grew.0)) x.2.fallen)
               (subst (λ (l : List (List ℕ)). IfSome (told closed.disk) (Holds l x.2.fallen)) log holds));
+          cause = one_fell (others ⊎ DiskRose faults place place') (down new.keeper) x.2.fallen x.4.down_is (λ c is. inr (failed (raised c is)));
+          reads_on = x.5;
         },
         x.4.down_is,
       )
 
   -- and what it says, by the status
-  pub says : (clock : Readings) (b w : List ℕ) (rose : Bool) (status : Status) → status ≡ status_of end rose
+  pub says : (others : Type 0) (clock : Readings) (b w : List ℕ) (rose : Bool) (status : Status) → status ≡ status_of end rose
       → old.began ≡ kept_faults old.keeper → ((c : ℕ) → down new.keeper ≡ Some c → Rose old.began (kept_faults new.keeper))
       → (rose ≡ false → Rose count (kept_faults new.keeper) → ⊥)
-      → ahead ≡ Some clock → bytes ≡ Some b → held ≡ Some w → (h : List ℕ) × (after ≡ Some h) × Says clock b (seen w h) status
-  says clock b w rose status is began rises stays a e f =
-      let x = ran clock b w a e f in
-      let well : rose ≡ false → x.2.last.fallen ≡ None =
-      λ still. none_fell (down new.keeper) x.2.last.fallen x.3 (λ c down_at. stays still (rose_later count (kept_faults old.keeper) (kept_faults new.keeper) opened.stored.later (subst (λ (n : ℕ). Rose n (kept_faults new.keeper)) began (rises c down_at)))) in
-      (x.0, x.1, inl (subst (λ (st : Status). Answers clock b (seen w x.0) st) (sym is) (answers clock b (seen w x.0) end rose x.2 well)))
-
-  -- its disk failed
-  pub failed : Rose count (kept_faults new.keeper) → DiskRose faults place place'
-  failed rose =
-      let by_disk : Rose (faults opened.disk) (faults closed.disk) =
-      subst (λ (n : ℕ). Rose n (faults closed.disk)) opened.counted (subst (λ (n : ℕ). Rose count n) (sym closed.counted) rose) in
-      subst (λ (q : Option (Option D)). DiskRose faults place q) (sym there) (disk_rose faults place opened.disk closed.disk opened.was by_disk)
+      → ahead ≡ Some clock → bytes ≡ Some b → held ≡ Some w → (h : List ℕ) × (after ≡ Some h) × Says (others ⊎ DiskRose faults place place') clock ahead' b (seen w h) status
+  says others clock b w rose status is began rises stays a e f =
+      let raised : (c : ℕ) → down new.keeper ≡ Some c → Rose count (kept_faults new.keeper) =
+      λ c down_at. rose_later count (kept_faults old.keeper) (kept_faults new.keeper) opened.stored.later (subst (λ (n : ℕ). Rose n (kept_faults new.keeper)) began (rises c down_at)) in
+      let x = ran others clock b w raised a e f in
+      let well : rose ≡ false → x.2.last.fallen ≡ None = λ still. none_fell (down new.keeper) x.2.last.fallen x.3 (λ c down_at. stays still (raised c down_at)) in
+      let fell : Type 0 = others ⊎ DiskRose faults place place' in
+      (x.0, x.1, inl (subst (λ (st : Status). Answers fell clock ahead' b (seen w x.0) st) (sym is) (answers fell clock ahead' b (seen w x.0) end rose x.2 well)))

@@ -1,5 +1,5 @@
 -- The next bytes of a session.
-use Rattle.std.proofs.Common.{◌≡◌, ℕ, ◌+◌, ◌<◌, List, ◌++◌, take, Option, Some, None, IfNone, IfSome, refl, sym, ◌∙◌, ap, subst, inl, arith}
+use Rattle.std.proofs.Common.{◌≡◌, ℕ, ◌+◌, ◌<◌, List, [], ◌++◌, take, Option, Some, None, IfNone, IfSome, refl, sym, ◌∙◌, ap, subst, inl, arith}
 use Rattle.std.specs.Io.KnownBytes.{Appends, prepend_known}
 use Rattle.cat_http.specs.Message.{Message, Buffered}
 use Rattle.cat_http.specs.Next.{IsRequest, IsEnd}
@@ -7,11 +7,13 @@ use Rattle.cat_http.specs.Reading.{IncomingIs, IncomingOf}
 use Rattle.cat_http.specs.Writing.{AppendsFront}
 use Rattle.cat_http.specs.declared.buffer.Incoming.{Incoming}
 use Rattle.cat_http.specs.declared.buffer.Incoming.TheVariants as incoming
+use Rattle.cat_model.specs.declared.refusal.Refusal.{Refusal}
 use Rattle.cat_desk.specs.Pass.{DeskId}
 use Rattle.cat_desk.specs.declared.pass.Pass.{Pass}
 use Rattle.cat_cli.specs.declared.ending.Session.{Session as End}
 use Rattle.cat_cli.specs.declared.ending.Session.TheVariants as ends
-use Rattle.cat_cli.specs.Sessions.{Readings, Standing, Point, Turn, Stands, IsDue, IsRefused, EndsAt}
+use Rattle.cat_cli.specs.Replies.{IsRefusalOf}
+use Rattle.cat_cli.specs.Sessions.{Readings, Standing, Point, Turn, Stands, IsAt, IsDue, IsRefused, Ends, EndsAt}
 use Rattle.cat_cli.specs.Answers.{IsAsked, IsAnswered, GoesTo, LeavesAt}
 use Rattle.cat_cli.proofs.Told.{appended, some_is, not_none}
 
@@ -75,11 +77,16 @@ module _ (desk : DeskId) where
   -- ---- ends without a request
 
   -- a refusal by the bytes was written whole
-  pub told_refused : (k : Readings) (c : Point) (left : ℕ) (cause : Type 0) (bytes : List ℕ) (end : End) (pass : Pass) (ahead : Option Readings) (before held after : Option (List ℕ))
-      → ((h : List ℕ) (last : Standing) → IsRefused c cause bytes h last → EndsAt k c end h last) → c.left ≡ left + 1 → cause → Stands desk k c pass ahead before held → Appends held after bytes
-      → LeavesAt desk k c end pass ahead after
-  told_refused k c left cause bytes end pass ahead before held after ends one is s written =
-      (c.written ++ bytes, appended held after c.written bytes s.held_is written, c.standing, ends _ _ (record { some_left = some_left left c.left one; is_so = is; all = refl; stays = refl }), s.pass_at)
+  pub told_refused : (k : Readings) (c : Point) (left : ℕ) (cause : Type 0) (why : Refusal) (end : End) (pass : Pass) (ahead : Option Readings) (before held after : Option (List ℕ))
+      → ((h : List ℕ) (last : Standing) → IsRefused c cause why h last → EndsAt k c end h last) → c.left ≡ left + 1 → cause → Stands desk k c pass ahead before held
+      → ((bytes : List ℕ) × IsRefusalOf why bytes × Appends held after bytes) → LeavesAt desk k c end pass ahead after
+  told_refused k c left cause why end pass ahead before held after ends one is s (bytes, replies, written) = (
+    c.written ++ bytes,
+    appended held after c.written bytes s.held_is written,
+    c.standing,
+    ends _ _ (record { some_left = some_left left c.left one; is_so = is; bytes = bytes; replies = replies; all = refl; stays = refl }),
+    s.pass_at,
+  )
 
   -- or a front of what was due
   pub told_front : (k : Readings) (c : Point) (bytes : List ℕ) (pass : Pass) (ahead : Option Readings) (before held after : Option (List ℕ))
@@ -95,5 +102,7 @@ module _ (desk : DeskId) where
   pub cut_short : (k : Readings) (c : Point) (pass : Pass) (ahead : Option Readings) (before held : Option (List ℕ)) → Stands desk k c pass ahead before held → LeavesAt desk k c ends.ReadFault pass ahead held
   cut_short k c pass ahead before held s = (c.written, s.held_is, c.standing, (refl, refl), s.pass_at)
 
-  pub unanswered : (k : Readings) (c : Point) (pass : Pass) (ahead : Option Readings) (before held : Option (List ℕ)) → Stands desk k c pass ahead before held → LeavesAt desk k c ends.NoMemory pass ahead held
-  unanswered k c pass ahead before held s = (c.written, s.held_is, c.standing, (refl, inl refl), s.pass_at)
+  -- no memory was left to begin with
+  pub not_begun : (k : Readings) (a : Point) (pass : Pass) (ahead : Option Readings) (before held : Option (List ℕ)) → a.left ≡ 1000 → Stands desk k a pass ahead before held
+      → (h : List ℕ) × (held ≡ Some h) × (last : Standing) × Ends k a ends.NoMemory h last × IsAt desk k last pass ahead
+  not_begun k a pass ahead before held whole s = (a.written, s.held_is, a.standing, (a, ([], refl), (refl, inl (whole, refl))), s.pass_at)

@@ -1,5 +1,5 @@
 -- What a pass and a clock do at a request, from where they stand.
-use Rattle.std.proofs.Common.{◌≡◌, ℕ, ◌+◌, List, Bool, false, Option, Some, None, Result, Ok, Err, refl, sym, ◌∙◌, ap, ap₂, subst}
+use Rattle.std.proofs.Common.{◌≡◌, ℕ, ◌+◌, List, Option, Some, None, Result, Ok, Err, refl, sym, ◌∙◌, ap, ap₂, subst}
 use Rattle.sha2.specs.Sha256.{sha256}
 use Rattle.cat_io.specs.Clocks.{from, Ticks, ticks_on}
 use Rattle.cat_model.specs.declared.ask.Ask.{Ask}
@@ -22,7 +22,7 @@ use Rattle.cat_desk.specs.declared.pass.Pass.{Pass}
 use Rattle.cat_work.specs.Answers.{AnswersAlone, RefusesAlone}
 use Rattle.cat_work.specs.Passes.{IsAlone, IsReady, book_of}
 use Rattle.cat_cli.specs.Sessions.{Readings, Fallen, Standing, IsAt, seen_failed, seen_fallen, session_of}
-use Rattle.cat_cli.specs.Answers.{Brings, change_stands, refusal_stands}
+use Rattle.cat_cli.specs.Answers.{Brings}
 use Rattle.cat_cli.proofs.Brought.{read, refused_by_bytes}
 use Rattle.cat_cli.proofs.Changed.{after_change, called, down, falls, given_up_change}
 
@@ -62,8 +62,8 @@ alone_on desk p q kept alone = ap₂ (λ (a b : ℕ). a + b) kept.held kept.spar
 
 module _ (desk : DeskId) where
   -- what a request brings, and where pass and clock stand then
-  abbrev pub BringsOn : Readings → Standing → Message → Result Told Refused → Bool → Pass → Option Readings → Type 0
-  BringsOn k s m told stands pass ahead = (b : Brought) × (s' : Standing) × Brings k s m told stands b s' × IsAt desk k s' pass ahead
+  abbrev pub BringsOn : Readings → Standing → Message → Result Told Refused → Pass → Option Readings → Type 0
+  BringsOn k s m told pass ahead = (b : Brought) × (s' : Standing) × Brings k s m told b s' × IsAt desk k s' pass ahead
 
   -- where a pass stands after a call
   stands_on : (k : Readings) (s s' : Standing) (p q : Pass) (ahead ahead' : Option Readings) → IsAt desk k s p ahead → Keeps desk p q → IsReady desk q
@@ -75,7 +75,7 @@ module _ (desk : DeskId) where
 
   pub from_reading : (k : Readings) (s : Standing) (m : Message) (p q : Pass) (ahead : Option Readings) (ask : Ask) (result : Result Told Refused) → IsAt desk k s p ahead → wanted m ≡ Ok (Read ask)
       → Keeps desk p q → IsReady desk q → Reads sha256 (book_of desk q) ask result → (IsAlone p → (book_of desk q ≡ book_of desk p) × ((mark_of q).fault ≡ (mark_of p).fault))
-      → BringsOn k s m result false q ahead
+      → BringsOn k s m result q ahead
   from_reading k s m p q ahead ask result at w kept ready reads alone =
       let same = alone at.alone in
       let book : book_of desk q ≡ s.book = same.0 ∙ at.book_is in (
@@ -86,7 +86,7 @@ module _ (desk : DeskId) where
       )
 
   pub from_refusal : (k : Readings) (s : Standing) (m : Message) (pass : Pass) (ahead : Option Readings) (refused : Refused) → IsAt desk k s pass ahead
-      → Answers {A = Wanted} (Err refused) (wanted m) → BringsOn k s m (Err refused) false pass ahead
+      → Answers {A = Wanted} (Err refused) (wanted m) → BringsOn k s m (Err refused) pass ahead
   from_refusal k s m pass ahead refused at w = (said_only (session_of s) (Err refused), s, refused_by_bytes k s m refused w, at)
 
   -- ---- changes
@@ -100,7 +100,7 @@ module _ (desk : DeskId) where
     -- by why the call was refused
     refused_by : (place : Option ℕ) (why : Refusal)
         → RefusesAlone 1 (call_on sha256 1 s.book command (k s.readings)) s.book (book_of desk q) (mark_of p).fault (mark_of q).fault (record { place = place; why = why }) why
-        → BringsOn k s m (Err (record { place = place; why = why })) (refusal_stands why) q ahead'
+        → BringsOn k s m (Err (record { place = place; why = why })) q ahead'
     refused_by place NoMemory a =
         (_, after_change s (book_of desk q) s.fallen, given_up_change k s m (book_of desk q) place a.0, stands_at s.fallen (ap seen_failed a.1 ∙ at.fault_is))
     refused_by place Fault a =
@@ -114,7 +114,7 @@ module _ (desk : DeskId) where
         let fell = one_fell (mark_of p).fault s.fallen a.fault at.fault_is a.was in
         let told : ◌≡◌ {A = Result Told Refused} (Err (record { place = Some s.book.state.place; why = Down fell.fell.count })) (Err (record { place = place; why = Down count })) =
         ap₂ (λ (x : Option ℕ) (c : ℕ). Err (record { place = x; why = Down c })) (sym a.place) (fell.count_is ∙ a.count_is) in
-        subst (λ (x : Result Told Refused). BringsOn k s m x false q ahead') told (
+        subst (λ (x : Result Told Refused). BringsOn k s m x q ahead') told (
           _,
           after_change s s.book s.fallen,
           down k s fell.fell m command fell.is w,
@@ -127,18 +127,18 @@ module _ (desk : DeskId) where
 
     -- by what was told
     changed : (result : Result Told Refused) → AnswersAlone 1 (call_on sha256 1 s.book command (k s.readings)) s.book (book_of desk q) (mark_of p).fault (mark_of q).fault result
-        → BringsOn k s m result (change_stands result) q ahead'
+        → BringsOn k s m result q ahead'
     changed (Ok x) a =
         (_, after_change s (book_of desk q) None, called k s m command (book_of desk q) (Ok x) (none_fell (mark_of p).fault s.fallen at.fault_is a.1) w a.0, stands_at None (ap seen_failed a.2))
     changed (Err refused) a = refused_by refused.place refused.why a
 
-  pub from_change : (k : Readings) (s : Standing) (m : Message) (command : Command) (p q : Pass) (ahead ahead' : Option Readings) (moment : ℕ) (result : Result Told Refused) (stands : Bool)
+  pub from_change : (k : Readings) (s : Standing) (m : Message) (command : Command) (p q : Pass) (ahead ahead' : Option Readings) (moment : ℕ) (result : Result Told Refused)
       → IsAt desk k s p ahead → wanted m ≡ Ok (Change command) → Keeps desk p q → IsReady desk q → Ticks ahead ahead' moment
       → (IsAlone p → AnswersAlone (number_of p) (call_on sha256 (number_of p) (book_of desk p) command moment) (book_of desk p) (book_of desk q) (mark_of p).fault (mark_of q).fault result)
-      → stands ≡ change_stands result → BringsOn k s m result stands q ahead'
-  from_change k s m command p q ahead ahead' moment result stands at w kept ready ticks alone stood =
+      → BringsOn k s m result q ahead'
+  from_change k s m command p q ahead ahead' moment result at w kept ready ticks alone =
       let read = ticks_on s.readings k ahead ahead' moment at.to_come ticks in
       let by_number = subst (λ (n : ℕ). AnswersAlone n (call_on sha256 n (book_of desk p) command moment) (book_of desk p) (book_of desk q) (mark_of p).fault (mark_of q).fault result) at.number (alone at.alone) in
       let by_book = subst (λ (b : Book). AnswersAlone 1 (call_on sha256 1 b command moment) b (book_of desk q) (mark_of p).fault (mark_of q).fault result) at.book_is by_number in
       let by_moment = subst (λ (t : ℕ). AnswersAlone 1 (call_on sha256 1 s.book command t) s.book (book_of desk q) (mark_of p).fault (mark_of q).fault result) read.0 by_book in
-      subst (λ (x : Bool). BringsOn k s m result x q ahead') (sym stood) (changed k s m command p q ahead ahead' at kept ready w read.1 result by_moment)
+      changed k s m command p q ahead ahead' at kept ready w read.1 result by_moment

@@ -1,7 +1,6 @@
 -- What answering one request does, where the keeper, the clock and the sink tell what they have.
-use Rattle.std.specs.Prelude.{ℕ, ◌+◌, ◌≡◌, ◌⊎◌, List, [], Option, Some, None, Bool, true, false, Result, Ok, Err}
-use Rattle.cat_model.specs.declared.refusal.Refusal.{Refusal}
-use Rattle.cat_model.specs.declared.refusal.Refusal.TheVariants.{Fault, NoMemory}
+use Rattle.std.specs.Prelude.{ℕ, ◌+◌, ◌≡◌, ◌⊎◌, List, [], Option, Some, None, Bool, false, Result, Err}
+use Rattle.cat_model.specs.declared.refusal.Refusal.TheVariants.{NoMemory}
 use Rattle.cat_model.specs.declared.refusal.Refused.{Refused}
 use Rattle.cat_model.specs.declared.reply.Told.{Told}
 use Rattle.cat_model.specs.Script.{Brought}
@@ -11,39 +10,30 @@ use Rattle.cat_rest.specs.Wanted.{wanted}
 use Rattle.cat_desk.specs.Pass.{DeskId}
 use Rattle.cat_desk.specs.declared.pass.Pass.{Pass}
 use Rattle.cat_cli.specs.declared.ending.Session.{Session as End}
-use Rattle.cat_cli.specs.Replies.{said_bytes}
+use Rattle.cat_cli.specs.Replies.{must_be_told, said_bytes}
 use Rattle.cat_cli.specs.Sessions.{Readings, Standing, Point, Turn, MayComeTo, Answered, EndsAt, IsAt, Stands, asks_to_close}
 
 -- the refusal of a call that was given up for want of memory
 abbrev pub given_up : Refused
 given_up = record { place = None; why = NoMemory }
 
--- a change that was made, or may have been kept, is told so or not at all
-abbrev pub refusal_stands : Refusal → Bool
-refusal_stands Fault = true
-refusal_stands why = false
-
-abbrev pub change_stands : Result Told Refused → Bool
-change_stands (Ok told) = true
-change_stands (Err refused) = refusal_stands refused.why
-
--- what a request came to and was told; unless that stands, want of memory may be told in its place
-pub record Brings (clock : Readings) (s : Standing) (m : Message) (told : Result Told Refused) (stands : Bool) (b : Brought) (s' : Standing) : Type 0 where
+-- what a request came to and was told; unless that must be told, want of memory may be told in its place
+pub record Brings (clock : Readings) (s : Standing) (m : Message) (told : Result Told Refused) (b : Brought) (s' : Standing) : Type 0 where
   pub comes : MayComeTo clock s s.fallen (wanted m) b s'
   pub said : b.said ≡ told
-  pub or_given_up : stands ≡ false → MayComeTo clock s s.fallen (wanted m) (record { said = Err given_up; logged = []; after = b.after }) s'
+  pub or_given_up : must_be_told told ≡ false → MayComeTo clock s s.fallen (wanted m) (record { said = Err given_up; logged = []; after = b.after }) s'
 
 -- what a pass and a clock do at a request
-abbrev pub SaysTo : DeskId → Message → Pass → Option Readings → Result Told Refused → Bool → Pass → Option Readings → Type 0
-SaysTo desk m pass ahead told stands pass' ahead' =
+abbrev pub SaysTo : DeskId → Message → Pass → Option Readings → Result Told Refused → Pass → Option Readings → Type 0
+SaysTo desk m pass ahead told pass' ahead' =
     (clock : Readings) (s : Standing) → IsAt desk clock s pass ahead
-    → (b : Brought) × (s' : Standing) × Brings clock s m told stands b s' × IsAt desk clock s' pass' ahead'
+    → (b : Brought) × (s' : Standing) × Brings clock s m told b s' × IsAt desk clock s' pass' ahead'
 
 -- the reply is that of what was told, or tells want of memory where that needn't be told
-abbrev pub RepliesTo : Bool → Bool → Result Told Refused → Bool → List ℕ → Type 0
-RepliesTo close head_only told stands bytes =
+abbrev pub RepliesTo : Bool → Bool → Result Told Refused → List ℕ → Type 0
+RepliesTo close head_only told bytes =
     (bytes ≡ said_bytes close head_only told)
-    ⊎ ((stands ≡ false) × (bytes ≡ said_bytes close head_only (Err given_up)))
+    ⊎ ((must_be_told told ≡ false) × (bytes ≡ said_bytes close head_only (Err given_up)))
 
 -- a request that is answered at c: its message, and what follows it
 pub record IsAsked (desk : DeskId) (clock : Readings) (c : Point) (left : ℕ) (m : Message) (rest : List ℕ) (pass : Pass) (ahead : Option Readings) (held : Option (List ℕ)) : Type 0 where

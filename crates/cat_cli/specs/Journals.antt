@@ -34,6 +34,14 @@ pub record DiskRose {D : Type 0} (faults : D → ℕ) (before after : Option (Op
   pub is : IfSome after (λ place. place ≡ Some again)
   pub rose : Rose (faults opened) (faults again)
 
+-- and where both are known, it didn't rise
+abbrev pub DiskStays : {D : Type 0} → (D → ℕ) → Option (Option D) → Option (Option D) → Type 0
+DiskStays faults None after = Unit {0}
+DiskStays faults (Some None) after = Unit {0}
+DiskStays faults (Some (Some opened)) None = Unit {0}
+DiskStays faults (Some (Some opened)) (Some None) = Unit {0}
+DiskStays faults (Some (Some opened)) (Some (Some again)) = Rose (faults opened) (faults again) → ⊥
+
 -- ---- what a journal stands for
 
 -- the book that a journal's payloads lead to

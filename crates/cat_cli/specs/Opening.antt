@@ -44,8 +44,8 @@ IsReason told why = is_unreadable why ≡ true → unopened_of told why
 
 -- what is told of the reason, by the run's status
 abbrev pub Refused : Unopened → List ℕ → Status → List ℕ → ℕ → ℕ → Type 0
-Refused why written statuses.DiskFault held before now = held ≡ written ++ disk_fault_line
-Refused why written statuses.WriteFault held before now = IsFront disk_fault_line written held before now
+Refused why written statuses.DiskFault held before now = (why ≡ whys.Fault) × (held ≡ written ++ disk_fault_line)
+Refused why written statuses.WriteFault held before now = (why ≡ whys.Fault) × IsFront disk_fault_line written held before now
 Refused why written statuses.Unreadable held before now = (is_unreadable why ≡ true) × IsTold (unopened_line why) written held before now
 Refused why written statuses.NoMemory held before now = IsTold no_memory_line written held before now
 Refused why written _ held before now = ⊥

@@ -1,6 +1,8 @@
 -- What a session writes in reply.
-use Rattle.std.specs.Prelude.{ℕ, List, Option, Some, None, Bool, true, false, Result, Ok, Err, codes, bytes_eq}
+use Rattle.std.specs.Prelude.{◌≡◌, ◌⊎◌, ℕ, List, Option, Some, None, Bool, true, false, Result, Ok, Err, codes, bytes_eq}
 use Rattle.serde_json.specs.Written.{compact_text}
+use Rattle.cat_model.specs.declared.reply.Reply.{Reply}
+use Rattle.cat_model.specs.declared.reply.Reply.TheVariants as replies
 use Rattle.cat_model.specs.declared.reply.Told.{Told}
 use Rattle.cat_model.specs.declared.refusal.Refused.{Refused}
 use Rattle.cat_model.specs.declared.refusal.Refusal.{Refusal}
@@ -40,6 +42,28 @@ said_bytes close head_only (Err refused) =
 abbrev pub refused_bytes : Refusal → List ℕ
 refused_bytes why = said_bytes true false (Err (record { place = None; why = why }))
 
+-- these are the bytes of that reply, or where no memory is left for its text, of the one that tells so
+abbrev pub IsRefusalOf : Refusal → List ℕ → Type 0
+IsRefusalOf why bytes = (bytes ≡ refused_bytes why) ⊎ (bytes ≡ refused_bytes refusals.NoMemory)
+
 -- a reply to HEAD has no body
 abbrev pub is_head : Message → Bool
 is_head m = bytes_eq m.method (codes "HEAD")
+
+-- ---- where no memory is left for the text of a reply
+
+-- the reply tells of a change, as that of no reading call does
+abbrev pub tells_change : Reply → Bool
+tells_change (replies.Reference reference) = true
+tells_change (replies.Committed committed) = true
+tells_change (replies.Merged merged) = true
+tells_change _ = false
+
+abbrev pub is_fault : Refusal → Bool
+is_fault refusals.Fault = true
+is_fault why = false
+
+-- want of memory isn't told in place of this: a change that was made, or one whose entry may have been kept
+abbrev pub must_be_told : Result Told Refused → Bool
+must_be_told (Ok told) = tells_change told.reply
+must_be_told (Err refused) = is_fault refused.why

@@ -1,6 +1,7 @@
 -- What a run's status says.
 use Rattle.std.specs.Prelude.{ℕ, ◌≡◌, ◌⊎◌, List, ◌++◌, take, reverse, Option, Some, None, IfSome, Bool, true, false, Ok}
 use Rattle.cat_io.specs.Causes.{Rose}
+use Rattle.cat_io.specs.Clocks.{from}
 use Rattle.cat_journal.specs.Frames.{recovered}
 use Rattle.cat_model.specs.declared.log_entry.LogEntry.{LogEntry}
 use Rattle.cat_model.specs.Book.{Book}
@@ -56,17 +57,17 @@ Tells line s = IsTold line s.written s.held s.before s.now
 
 -- ---- no journal was opened
 
--- what the sink holds then, by the status
-abbrev pub Refuses : Seen → Status → Type 0
-Refuses s statuses.DiskFault = s.held ≡ s.written ++ disk_fault_line
-Refuses s statuses.WriteFault = IsFront disk_fault_line s.written s.held s.before s.now
-Refuses s statuses.Unreadable = (why : Unopened) × unopened_of s.journal why × Tells (unopened_line why) s
-Refuses s statuses.NoMemory = Tells no_memory_line s
-Refuses s _ = ⊥
+-- what the sink holds then, by the status; fell says that a count of faults of the disks rose
+abbrev pub Refuses : Type 0 → Seen → Status → Type 0
+Refuses fell s statuses.DiskFault = fell × (s.held ≡ s.written ++ disk_fault_line)
+Refuses fell s statuses.WriteFault = fell × IsFront disk_fault_line s.written s.held s.before s.now
+Refuses fell s statuses.Unreadable = (why : Unopened) × unopened_of s.journal why × Tells (unopened_line why) s
+Refuses fell s statuses.NoMemory = Tells no_memory_line s
+Refuses fell s _ = ⊥
 
 -- and the journal stands for what it did
-abbrev pub RefusesSo : Seen → Status → Type 0
-RefusesSo s status = Refuses s status × StandsFor s.journal s.left
+abbrev pub RefusesSo : Type 0 → Seen → Status → Type 0
+RefusesSo fell s status = Refuses fell s status × StandsFor s.journal s.left
 
 -- ---- a script
 
@@ -74,8 +75,8 @@ RefusesSo s status = Refuses s status × StandsFor s.journal s.left
 abbrev pub start : Book → List ℕ → List ℕ → Point
 start book bytes written = record { left = 1000; standing = record { book = book; readings = 0; fallen = None }; bytes = bytes; written = written }
 
--- a session on the journal's catalogue ended so, and the journal has its entries
-pub record Ran (clock : Readings) (bytes : List ℕ) (s : Seen) (end : End) : Type 0 where
+-- a session on the journal's catalogue ended so, and the journal has its entries; where an append failed, a count of faults of the disks rose; and the clock has these readings to come
+pub record Ran (fell : Type 0) (clock : Readings) (to_come : Option Readings) (bytes : List ℕ) (s : Seen) (end : End) : Type 0 where
   pub payloads : List (List ℕ)
   pub book : Book
   pub begins : Begins s.journal payloads book
@@ -84,31 +85,35 @@ pub record Ran (clock : Readings) (bytes : List ℕ) (s : Seen) (end : End) : Ty
   pub added : List LogEntry
   pub grows : last.book.log ≡ reverse added ++ book.log
   pub keeps : IfSome s.left (Holds (payloads ++ spellings added) last.fallen)
+  pub cause : IfSome last.fallen (λ _. fell)
+  pub reads_on : to_come ≡ Some (from last.readings clock)
 
 -- and no append failed
-abbrev pub RanWell : Readings → List ℕ → Seen → End → Type 0
-RanWell clock bytes s end = (ran : Ran clock bytes s end) × (ran.last.fallen ≡ None)
+abbrev pub RanWell : Type 0 → Readings → Option Readings → List ℕ → Seen → End → Type 0
+RanWell fell clock to_come bytes s end = (ran : Ran fell clock to_come bytes s end) × (ran.last.fallen ≡ None)
 
 -- a session was held, by the status
-abbrev pub Answers : Readings → List ℕ → Seen → Status → Type 0
-Answers clock bytes s statuses.Done = RanWell clock bytes s ends.Closed
-Answers clock bytes s statuses.Cut = RanWell clock bytes s ends.Capped ⊎ RanWell clock bytes s ends.BadHead ⊎ RanWell clock bytes s ends.TooLarge
-Answers clock bytes s statuses.DiskFault =
-    Ran clock bytes s ends.Closed ⊎ Ran clock bytes s ends.Capped ⊎ Ran clock bytes s ends.BadHead ⊎ Ran clock bytes s ends.TooLarge
-Answers clock bytes s statuses.ReadFault = Ran clock bytes s ends.ReadFault
-Answers clock bytes s statuses.WriteFault = Ran clock bytes s ends.WriteFault
-Answers clock bytes s statuses.NoMemory = Ran clock bytes s ends.NoMemory
-Answers clock bytes s _ = ⊥
+abbrev pub Answers : Type 0 → Readings → Option Readings → List ℕ → Seen → Status → Type 0
+Answers fell clock to_come bytes s statuses.Done = RanWell fell clock to_come bytes s ends.Closed
+Answers fell clock to_come bytes s statuses.Cut =
+    RanWell fell clock to_come bytes s ends.Capped ⊎ RanWell fell clock to_come bytes s ends.BadHead ⊎ RanWell fell clock to_come bytes s ends.TooLarge
+Answers fell clock to_come bytes s statuses.DiskFault =
+    Ran fell clock to_come bytes s ends.Closed ⊎ Ran fell clock to_come bytes s ends.Capped
+    ⊎ Ran fell clock to_come bytes s ends.BadHead ⊎ Ran fell clock to_come bytes s ends.TooLarge
+Answers fell clock to_come bytes s statuses.ReadFault = Ran fell clock to_come bytes s ends.ReadFault
+Answers fell clock to_come bytes s statuses.WriteFault = Ran fell clock to_come bytes s ends.WriteFault
+Answers fell clock to_come bytes s statuses.NoMemory = Ran fell clock to_come bytes s ends.NoMemory
+Answers fell clock to_come bytes s _ = ⊥
 
--- what a run of `script` does, by its status
-abbrev pub Says : Readings → List ℕ → Seen → Status → Type 0
-Says clock bytes s status = Answers clock bytes s status ⊎ RefusesSo s status
+-- what a run of `script` does, by its status; where no session was held the clock wasn't read
+abbrev pub Says : Type 0 → Readings → Option Readings → List ℕ → Seen → Status → Type 0
+Says fell clock to_come bytes s status = Answers fell clock to_come bytes s status ⊎ (RefusesSo fell s status × (to_come ≡ Some clock))
 
 -- the same where the clock, the source and the sink tell what they have
-abbrev pub SaysKnown : Option Readings → Option (List ℕ) → Option (List ℕ) → Status → Option (List ℕ) → ℕ → ℕ → Option (List ℕ) → Option (List ℕ) → Type 0
-SaysKnown ahead bytes held status after before now journal left =
+abbrev pub SaysKnown : Type 0 → Option Readings → Option Readings → Option (List ℕ) → Option (List ℕ) → Status → Option (List ℕ) → ℕ → ℕ → Option (List ℕ) → Option (List ℕ) → Type 0
+SaysKnown fell ahead to_come bytes held status after before now journal left =
     (clock : Readings) (b w : List ℕ) → ahead ≡ Some clock → bytes ≡ Some b → held ≡ Some w
-    → (h : List ℕ) × (after ≡ Some h) × Says clock b (record { written = w; held = h; before = before; now = now; journal = journal; left = left }) status
+    → (h : List ℕ) × (after ≡ Some h) × Says fell clock to_come b (record { written = w; held = h; before = before; now = now; journal = journal; left = left }) status
 
 -- ---- a check
 
@@ -118,21 +123,21 @@ pub record Opens (s : Seen) (book : Book) : Type 0 where
   pub begins : Begins s.journal payloads book
   pub keeps : IfSome s.left (λ bytes. recovered bytes ≡ Ok payloads)
 
--- its catalogue was counted, by the status
-abbrev pub Counts : Seen → Status → Type 0
-Counts s statuses.Done = (book : Book) × Opens s book × (s.held ≡ s.written ++ check_line book)
-Counts s statuses.WriteFault = (book : Book) × Opens s book × IsFront (check_line book) s.written s.held s.before s.now
-Counts s _ = ⊥
+-- its catalogue was counted, by the status; stays says that the count of faults of its disk didn't rise
+abbrev pub Counts : Type 0 → Seen → Status → Type 0
+Counts stays s statuses.Done = (book : Book) × Opens s book × (s.held ≡ s.written ++ check_line book) × stays
+Counts stays s statuses.WriteFault = (book : Book) × Opens s book × IsFront (check_line book) s.written s.held s.before s.now
+Counts stays s _ = ⊥
 
 -- what a run of `check` does, by its status
-abbrev pub Checks : Seen → Status → Type 0
-Checks s status = Counts s status ⊎ RefusesSo s status
+abbrev pub Checks : Type 0 → Type 0 → Seen → Status → Type 0
+Checks fell stays s status = Counts stays s status ⊎ RefusesSo fell s status
 
 -- the same where the sink tells what it has
-abbrev pub ChecksKnown : Option (List ℕ) → Status → Option (List ℕ) → ℕ → ℕ → Option (List ℕ) → Option (List ℕ) → Type 0
-ChecksKnown held status after before now journal left =
+abbrev pub ChecksKnown : Type 0 → Type 0 → Option (List ℕ) → Status → Option (List ℕ) → ℕ → ℕ → Option (List ℕ) → Option (List ℕ) → Type 0
+ChecksKnown fell stays held status after before now journal left =
     (w : List ℕ) → held ≡ Some w
-    → (h : List ℕ) × (after ≡ Some h) × Checks (record { written = w; held = h; before = before; now = now; journal = journal; left = left }) status
+    → (h : List ℕ) × (after ≡ Some h) × Checks fell stays (record { written = w; held = h; before = before; now = now; journal = journal; left = left }) status
 
 -- ---- lines
 

@@ -45,7 +45,8 @@ is_last k c ends.ReadFault held last p = inl p.1
 is_last k c ends.WriteFault held last (bytes, inl p, n, is) = inr (p.0, p.1, p.3)
 is_last k c ends.WriteFault held last (bytes, inr (inl p), n, is) = inl p.2
 is_last k c ends.WriteFault held last (bytes, inr (inr p), n, is) = inl p.2
-is_last k c ends.NoMemory held last p = p.1
+is_last k c ends.NoMemory held last (told, inl p) = inl p.1
+is_last k c ends.NoMemory held last (told, inr (t, answered, must, same)) = inr (t, answered, same)
 
 by_last : (k : Readings) (c : Point) (last : Standing) → IsLast k c last → (entries : List LogEntry) × IsGrownBy entries c.standing last
 by_last k c last (inl same) = ([], ap (λ (s : Standing). s.book.log) same)

@@ -21,7 +21,7 @@ use Rattle.cat_desk.specs.declared.pass.Pass.{Pass}
 use Rattle.cat_work.specs.Passes.{IsAlone, IsReady, book_of}
 use Rattle.cat_cli.specs.declared.ending.Session.{Session as End}
 use Rattle.cat_cli.specs.declared.ending.Session.TheVariants as ends
-use Rattle.cat_cli.specs.Replies.{said_bytes, refused_bytes, is_head}
+use Rattle.cat_cli.specs.Replies.{IsRefusalOf, is_head, must_be_told, said_bytes}
 
 -- the readings of a clock, the first at 0
 abbrev pub Readings : Type 0
@@ -124,9 +124,11 @@ pub record IsClosedBy (clock : Readings) (c : Point) (t : Turn) (held : List ℕ
   pub leaves : last ≡ t.after.standing
 
 -- what comes next is refused by its bytes, and the reply says that the session ends
-pub record IsRefused (c : Point) (cause : Type 0) (bytes : List ℕ) (held : List ℕ) (last : Standing) : Type 0 where
+pub record IsRefused (c : Point) (cause : Type 0) (why : Refusal) (held : List ℕ) (last : Standing) : Type 0 where
   pub some_left : 0 < c.left
   pub is_so : cause
+  pub bytes : List ℕ
+  pub replies : IsRefusalOf why bytes
   pub all : held ≡ c.written ++ bytes
   pub stays : last ≡ c.standing
 
@@ -134,23 +136,25 @@ pub record IsRefused (c : Point) (cause : Type 0) (bytes : List ℕ) (held : Lis
 abbrev pub IsDue : Readings → Point → List ℕ → Standing → Type 0
 IsDue clock c bytes last =
     ((t : Turn) × Answered clock c t × (t.after.written ≡ c.written ++ bytes) × (last ≡ t.after.standing))
-    ⊎ (IsMalformed c.bytes × (bytes ≡ refused_bytes (BadRequest BadHead)) × (last ≡ c.standing))
-    ⊎ (IsTooLarge c.bytes × (bytes ≡ refused_bytes TooLarge) × (last ≡ c.standing))
+    ⊎ (IsMalformed c.bytes × IsRefusalOf (BadRequest BadHead) bytes × (last ≡ c.standing))
+    ⊎ (IsTooLarge c.bytes × IsRefusalOf TooLarge bytes × (last ≡ c.standing))
 
 -- a front of the reply that was due
 abbrev pub IsCutOff : Readings → Point → List ℕ → Standing → Type 0
 IsCutOff clock c held last = (bytes : List ℕ) × IsDue clock c bytes last × (n : ℕ) × (held ≡ c.written ++ take n bytes)
 
--- nothing is told, whether or not the next request was answered by the store
+-- nothing is told: before the first of 1,000 requests, or where the next one is answered by what must be told, and no memory is left for its text
 abbrev pub IsUntold : Readings → Point → List ℕ → Standing → Type 0
-IsUntold clock c held last = (held ≡ c.written) × ((last ≡ c.standing) ⊎ ((t : Turn) × Answered clock c t × (last ≡ t.after.standing)))
+IsUntold clock c held last =
+    (held ≡ c.written)
+    × (((c.left ≡ 1000) × (last ≡ c.standing)) ⊎ ((t : Turn) × Answered clock c t × (must_be_told t.brought.said ≡ true) × (last ≡ t.after.standing)))
 
 -- what the sink holds where the session ended so, and how the store stands
 abbrev pub EndsAt : Readings → Point → End → List ℕ → Standing → Type 0
 EndsAt clock c ends.Closed held last = IsAtEnd c held last ⊎ ((t : Turn) × IsClosedBy clock c t held last)
 EndsAt clock c ends.Capped held last = (c.left ≡ 0) × (held ≡ c.written) × (last ≡ c.standing)
-EndsAt clock c ends.BadHead held last = IsRefused c (IsMalformed c.bytes) (refused_bytes (BadRequest BadHead)) held last
-EndsAt clock c ends.TooLarge held last = IsRefused c (IsTooLarge c.bytes) (refused_bytes TooLarge) held last
+EndsAt clock c ends.BadHead held last = IsRefused c (IsMalformed c.bytes) (BadRequest BadHead) held last
+EndsAt clock c ends.TooLarge held last = IsRefused c (IsTooLarge c.bytes) TooLarge held last
 EndsAt clock c ends.ReadFault held last = (held ≡ c.written) × (last ≡ c.standing)
 EndsAt clock c ends.WriteFault held last = IsCutOff clock c held last
 EndsAt clock c ends.NoMemory held last = IsUntold clock c held last

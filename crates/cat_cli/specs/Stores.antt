@@ -1,5 +1,6 @@
 -- A session on a store, which a desk holds meanwhile.
 use Rattle.std.specs.Prelude.{ℕ, ◌≡◌, List, Option, Some, option_map}
+use Rattle.cat_io.specs.Clocks.{from}
 use Rattle.cat_ledger.specs.Kept.{spelling}
 use Rattle.cat_core.specs.Stored.{Stored}
 use Rattle.cat_cli.specs.declared.ending.Session.{Session as End}
@@ -13,7 +14,7 @@ pub record IsLeftSo {K : Type 0} (down : K → Option ℕ) (in_flight : K → Op
   pub flies : in_flight store.keeper ≡ option_map (λ (f : Fallen). spelling f.entry) last.fallen
 
 -- a session on a store ended so, where the clock, the source and the sink tell what they have
-abbrev pub RunsKnown : {K : Type 0} → (K → Option ℕ) → (K → Option (List ℕ)) → Stored K → Option Readings → Option (List ℕ) → Option (List ℕ) → End → Stored K → Option (List ℕ) → Type 0
-RunsKnown down in_flight store ahead bytes held end store' after =
+abbrev pub RunsKnown : {K : Type 0} → (K → Option ℕ) → (K → Option (List ℕ)) → Stored K → Option Readings → Option (List ℕ) → Option (List ℕ) → End → Stored K → Option Readings → Option (List ℕ) → Type 0
+RunsKnown down in_flight store ahead bytes held end store' ahead' after =
     (clock : Readings) (b w : List ℕ) → ahead ≡ Some clock → bytes ≡ Some b → held ≡ Some w
-    → (h : List ℕ) × (after ≡ Some h) × (last : Standing) × Ends clock (start store.book b w) end h last × IsLeftSo down in_flight last store'
+    → (h : List ℕ) × (after ≡ Some h) × (last : Standing) × Ends clock (start store.book b w) end h last × IsLeftSo down in_flight last store' × (ahead' ≡ Some (from last.readings clock))

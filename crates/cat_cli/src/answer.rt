@@ -1,20 +1,20 @@
 //! The replies to single requests.
 
-ghost use Rattle.std.specs.Prelude.{◌≡◌, ◌≢◌, ◌≤◌, ◌==◌, ◌||◌, ℕ, List, IfNone, IfSome, Some, None, Err, OnOk};
+ghost use Rattle.std.specs.Prelude.{◌≡◌, ◌≢◌, ◌≤◌, ◌==◌, ◌||◌, ℕ, List, IfNone, IfSome, Some, None, OnErr, OnOk};
 ghost use Rattle.cat_desk.specs.Pass.{Keeps};
 ghost use Rattle.cat_work.specs.Passes.{IsReady};
 ghost use Rattle.cat_io.specs.Causes.{Rose};
 ghost use Rattle.cat_cli.specs.Sessions.{Readings, Point, Turn};
 ghost use Rattle.std.specs.Io.KnownBytes.{Appends};
 ghost use Rattle.cat_http.specs.Writing.{AppendsFront};
-ghost use Rattle.cat_cli.specs.Answers.{SaysTo, IsAsked, IsAnswered, LeavesAt, change_stands};
-ghost use Rattle.cat_cli.specs.Replies.{is_head, refused_bytes};
+ghost use Rattle.cat_cli.specs.Answers.{SaysTo, IsAsked, IsAnswered, LeavesAt};
+ghost use Rattle.cat_cli.specs.Replies.{IsRefusalOf, is_head};
 
 use crate::ending::Session;
-use crate::reply::{Said, refusal_reply, response, send};
+use crate::reply::{refusal_reply, response, send};
 use cat_core::Store;
 use cat_desk::{Desk, NoGate, Pass};
-use cat_http::Request;
+use cat_http::{Request, WriteFault};
 use cat_io::{Clock, Sink};
 use cat_keeper::Keeper;
 use cat_model::refusal::{Refusal, Refused};
@@ -28,19 +28,6 @@ use std::sync::Wait;
 /// How often a call is tried on a branch that others move.
 const ATTEMPTS: u32 = 8;
 
-// Whether the reply must tell it: a change that was made, or that may have been kept.
-fn change_stands(told: &Result<Told, Refused>) -> bool
-    ensures { result ≡ change_stands told.now }
-{
-    match told {
-        Ok(_) => true,
-        Err(refused) => match refused.why {
-            Refusal::Fault => true,
-            _ => false,
-        },
-    }
-}
-
 fn said_to<R: Wait, K0: Keeper, C: Clock>(
     rt: &R,
     alloc: Global,
@@ -49,27 +36,19 @@ fn said_to<R: Wait, K0: Keeper, C: Clock>(
     pass: &mut Pass,
     clock: &mut C,
     request: &Request<'_>,
-) -> Said
+) -> Result<Told, Refused>
     requires { IsReady desk.now pass.old }
-    ensures says { SaysTo desk.now request.now pass.old (C.ahead clock.old) result.told result.stands pass.new (C.ahead clock.new) }
+    ensures says { SaysTo desk.now request.now pass.old (C.ahead clock.old) result pass.new (C.ahead clock.new) }
     ensures ready { IsReady desk.now pass.new }
     ensures kept { Keeps desk.now pass.old pass.new }
 {
     match to_command(alloc, routes, request) {
-        Ok(Wanted::Read(ask)) => Said {
-            told: read(rt, alloc, desk, pass, &ask),
-            stands: false,
-        },
+        Ok(Wanted::Read(ask)) => read(rt, alloc, desk, pass, &ask),
         Ok(Wanted::Change(command)) => {
             let mut gate = NoGate {};
-            let told = call(rt, alloc, desk, pass, &mut gate, clock, ATTEMPTS, &command);
-            let stands = change_stands(&told);
-            Said { told, stands }
+            call(rt, alloc, desk, pass, &mut gate, clock, ATTEMPTS, &command)
         }
-        Err(refused) => Said {
-            told: Err(refused),
-            stands: false,
-        },
+        Err(refused) => Err(refused),
     }
 }
 
@@ -102,7 +81,9 @@ pub(crate) fn answer<R: Wait, K0: Keeper, K: Sink, C: Clock>(
 {
     let said = said_to(rt, alloc, routes, desk, pass, clock, request);
     let closes = request.closes();
-    match response(alloc, is_last(closes, left), is_head(request), said) {
+    let reply = response(alloc, is_last(closes, left), is_head(request), &said);
+    drop(said);
+    match reply {
         Ok(reply) => match send(sink, reply) {
             Ok(()) => { if closes { Some(Session::Closed) } else { None } }
             Err(_) => Some(Session::WriteFault),
@@ -124,26 +105,12 @@ fn is_head(request: &Request<'_>) -> bool
     request.method() == b"HEAD".as_slice()
 }
 
-/// Why the reply to refused bytes wasn't written.
-#[derive(Clone, Copy, Debug, PartialEq, Eq, Drop)]
-pub(crate) enum Unwritten {
-    WriteFault,
-    NoMemory,
-}
-
 /// Answers bytes that are refused.
-pub(crate) fn refuse<K: Sink>(alloc: Global, sink: &mut K, why: Refusal) -> Result<(), Unwritten>
-    ensures written { OnOk result (Appends (K.held sink.old) (K.held sink.new) (refused_bytes why)) }
-    ensures cut { result ≡ Err Unwritten.WriteFault → AppendsFront (K.held sink.old) (K.held sink.new) (refused_bytes why) }
-    ensures cause { result ≡ Err Unwritten.WriteFault → Rose (K.faults sink.old) (K.faults sink.new) }
-    ensures untouched { result ≡ Err Unwritten.NoMemory → sink.new ≡ sink.old }
+pub(crate) fn refuse<K: Sink>(alloc: Global, sink: &mut K, why: Refusal) -> Result<(), WriteFault>
+    ensures written { OnOk result ((bytes : List ℕ) × IsRefusalOf why bytes × Appends (K.held sink.old) (K.held sink.new) bytes) }
+    ensures cut { OnErr result ((bytes : List ℕ) × IsRefusalOf why bytes × AppendsFront (K.held sink.old) (K.held sink.new) bytes) }
+    ensures cause { OnErr result (Rose (K.faults sink.old) (K.faults sink.new)) }
     ensures later { K.faults sink.old ≤ K.faults sink.new }
 {
-    match refusal_reply(alloc, why) {
-        Ok(reply) => match send(sink, reply) {
-            Ok(()) => Ok(()),
-            Err(_) => Err(Unwritten::WriteFault),
-        },
-        Err(_) => Err(Unwritten::NoMemory),
-    }
+    send(sink, refusal_reply(alloc, why))
 }

@@ -3,7 +3,7 @@
 ghost use Rattle.std.specs.Prelude.{◌≡◌, ◌≢◌, ◌⊎◌, IfOk, string_bytes, true};
 ghost use Rattle.cat_io.specs.Causes.{Rose};
 ghost use Rattle.cat_io.specs.Places.{OthersStay};
-ghost use Rattle.cat_cli.specs.Journals.{DiskRose, IsBack, told_at};
+ghost use Rattle.cat_cli.specs.Journals.{DiskRose, DiskStays, IsBack, told_at};
 ghost use Rattle.cat_cli.specs.Lines.{check_line, counts_line};
 ghost use Rattle.cat_cli.specs.Opening.{CountedKnown};
 ghost use Rattle.cat_cli.specs.Runs.{ChecksKnown};
@@ -68,7 +68,8 @@ pub(crate) fn check<O: Disks, K: Sink>(
     disks: &mut O,
     sink: &mut K,
 ) -> Status
-    ensures checked { ChecksKnown (K.held sink.old) result (K.held sink.new) (K.faults sink.old) (K.faults sink.new)
+    ensures checked { ChecksKnown (Rose (O.faults disks.old) (O.faults disks.new) ⊎ DiskRose O.D.faults (O.at_path disks.old path.now) (O.at_path disks.new path.now))
+        (DiskStays O.D.faults (O.at_path disks.old path.now) (O.at_path disks.new path.now)) (K.held sink.old) result (K.held sink.new) (K.faults sink.old) (K.faults sink.new)
         (told_at O.D.told (O.at_path disks.old path.now)) (told_at O.D.told (O.at_path disks.new path.now)) }
     ensures taken { result ≢ Status.Usage }
     ensures unread { result ≢ Status.ReadFault }

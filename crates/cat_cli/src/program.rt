@@ -6,7 +6,7 @@ ghost use Rattle.cat_io.specs.Causes.{Rose};
 ghost use Rattle.cat_io.specs.Places.{OthersStay};
 ghost use Rattle.cat_words.specs.Asked.{asked, check, drill, script};
 ghost use Rattle.cat_drill.specs.Drill.{drill_line};
-ghost use Rattle.cat_cli.specs.Journals.{DiskRose, IsBack, told_at};
+ghost use Rattle.cat_cli.specs.Journals.{DiskRose, DiskStays, IsBack, told_at};
 ghost use Rattle.cat_cli.specs.Lines.{no_memory_line, usage_line};
 ghost use Rattle.cat_cli.specs.Runs.{ChecksKnown, DrillsKnown, SaysKnown, TellsKnown, ends_drill, journal_of};
 
@@ -44,13 +44,15 @@ pub fn run<R: Threads + Wait + Sync, O: Disks, S: Source, K: Sink, C: Clock, L: 
     ensures usage_line { result ≡ Status.Usage → TellsKnown usage_line (K.held sink.old) (K.held sink.new) (K.faults sink.old) (K.faults sink.new) }
     ensures memory_line { asked (map (λ word. word.now) words.now) ≡ None → result ≡ Status.NoMemory
         → TellsKnown no_memory_line (K.held sink.old) (K.held sink.new) (K.faults sink.old) (K.faults sink.new) }
-    // What a script writes are the replies to the requests in the bytes of the source, and the journal has the entries of all that they changed.
+    // What a script writes are the replies to the requests in the bytes of the source, the journal has the entries of all that they changed, and the clock stands where their moments left it.
     ensures replies { (journal : List ℕ) → asked (map (λ word. word.now) words.now) ≡ Some (script journal)
-        → SaysKnown (C.ahead clock.old) (S.left source.old) (K.held sink.old) result (K.held sink.new) (K.faults sink.old) (K.faults sink.new)
+        → SaysKnown (Rose (O.faults disks.old) (O.faults disks.new) ⊎ DiskRose O.D.faults (O.at_path disks.old journal) (O.at_path disks.new journal))
+        (C.ahead clock.old) (C.ahead clock.new) (S.left source.old) (K.held sink.old) result (K.held sink.new) (K.faults sink.old) (K.faults sink.new)
         (told_at O.D.told (O.at_path disks.old journal)) (told_at O.D.told (O.at_path disks.new journal)) }
     // What a check writes is the line of the catalogue that the journal's entries lead to.
     ensures checked { (journal : List ℕ) → asked (map (λ word. word.now) words.now) ≡ Some (check journal)
-        → ChecksKnown (K.held sink.old) result (K.held sink.new) (K.faults sink.old) (K.faults sink.new)
+        → ChecksKnown (Rose (O.faults disks.old) (O.faults disks.new) ⊎ DiskRose O.D.faults (O.at_path disks.old journal) (O.at_path disks.new journal))
+        (DiskStays O.D.faults (O.at_path disks.old journal) (O.at_path disks.new journal)) (K.held sink.old) result (K.held sink.new) (K.faults sink.old) (K.faults sink.new)
         (told_at O.D.told (O.at_path disks.old journal)) (told_at O.D.told (O.at_path disks.new journal)) }
     // What a drill writes is the line of the catalogue that its seed and its steps make.
     ensures drilled { (seed commits : ℕ) → asked (map (λ word. word.now) words.now) ≡ Some (drill seed commits)
@@ -65,6 +67,9 @@ pub fn run<R: Threads + Wait + Sync, O: Disks, S: Source, K: Sink, C: Clock, L: 
     ensures back { (journal : List ℕ) → option_and_then journal_of (asked (map (λ word. word.now) words.now)) ≡ Some journal
         → IsBack (O.at_path disks.old journal) (O.at_path disks.new journal) × OthersStay journal (O.at_path disks.old) (O.at_path disks.new) }
     ensures untouched { option_and_then journal_of (asked (map (λ word. word.now) words.now)) ≡ None → (path : List ℕ) → O.at_path disks.new path ≡ O.at_path disks.old path }
+    // Only a script reads the source or the clock, and the listener is left alone.
+    ensures still { ((journal : List ℕ) → asked (map (λ word. word.now) words.now) ≡ Some (script journal) → ⊥) → (source.new ≡ source.old) × (clock.new ≡ clock.old) }
+    ensures listener { _listener.new ≡ _listener.old }
 {
     match asked_of(alloc, words) {
         Ok(Asked::Script(journal)) => script(rt, alloc, journal, disks, source, sink, clock),

@@ -1,26 +1,19 @@
 //! Replies to requests.
 
-ghost use Rattle.std.specs.Prelude.{◌≡◌, IfOk, IsOk, Ok, Err, false, option_map};
+ghost use Rattle.std.specs.Prelude.{◌≡◌, IfErr, IfOk, Ok, Err, false, option_map, true};
 ghost use Rattle.cat_http.specs.Reply.{render, body_bytes};
 ghost use Rattle.cat_http.specs.Writing.{Wrote};
 ghost use Rattle.cat_cli.specs.Answers.{RepliesTo, given_up};
-ghost use Rattle.cat_cli.specs.Replies.{said_bytes, refused_bytes, refusal_text, allow_of, methods_text};
+ghost use Rattle.cat_cli.specs.Replies.{IsRefusalOf, allow_of, methods_text, must_be_told, refusal_text, said_bytes, tells_change};
 
 use cat_codes::fault::NoMemory;
 use cat_http::{Body, Response, WriteFault, write_reply};
 use cat_io::Sink;
 use cat_model::refusal::{Allowed, Refusal, Refused};
-use cat_model::reply::Told;
+use cat_model::reply::{Reply, Told};
 use cat_rest::{refusal_to_json, status_of, to_json};
 use http::StatusCode;
 use std::alloc::Global;
-
-/// What the catalogue tells a request, and whether the reply must tell it.
-#[derive(Drop)]
-pub(crate) struct Said {
-    pub told: Result<Told, Refused>,
-    pub stands: bool,
-}
 
 /// The reply to a request. Where no memory is left for its text, it tells so in place of what
 /// needn't be told.
@@ -28,26 +21,49 @@ pub(crate) fn response(
     alloc: Global,
     close: bool,
     head_only: bool,
-    said: Said,
+    told: &Result<Told, Refused>,
 ) -> Result<Response, NoMemory>
-    ensures reply { IfOk result (λ r. RepliesTo close head_only said.told said.stands (render r)) }
-    ensures told { said.stands ≡ false → IsOk result }
+    ensures reply { IfOk result (λ r. RepliesTo close head_only told.now (render r)) }
+    ensures untold { IfErr result (λ _. must_be_told told.now ≡ true) }
 {
-    match told_response(alloc, close, head_only, &said.told) {
+    match told_response(alloc, close, head_only, told) {
         Ok(response) => Ok(response),
-        Err(NoMemory) => or_no_memory(close, head_only, said.stands),
+        Err(NoMemory) => or_no_memory(close, head_only, must_be_told(told)),
     }
 }
 
 #[tactic(auto, unfolding(crate::specs::Replies::said_bytes))]
-fn or_no_memory(close: bool, head_only: bool, stands: bool) -> Result<Response, NoMemory>
-    ensures reply { IfOk result (λ r. (stands ≡ false) × (render r ≡ said_bytes close head_only (Err given_up))) }
-    ensures told { stands ≡ false → IsOk result }
+fn or_no_memory(close: bool, head_only: bool, must: bool) -> Result<Response, NoMemory>
+    ensures reply { IfOk result (λ r. (must ≡ false) × (render r ≡ said_bytes close head_only (Err given_up))) }
+    ensures untold { IfErr result (λ _. must ≡ true) }
 {
-    if stands {
+    if must {
         return Err(NoMemory);
     }
     Ok(Response::no_memory(close, head_only))
+}
+
+// Whether want of memory isn't told in its place: a change that was made, or one whose entry may
+// have been kept.
+fn must_be_told(told: &Result<Told, Refused>) -> bool
+    ensures { result ≡ must_be_told told.now }
+{
+    match told {
+        Ok(told) => tells_change(&told.reply),
+        Err(refused) => match refused.why {
+            Refusal::Fault => true,
+            _ => false,
+        },
+    }
+}
+
+fn tells_change(reply: &Reply) -> bool
+    ensures { result ≡ tells_change reply.now }
+{
+    match reply {
+        Reply::Reference(_) | Reply::Committed(_) | Reply::Merged(_) => true,
+        _ => false,
+    }
 }
 
 fn told_response(
@@ -136,9 +152,14 @@ pub(crate) fn send<K: Sink>(sink: &mut K, reply: Response) -> Result<(), WriteFa
     write_reply(sink, &reply)
 }
 
-/// The reply to what is no request, or to a body that is too large: the session ends after it.
-pub(crate) fn refusal_reply(alloc: Global, why: Refusal) -> Result<Response, NoMemory>
-    ensures { IfOk result (λ r. render r ≡ refused_bytes why) }
+/// The reply to what is no request, or to a body that is too large: the session ends after it. Where
+/// no memory is left for its text, it tells so.
+#[tactic(auto, unfolding(crate::specs::Replies::said_bytes))]
+pub(crate) fn refusal_reply(alloc: Global, why: Refusal) -> Response
+    ensures { IsRefusalOf why (render result) }
 {
-    refusing(alloc, true, false, &Refused { place: None, why })
+    match refusing(alloc, true, false, &Refused { place: None, why }) {
+        Ok(reply) => reply,
+        Err(NoMemory) => Response::no_memory(true, false),
+    }
 }

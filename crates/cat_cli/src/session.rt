@@ -8,7 +8,7 @@ ghost use Rattle.cat_io.specs.Causes.{Rose};
 ghost use Rattle.cat_cli.specs.Sessions.{Readings, Point, Turn, Stands, EndsKnown};
 ghost use Rattle.cat_cli.specs.Answers.{GoesTo, LeavesAt};
 
-use crate::answer::{Unwritten, answer, refuse};
+use crate::answer::{answer, refuse};
 use crate::ending::Session;
 use cat_core::Store;
 use cat_desk::{Desk, Pass};
@@ -66,17 +66,13 @@ fn turn<R: Wait, K0: Keeper, S: Source, K: Sink, C: Clock>(
             left,
         ),
         Incoming::End => Some(Session::Closed),
-        Incoming::BadHead => {
-            match refuse(alloc, sink, Refusal::BadRequest(Reason::BadHead)) {
-                Ok(()) => Some(Session::BadHead),
-                Err(Unwritten::WriteFault) => Some(Session::WriteFault),
-                Err(Unwritten::NoMemory) => Some(Session::NoMemory),
-            }
-        }
+        Incoming::BadHead => match refuse(alloc, sink, Refusal::BadRequest(Reason::BadHead)) {
+            Ok(()) => Some(Session::BadHead),
+            Err(_) => Some(Session::WriteFault),
+        },
         Incoming::TooLarge => match refuse(alloc, sink, Refusal::TooLarge) {
             Ok(()) => Some(Session::TooLarge),
-            Err(Unwritten::WriteFault) => Some(Session::WriteFault),
-            Err(Unwritten::NoMemory) => Some(Session::NoMemory),
+            Err(_) => Some(Session::WriteFault),
         },
         Incoming::ReadFault => Some(Session::ReadFault),
     }

@@ -7,7 +7,7 @@ use Rattle.cat_cli.proofs.answer.answer.Goals as goal
 pub returns-else-closes-clause-on : goal.returns-else-closes-clause-on
 returns-else-closes-clause-on g c k p rest asked =
     let replies = rw (c.is_last.ensures, c.closes-closes.ensures, c.is_head.ensures) at c.in-Ok.ensures.reply in
-    let t = made c.args.desk.now k p c.args.left c.args.request.now rest _ c.args.pass.now _ _ _ _ _ _ asked c.said_to-said.ensures.says replies in (
+    let t = made c.args.desk.now k p c.args.left c.args.request.now rest _ c.args.pass.now _ _ _ _ _ asked c.said_to-said.ensures.says replies in (
       t.0,
       record {
         answered = t.1.answered;
@@ -22,7 +22,7 @@ returns-else-closes-clause-on g c k p rest asked =
 pub returns-then-closes-clause-ends : goal.returns-then-closes-clause-ends
 returns-then-closes-clause-ends g c k p rest asked =
     let replies = rw (c.is_last.ensures, c.closes-closes.ensures, c.is_head.ensures) at c.in-Ok.ensures.reply in
-    let t = made c.args.desk.now k p c.args.left c.args.request.now rest _ c.args.pass.now _ _ _ _ _ _ asked c.said_to-said.ensures.says replies in (
+    let t = made c.args.desk.now k p c.args.left c.args.request.now rest _ c.args.pass.now _ _ _ _ _ asked c.said_to-said.ensures.says replies in (
       _,
       appended _ _ p.written _ asked.held_is c.in-Ok-send.ensures.ok,
       t.0.after.standing,
@@ -41,7 +41,7 @@ returns-then-closes-clause-ends g c k p rest asked =
 pub returns-in-Err-send-clause-ends : goal.returns-in-Err-send-clause-ends
 returns-in-Err-send-clause-ends g c k p rest asked =
     let replies = rw (c.is_last.ensures, c.closes-closes.ensures, c.is_head.ensures) at c.in-Ok.ensures.reply in
-    let t = made c.args.desk.now k p c.args.left c.args.request.now rest _ c.args.pass.now _ _ _ _ _ _ asked c.said_to-said.ensures.says replies in
+    let t = made c.args.desk.now k p c.args.left c.args.request.now rest _ c.args.pass.now _ _ _ _ _ asked c.said_to-said.ensures.says replies in
     let front = c.in-Err-send.ensures.front in (
       _,
       appended _ _ p.written _ asked.held_is front.1,
@@ -51,4 +51,4 @@ returns-in-Err-send-clause-ends g c k p rest asked =
     )
 
 pub returns-in-Err-clause-ends : goal.returns-in-Err-clause-ends
-returns-in-Err-clause-ends g c k p rest asked = untold c.args.desk.now k p c.args.left c.args.request.now rest c.args.pass.now _ _ _ _ _ _ asked c.said_to-said.ensures.says
+returns-in-Err-clause-ends g c k p rest asked = untold c.args.desk.now k p c.args.left c.args.request.now rest c.args.pass.now _ _ _ _ _ asked c.said_to-said.ensures.says c.in-Err.ensures.untold

@@ -9,9 +9,8 @@ returns-in-Ok-Read-clause-says g c k s at =
 pub returns-in-Ok-Change-clause-says : goal.returns-in-Ok-Change-clause-says
 returns-in-Ok-Change-clause-says g c k s at =
     let wants = rw c.in-Ok-Change.field-0-is at c.in-Ok-Change.ensures.wanted in
-    let answers = c.call-told.ensures.answers in
-    from_change c.args.desk.now k s c.args.request.now c.in-Ok-Change.command c.args.pass.now _ _ _ answers.0 c.call-told.result _ at wants c.call-told.ensures.kept c.call-told.ensures.ready answers.1 answers.3
-    c.change_stands-stands.ensures
+    let answers = c.call.ensures.answers in
+    from_change c.args.desk.now k s c.args.request.now c.in-Ok-Change.command c.args.pass.now _ _ _ answers.0 c.call.result at wants c.call.ensures.kept c.call.ensures.ready answers.1 answers.3
 
 pub returns-in-Err-clause-says : goal.returns-in-Err-clause-says
 returns-in-Err-clause-says g c k s at = from_refusal c.args.desk.now k s c.args.request.now c.args.pass.now _ c.in-Err.refused at c.in-Err.ensures.wanted

@@ -20,6 +20,7 @@ returns-in-Ok-clause-ends g c clock b w a e f =
       x.3,
       left_so g.K0.Keeper.down g.K0.Keeper.in_flight c.in-Ok.desk clock x.2 c.run_session-end.new.pass _ c.release-store.result x.4 c.release-store.ensures.book c.release-store.ensures.mark
           c.log_is_kept.ensures.fallen c.log_is_kept.ensures.flies,
+      x.4.to_come,
     )
 
 pub returns-in-Ok-clause-rose : goal.returns-in-Ok-clause-rose

@@ -1,4 +1,4 @@
-use Rattle.std.proofs.Common.{Err, refl, ap, inl, inr}
+use Rattle.std.proofs.Common.{refl, inl, inr}
 use Rattle.cat_http.specs.declared.buffer.Incoming.TheVariants as incoming
 use Rattle.cat_cli.specs.declared.ending.Session.TheVariants as ends
 use Rattle.cat_cli.proofs.Reading.{asked, at_end, cut_short, goes_to, map_none, map_some, read_is, told_front, told_refused}
@@ -25,20 +25,22 @@ returns-in-Ok-clause-ends g c k p one stands =
     let r = read_is incoming.BadHead (g.S.Source.left c.args.source.now) (g.S.Source.left c.read_request.new.source) c.args.buffer.now c.read_request.new.buffer p.bytes c.in-BadHead.ensures.is stands.bytes_are in
     told_refused c.args.desk.now k p c.args.left _ _ ends.BadHead _ _ _ _ _ (λ h last x. x) one r.1.is_so stands c.in-Ok.ensures.written
 
-pub returns-in-Err-WriteFault-clause-ends : goal.returns-in-Err-WriteFault-clause-ends
-returns-in-Err-WriteFault-clause-ends g c k p one stands =
+pub returns-in-Err-clause-ends : goal.returns-in-Err-clause-ends
+returns-in-Err-clause-ends g c k p one stands =
     let r = read_is incoming.BadHead (g.S.Source.left c.args.source.now) (g.S.Source.left c.read_request.new.source) c.args.buffer.now c.read_request.new.buffer p.bytes c.in-BadHead.ensures.is stands.bytes_are in
-    told_front c.args.desk.now k p _ _ _ _ _ _ (inr (inl (r.1.is_so, refl, refl))) stands (c.in-Err-WriteFault.ensures.cut (ap Err c.in-Err-WriteFault.field-0-is))
+    let cut = c.in-Err.ensures.cut in
+    told_front c.args.desk.now k p cut.0 _ _ _ _ _ (inr (inl (r.1.is_so, cut.1, refl))) stands cut.2
 
 pub returns-in-Ok-refuse-clause-ends : goal.returns-in-Ok-refuse-clause-ends
 returns-in-Ok-refuse-clause-ends g c k p one stands =
     let r = read_is incoming.TooLarge (g.S.Source.left c.args.source.now) (g.S.Source.left c.read_request.new.source) c.args.buffer.now c.read_request.new.buffer p.bytes c.in-TooLarge.ensures.is stands.bytes_are in
     told_refused c.args.desk.now k p c.args.left _ _ ends.TooLarge _ _ _ _ _ (λ h last x. x) one r.1.is_so stands c.in-Ok-refuse.ensures.written
 
-pub returns-in-Err-WriteFault-refuse-clause-ends : goal.returns-in-Err-WriteFault-refuse-clause-ends
-returns-in-Err-WriteFault-refuse-clause-ends g c k p one stands =
+pub returns-in-Err-refuse-clause-ends : goal.returns-in-Err-refuse-clause-ends
+returns-in-Err-refuse-clause-ends g c k p one stands =
     let r = read_is incoming.TooLarge (g.S.Source.left c.args.source.now) (g.S.Source.left c.read_request.new.source) c.args.buffer.now c.read_request.new.buffer p.bytes c.in-TooLarge.ensures.is stands.bytes_are in
-    told_front c.args.desk.now k p _ _ _ _ _ _ (inr (inr (r.1.is_so, refl, refl))) stands (c.in-Err-WriteFault-refuse.ensures.cut (ap Err c.in-Err-WriteFault-refuse.field-0-is))
+    let cut = c.in-Err-refuse.ensures.cut in
+    told_front c.args.desk.now k p cut.0 _ _ _ _ _ (inr (inr (r.1.is_so, cut.1, refl))) stands cut.2
 
 pub returns-in-ReadFault-clause-ends : goal.returns-in-ReadFault-clause-ends
 returns-in-ReadFault-clause-ends g c k p one stands = cut_short c.args.desk.now k p _ _ _ _ stands
