@@ -66,12 +66,15 @@ fn replies(alloc: Global, bytes: &[u8]) -> Result<Vec<&[u8]>, AllocError> {
     let mut start = 0;
     for at in 1..bytes.len() {
         if bytes[at..].starts_with(STATUS_LINE) {
-            found.push(&bytes[start..at])?;
+            if let Some(reply) = bytes.get(start..at) {
+                found.push(reply)?;
+            }
             start = at;
         }
     }
-    if bytes[start..].starts_with(STATUS_LINE) {
-        found.push(&bytes[start..])?;
+    match bytes.get(start..) {
+        Some(last) if last.starts_with(STATUS_LINE) => found.push(last)?,
+        _ => {}
     }
     Ok(found)
 }
