@@ -11,18 +11,24 @@ use cat_core::StoreFault;
 use cat_io::Sink;
 use cat_journal::OpenFault;
 use std::alloc::{AllocError, Global};
+use thiserror::Error;
 
 /// Why a journal isn't opened.
-#[derive(Clone, Copy, Debug, PartialEq, Eq)]
+#[derive(Clone, Copy, Debug, PartialEq, Eq, Error)]
 pub(crate) enum Unopened {
     /// The disk failed, or the disks did.
+    #[error("the disk failed")]
     Fault,
     /// It has another version.
+    #[error("the journal is of version {0}")]
     Version(u32),
     /// The offset of the first damage.
+    #[error("the journal is damaged at offset {0}")]
     Damaged(u64),
     /// The place of the first entry that isn't legal.
+    #[error("the entry at place {0} may not stand there")]
     Illegal(u64),
+    #[error("memory ran out")]
     NoMemory,
 }
 

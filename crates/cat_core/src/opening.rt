@@ -11,16 +11,20 @@ use cat_keeper::{KeepFault, Keeper};
 use cat_ledger::Ledger;
 use cat_model::limits::Limits;
 use std::alloc::Global;
+use thiserror::Error;
 
 /// Why a store wasn't opened.
-#[derive(Clone, Copy, Debug, PartialEq, Eq)]
+#[derive(Clone, Copy, Debug, PartialEq, Eq, Error)]
 pub enum StoreFault {
     /// A fault of the keeper, which it counted.
+    #[error("the keeper failed")]
     Fault,
     /// The payload at this place, the first from 1, is the first that is no entry or may not follow
     /// those before it.
+    #[error("the entry at place {0} may not stand there")]
     Illegal(u64),
     /// Memory ran out.
+    #[error("memory ran out")]
     NoMemory,
 }
 

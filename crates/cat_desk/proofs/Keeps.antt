@@ -17,11 +17,12 @@ use Rattle.cat_model.specs.TurnLaws.{grows_self, grows_on, stays_self, stays_on}
 use Rattle.cat_desk.specs.Sight.{Origin, Stage, Idle, Making, Waiting, Called, Holding, Leaving, View}
 use Rattle.cat_desk.specs.Log.{Follows, Missed, Since}
 use Rattle.cat_desk.specs.Marks.{Linked, IsGiven, AreGiven}
-use Rattle.cat_desk.specs.Rule.{Place, home, unborn, out, IsLive, IsBusy, IsServed, IsAlone, IsMaking, IsUnborn, tickets_of, total, queue, weight, Fits, Turned, SomeoneSaw, Stands, Kept, at_stage, waiting, knowing, drew, called, served, met, unnumbered, finding, leaving, Begins, Found, TookAt, took, gave}
+use Rattle.cat_desk.specs.Rule.{Place, home, out, IsLive, IsBusy, IsServed, IsAlone, IsMaking, IsUnborn, tickets_of, total, queue, weight, Fits, Turned, SomeoneSaw, Stands, Kept, at_stage, waiting, knowing, drew, called, served, met, unnumbered, finding, leaving, Begins, Found, TookAt, took, gave}
 use Rattle.cat_desk.proofs.Logs.{missed_none, missed_follows, missed_more, adds_longer, since_more, since_next}
 use Rattle.cat_desk.proofs.Marks.{linked_self, linked_more, given_more, are_given_more}
 use Rattle.cat_desk.proofs.Totals.{total_set, total_le, two_of}
-use Rattle.cat_desk.proofs.Seats.{alone_served, making_served, served_busy, busy_live, one_ticket, is_live, served_ticket, set_there, same_some, three_words, seats_stay, same_view, turned_stay}
+use Rattle.cat_desk.proofs.Standing.{stands_stay, stands_at, home_at, unborn_at}
+use Rattle.cat_desk.proofs.Seats.{alone_served, making_served, served_busy, busy_live, one_ticket, is_live, served_ticket, set_there, same_some, three_words, seats_stay, same_view}
 
 module _ {V : Type 0} (log : V → List LogEntry) (opened : V → Opened) (legal : Opened → List LogEntry → Type 0) (mark : V → Mark) (left_open : V → Open) (key : V) where
   abbrev pub St : Type 0
@@ -36,37 +37,9 @@ module _ {V : Type 0} (log : V → List LogEntry) (opened : V → Opened) (legal
   abbrev pub word_at : St → ℕ → ℕ
   word_at s i = get_or s.words i 0
 
-  abbrev pub Stand : List LogEntry → Mark → Open → ℕ → List (Maybe (Option V)) → List View → Place V → Type 0
-  Stand = Stands log opened mark left_open (opened key)
-
   -- what the rule says of the seat j
   abbrev pub Fit : (s : St) → Rule s → ℕ → View → Type 0
   Fit s r j d = Fits (opened key, log key) r.all r.tickets (word_at s 2) r.next r.keeper r.owner r.named (IsUnborn r.place) r.last r.marks r.opens j d
-
-  pub stands_stay : (all : List LogEntry) (now : Mark) (op : Open) (o : ℕ) (hs : List (Maybe (Option V))) (vs : List View) (me : ℕ) (v w : View) (p : Place V) → get_elem? vs me ≡ some v → ¬ IsAlone v.stage → Stand all now op o hs vs p → Stand all now op o hs (set vs me w) p
-  stands_stay all now op o hs vs me v w (home x) here n s = s
-  stands_stay all now op o hs vs me v w unborn here n s = (s.0, turned_stay vs o me v w Making here (λ e. n (subst IsAlone (sym e) tt)) s.1)
-  stands_stay all now op o hs vs me v w out here n s = turned_stay vs o me v w Holding here (λ e. n (subst IsAlone (sym e) tt)) s
-
-  stands_at : (all : List LogEntry) (now : Mark) (op : Open) (o o' : ℕ) (hs : List (Maybe (Option V))) (vs : List View) (p : Place V) → ((st : Stage) → IsAlone st → Turned vs o st → o' ≡ o) → Stand all now op o hs vs p → Stand all now op o' hs vs p
-  stands_at all now op o o' hs vs (home x) same s = s
-  stands_at all now op o o' hs vs unborn same s = (s.0, subst (λ (k : ℕ). Turned vs k Making) (sym (same Making tt s.1)) s.1)
-  stands_at all now op o o' hs vs out same s = subst (λ (k : ℕ). Turned vs k Holding) (sym (same Holding tt s)) s
-
-  pub not_alone : (vs : List View) (o me : ℕ) (v : View) (st : Stage) → get_elem? vs me ≡ some v → o ≡ me → ¬ IsAlone v.stage → IsAlone st → Turned vs o st → ⊥
-  not_alone vs o me v st here e n a t = n (subst IsAlone (sym (ap (λ (x : View). x.stage) (same_view vs o me v t.0 here t.1 e) ∙ t.2)) a)
-
-  -- in its turn, a seat that has not taken the value finds it at home
-  home_at : (all : List LogEntry) (now : Mark) (op : Open) (o : ℕ) (hs : List (Maybe (Option V))) (vs : List View) (me : ℕ) (v : View) (p : Place V) → get_elem? vs me ≡ some v → o ≡ me → ¬ IsAlone v.stage → Stand all now op o hs vs p
-      → (x : V) × (get_elem? hs 0 ≡ some (some (Some x))) × (log x ≡ all) × (opened x ≡ opened key) × (mark x ≡ now) × (left_open x ≡ op)
-  home_at all now op o hs vs me v (home x) here e n s = (x, s.0, s.1, s.2, s.3, s.4)
-  home_at all now op o hs vs me v unborn here e n s = absurd (not_alone vs o me v Making here e n tt s.1)
-  home_at all now op o hs vs me v out here e n s = absurd (not_alone vs o me v Holding here e n tt s)
-
-  unborn_at : (all : List LogEntry) (now : Mark) (op : Open) (o : ℕ) (hs : List (Maybe (Option V))) (vs : List View) (p : Place V) → IsUnborn p → Stand all now op o hs vs p → get_elem? hs 0 ≡ some (some None)
-  unborn_at all now op o hs vs (home x) f s = absurd f
-  unborn_at all now op o hs vs unborn f s = s.0
-  unborn_at all now op o hs vs out f s = absurd f
 
   -- only one seat has the turn
   other_turn : (s : St) (r : Rule s) (j me : ℕ) (d : View) → j ≢ me → r.owner (word_at s 2) ≡ me → Fit s r j d → ¬ IsServed d.stage
@@ -97,7 +70,7 @@ module _ {V : Type 0} (log : V → List LogEntry) (opened : V → Opened) (legal
       → length ws ≡ 3 → get_or ws 0 0 ≡ length all → length all < 4294967296 → get_or ws 1 0 ≡ tickets % 18446744073709551616 → (total queue (set s.views id w) + get_or ws 2 0 ≡ tickets) → legal (opened key) all → Since r.next (log key) all
       → Fits (opened key, log key) all tickets (get_or ws 2 0) r.next r.keeper owner r.named (IsUnborn place) last marks opens id w
       → ((j : ℕ) (d : View) → j ≢ id → get_elem? s.views j ≡ some d → IsLive d.stage → Fits (opened key, log key) all tickets (get_or ws 2 0) r.next r.keeper owner r.named (IsUnborn place) last marks opens j d)
-      → SomeoneSaw (set s.views id w) all last → Stand all (marks last) opens (owner (get_or ws 2 0)) hs (set s.views id w) place
+      → SomeoneSaw (set s.views id w) all last → Stands log opened mark left_open (opened key) all (marks last) opens (owner (get_or ws 2 0)) hs (set s.views id w) place
       → Rule record { words = ws; homes = hs; views = set s.views id w }
   step_to s r id v w ws hs all tickets owner place last marks opens grows first_mark mark_given opens_given here live same three count small drawn queued ok since mine others longest stands = record {
     all = all;
@@ -140,7 +113,7 @@ module _ {V : Type 0} (log : V → List LogEntry) (opened : V → Opened) (legal
       → Rule (stepped s i (word_at s i) me cs w keeps)
   unmoved s r i me cs v w here live heavy same seen turned n mine = subst (λ (ws : List ℕ). Rule record { words = ws; homes = s.homes; views = set s.views me w }) (sym (set-get_or s.words i 0))
       (step_to s r me v w s.words s.homes r.all r.tickets r.owner r.place r.last r.marks r.opens r.grows r.first_mark r.mark_given r.opens_given here live heavy r.three r.count r.small r.drawn (queue_stays s r me v w here same) r.is_legal r.since mine (λ j d _. r.each j d)
-      (someone_stays s r me v w here live seen turned) (stands_stay r.all (r.marks r.last) r.opens (r.owner (word_at s 2)) s.homes s.views me v w r.place here n r.stands))
+      (someone_stays s r me v w here live seen turned) (stands_stay log opened mark left_open key r.all (r.marks r.last) r.opens (r.owner (word_at s 2)) s.homes s.views me v w r.place here n r.stands))
 
   -- a load that moves no slot, and leaves the view as it is
   looked_on : (s : St) (r : Rule s) (i me : ℕ) (cs : List (ℕ × Option V)) (v : View) → get_elem? s.views me ≡ some v → IsLive v.stage → ¬ IsAlone v.stage → Rule (stepped s i (word_at s i) me cs v keeps)
@@ -180,8 +153,8 @@ module _ {V : Type 0} (log : V → List LogEntry) (opened : V → Opened) (legal
               marked = g.marked;
             })
             (someone_stays s r id v w here tt refl refl)
-            (stands_stay r.all (r.marks r.last) r.opens (o (word_at s 2)) s.homes s.views id v w r.place here n
-            (stands_at r.all (r.marks r.last) r.opens (r.owner (word_at s 2)) (o (word_at s 2)) s.homes s.views r.place (λ st a turned. let lt : word_at s 2 < t = turned_below s r st a turned in else_at (word_at s 2) (λ e. omega arith)) r.stands))),
+            (stands_stay log opened mark left_open key r.all (r.marks r.last) r.opens (o (word_at s 2)) s.homes s.views id v w r.place here n
+            (stands_at log opened mark left_open key r.all (r.marks r.last) r.opens (r.owner (word_at s 2)) (o (word_at s 2)) s.homes s.views r.place (λ st a turned. let lt : word_at s 2 < t = turned_below s r st a turned in else_at (word_at s 2) (λ e. omega arith)) r.stands))),
         (refl, (t, refl, now)),
       )
 
@@ -276,7 +249,7 @@ module _ {V : Type 0} (log : V → List LogEntry) (opened : V → Opened) (legal
   pub takes_value : (slots id : ℕ) (me : M) → me.0.stage ≡ Called → me.1 ≡ [] → Allows Rule slots id me 0 (λ n. n) (λ _. took log opened legal mark left_open me)
   takes_value slots id me is none_held s r len here below = let v : View = me.0 in let sv : IsServed v.stage = subst IsServed (sym is) tt in
       let f = r.each id v here (subst IsLive (sym is) tt) in let turn = my_turn s r id v f sv in
-      let h = home_at r.all (r.marks r.last) r.opens (r.owner (word_at s 2)) s.homes s.views id v r.place here turn (λ a. subst IsAlone is a) r.stands in let x : V = h.0 in
+      let h = home_at log opened mark left_open key r.all (r.marks r.last) r.opens (r.owner (word_at s 2)) s.homes s.views id v r.place here turn (λ a. subst IsAlone is a) r.stands in let x : V = h.0 in
       let most : length (log x) ≤ length r.all = subst (λ l. length (log x) ≤ length l) h.2 (le_refl (length (log x))) in (
         finding v (log x) (mark x) (left_open x) r.last,
         takes 0 (Some x),
@@ -308,7 +281,7 @@ module _ {V : Type 0} (log : V → List LogEntry) (opened : V → Opened) (legal
       let f = r.each id v here (subst IsLive (sym is) tt) in let a : IsAlone v.stage = subst IsAlone (sym is) tt in (
         at_stage v Holding,
         takes 0 None,
-        unborn_at r.all (r.marks r.last) r.opens (r.owner (word_at s 2)) s.homes s.views r.place (f.in_line.making (subst IsMaking (sym is) tt)) r.stands,
+        unborn_at log opened mark left_open key r.all (r.marks r.last) r.opens (r.owner (word_at s 2)) s.homes s.views r.place (f.in_line.making (subst IsMaking (sym is) tt)) r.stands,
         taken s r id me.1 v None v.seen v.known v.mark v.found v.turn here sv (f.in_line.alone a) f.saw.least f.saw.most (f.marked.mark ∙ ap r.marks (f.marked.whole a).0) (f.marked.whole a).1 (f.marked.whole a).0,
         subst (TookAt log opened legal mark left_open me (at_stage v Holding, (0, None) ∷ me.1)) (sym is) (ap (λ l. (0, None) ∷ l) none_held, refl),
       )
@@ -390,7 +363,7 @@ module _ {V : Type 0} (log : V → List LogEntry) (opened : V → Opened) (legal
   pub serves : (slots id : ℕ) (me : M) (n : ℕ) → me.0.stage ≡ Leaving → n ≡ me.0.ticket + 1 → Allows Rule slots id me 2 (λ _. n) (λ _. served me)
   serves slots id me n is next s r len here below = let v : View = me.0 in let w : View = at_stage v Idle in let sv : IsServed v.stage = subst IsServed (sym is) tt in
       let f = r.each id v here (subst IsLive (sym is) tt) in let turn = my_turn s r id v f sv in
-      let h = home_at r.all (r.marks r.last) r.opens (r.owner (word_at s 2)) s.homes s.views id v r.place here turn (λ a. subst IsAlone is a) r.stands in
+      let h = home_at log opened mark left_open key r.all (r.marks r.last) r.opens (r.owner (word_at s 2)) s.homes s.views id v r.place here turn (λ a. subst IsAlone is a) r.stands in
       let l = f.in_line.has_ticket (served_busy v.stage sv) in let now : v.ticket ≡ word_at s 2 = f.in_line.served sv in
       let moved : total queue (set s.views id w) + tickets_of v.stage ≡ total queue s.views + 0 = total_set queue s.views id v w here in let one_held : tickets_of v.stage ≡ 1 = ap tickets_of is in
       let was : total queue s.views + word_at s 2 ≡ r.tickets = r.queued in (

@@ -24,7 +24,8 @@ use Rattle.cat_desk.specs.Rule.{Place, home, unborn, out, IsLive, IsAlone, IsUnb
 use Rattle.cat_desk.proofs.Logs.{missed_later, missed_next, missed_longer, since_later, since_longer, longer_first, longer_second, longer_bound, whole}
 use Rattle.cat_desk.proofs.Totals.{total_set, total_snoc}
 use Rattle.cat_desk.proofs.Seats.{alone_served, served_busy, busy_live, set_there, seats_stay, same_view}
-use Rattle.cat_desk.proofs.Keeps.{stands_stay, Rule, St, word_at, only_one, saw_all}
+use Rattle.cat_desk.proofs.Standing.{stands_stay}
+use Rattle.cat_desk.proofs.Keeps.{Rule, St, word_at, only_one, saw_all}
 
 at_snoc_at : (l : List View) (a b : View) (j : ℕ) → get_elem? (l ++ a ∷ []) j ≡ some b → (get_elem? l j ≡ some b) ⊎ ((j ≡ length l) × (a ≡ b))
 at_snoc_at [] a b zero e = inr (refl, some-injective a b e)
@@ -127,7 +128,7 @@ module _ {V : Type 0} (log : V → List LogEntry) (opened : V → Opened) (legal
             (λ e. (id, l, at_longer vs (a ∷ []) id l (set_there s.views id l v here), live, ap (λ (x : View). x.seen) (same_view s.views t.0 id v t.1 here t.2 e) ∙ t.4, ap (λ (x : View). x.turn) (same_view s.views t.0 id v t.1 here t.2 e) ∙ t.5))
             (λ ne. (t.0, t.1, at_longer vs (a ∷ []) t.0 t.1 (set_else s.views id t.0 l ne ∙ t.2), t.3, t.4, t.5));
         stands = stands_longer r.all (r.marks r.last) r.opens (r.owner (word_at log opened legal mark left_open key s 2)) s.homes vs a r.place
-            (stands_stay log opened legal mark left_open key r.all (r.marks r.last) r.opens (r.owner (word_at log opened legal mark left_open key s 2)) s.homes s.views id v l r.place here (λ x. subst IsAlone idle x) r.stands);
+            (stands_stay log opened mark left_open key r.all (r.marks r.last) r.opens (r.owner (word_at log opened legal mark left_open key s 2)) s.homes s.views id v l r.place here (λ x. subst IsAlone idle x) r.stands);
       }
 
   pub joins : (id : ℕ) (v : View) (other : ℕ) (w : View) → v.stage ≡ Idle → w.stage ≡ Idle → Joins (Rule log opened legal mark left_open key) id v other w (joined v w) nobody
@@ -216,8 +217,8 @@ module _ {V : Type 0} (log : V → List LogEntry) (opened : V → Opened) (legal
             (λ ne. dite (ℕ_discrete t.0 other)
             (λ e. by_length (subst (λ (x : View). length x.seen ≤ length (longer v.seen w.seen)) (same_view s.views t.0 other w t.1 was_there t.2 e) (longer_second v.seen w.seen)) (let o : w.turn ≡ r.last = ap (λ (x : View). x.turn) (same_view s.views t.0 other w t.1 was_there t.2 e) ∙ t.5 in omega arith))
             (λ nor. (t.0, t.1, set_else vs other t.0 nobody nor ∙ (set_else s.views id t.0 b ne ∙ t.2), t.3, t.4, t.5)));
-        stands = stands_stay log opened legal mark left_open key r.all (r.marks r.last) r.opens (r.owner (word_at log opened legal mark left_open key s 2)) s.homes vs other w nobody r.place there (λ x. subst IsAlone wi x)
-            (stands_stay log opened legal mark left_open key r.all (r.marks r.last) r.opens (r.owner (word_at log opened legal mark left_open key s 2)) s.homes s.views id v b r.place here (λ x. subst IsAlone vi x) r.stands);
+        stands = stands_stay log opened mark left_open key r.all (r.marks r.last) r.opens (r.owner (word_at log opened legal mark left_open key s 2)) s.homes vs other w nobody r.place there (λ x. subst IsAlone wi x)
+            (stands_stay log opened mark left_open key r.all (r.marks r.last) r.opens (r.owner (word_at log opened legal mark left_open key s 2)) s.homes s.views id v b r.place here (λ x. subst IsAlone vi x) r.stands);
       }
 
   -- once a pass stands for all, no other is left

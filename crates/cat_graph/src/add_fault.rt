@@ -1,13 +1,16 @@
 //! Why a commit was not added.
 
 use cat_codes::fault::NoMemory;
+use thiserror::Error;
 
 /// Why a commit was not added.
-#[derive(Clone, Copy, Debug, PartialEq, Eq)]
+#[derive(Clone, Copy, Debug, PartialEq, Eq, Error)]
 pub enum AddFault {
     /// Another commit has the hash.
+    #[error("another commit has the hash")]
     Collision,
     /// Memory ran out.
+    #[error("memory ran out")]
     NoMemory,
 }
 

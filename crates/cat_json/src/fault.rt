@@ -5,13 +5,16 @@ ghost use Rattle.cat_json.specs.declared.fault.JsonFault.TheVariants.{NoMemory};
 
 use cat_codes::fault;
 use std::alloc::{AllocError, AllocFailed};
+use thiserror::Error;
 
 /// Why nothing was read.
-#[derive(Clone, Copy, Debug, PartialEq, Eq)]
+#[derive(Clone, Copy, Debug, PartialEq, Eq, Error)]
 pub enum JsonFault {
     /// The form has no value for the data, or the bytes aren't JSON.
+    #[error("the bytes aren't JSON, or not of the form")]
     Bad,
     /// Memory ran out.
+    #[error("memory ran out")]
     NoMemory,
 }
 

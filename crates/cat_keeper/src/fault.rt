@@ -2,15 +2,19 @@
 
 use cat_codes::fault::NoMemory;
 use std::alloc::{AllocError, AllocFailed};
+use thiserror::Error;
 
 /// Why a keeper didn't do a call.
-#[derive(Clone, Copy, Debug, PartialEq, Eq)]
+#[derive(Clone, Copy, Debug, PartialEq, Eq, Error)]
 pub enum KeepFault {
     /// A fault, which was counted.
+    #[error("the keeper failed")]
     Fault,
     /// An append failed before, at this count of faults.
+    #[error("an append failed before, at {0} faults")]
     Down(u64),
     /// Memory ran out.
+    #[error("memory ran out")]
     NoMemory,
 }
 

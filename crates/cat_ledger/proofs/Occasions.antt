@@ -1,5 +1,5 @@
 -- Calls on occasions: those that are made, and those of entries that are made again.
-use Rattle.std.proofs.Common.{◌≡◌, ◌≤◌, ◌<◌, ℕ, ◌+◌, max, [], Some, None, Ok, Err, Result, Bool, true, false, not, if◌then◌else◌, nat_eq, nat_lt, refl, sym, ap, subst, ◌∙◌, arith}
+use Rattle.std.proofs.Common.{◌≡◌, ◌<◌, ℕ, ◌+◌, max, [], Some, None, Ok, Err, Result, Bool, true, false, not, if◌then◌else◌, nat_eq, nat_lt, refl, ap, subst, ◌∙◌, arith}
 use Rattle.std.proofs.lemmas.Bool.Decides.{nat_tests}
 use Rattle.std.proofs.Math.Nat.{max-zero}
 use Rattle.sha2.specs.Sha256.{sha256}
@@ -12,17 +12,16 @@ use Rattle.cat_model.specs.Calls.{Called, call, needs_draft, opened_call, steppe
 use Rattle.cat_model.specs.Refusing.{◌>>=◌, Outcome, Tested}
 use Rattle.cat_model.specs.State.{State}
 use Rattle.cat_model.specs.Step as steps
-use Rattle.cat_model.specs.Step.{opening, opens_draft, step}
+use Rattle.cat_model.specs.Step.{opening, opens_draft}
 use Rattle.cat_checks.specs.Legal.{has_its_draft, replayed_by, replayed_call}
 use Rattle.cat_state.specs.declared.failure.Failure.TheVariants as failures
 use Rattle.cat_ledger.specs.declared.logging.Turn.{Turn}
 use Rattle.cat_ledger.specs.declared.occasion.Occasion.{Occasion}
 use Rattle.cat_ledger.specs.declared.unmade.Unmade.{Unmade}
 use Rattle.cat_ledger.specs.declared.unmade.Unmade.TheVariants.{Failed, NotKept}
-use Rattle.cat_ledger.specs.Making.{Makes, Runs}
+use Rattle.cat_ledger.specs.Making.{Runs}
 use Rattle.cat_ledger.specs.Occasions.{begun, made_on, opened_on, turn_on, turned, turned_step}
 use Rattle.cat_ledger.specs.Remaking.{Remakes}
-use Rattle.cat_ledger.proofs.Called.{turned_draft}
 
 -- ---- calls that are made
 
@@ -44,31 +43,6 @@ by_tests caller moment book command (Ok u) = by_draft caller moment book command
 pub call_is : (caller moment : ℕ) (book : Book) (command : Command) → made_on book (now caller moment) command ≡ call_on sha256 caller book command moment
 unfolding made_on call
 call_is caller moment book command = by_tests caller moment book command (opening sha256 book.state command >>= λ _. needs_draft book.state book.draft (opens_draft command))
-
-at_most_next : (caller moment : ℕ) (book : Book) (b : Bool) → (turn_on book (now caller moment) b).draft ≤ book.draft + 1
-at_most_next caller moment book true = omega arith
-at_most_next caller moment book false = omega arith
-
-greatest : (a b : ℕ) → b ≤ a + 1 → max a b ≤ a + 1
-greatest a b h = omega (arith, h)
-
-takes_by : (book : Book) (turn : Turn) (command : Command) (t : Tested) → turn.draft ≤ book.draft + 1 → (opened_on book turn command t).draft ≤ book.draft + 1
-takes_by book turn command (Err why) h = omega arith
-takes_by book turn command (Ok u) h = subst (λ (n : ℕ). n ≤ book.draft + 1) (sym (turned_draft book turn command)) (greatest book.draft turn.draft h)
-
-takes_one : (caller moment : ℕ) (book : Book) (command : Command) → (made_on book (now caller moment) command).draft ≤ book.draft + 1
-unfolding made_on
-takes_one caller moment book command = takes_by book (turn_on book (now caller moment) (opens_draft command)) command (opening sha256 book.state command >>= λ _. needs_draft book.state book.draft (opens_draft command)) (at_most_next caller moment book (opens_draft command))
-
-makes : (called : Called) (before after : Book) (result : Result Told Unmade) → called.draft ≤ before.draft + 1 → Runs called before after result → Makes called before after result
-makes called before after (Ok told) few runs = runs
-makes called before after (Err NotKept) few runs = runs
-makes called before after (Err (Failed failures.NoMemory)) few runs = record { place = refl; state = runs.state; log = runs.log; draft_kept = runs.kept; draft_taken = omega (arith, few, runs.taken) }
-makes called before after (Err (Failed (failures.Refused why))) few runs = runs
-
-pub makes_call : (caller moment : ℕ) (before after : Book) (command : Command) (result : Result Told Unmade) → Runs (made_on before (now caller moment) command) before after result → Makes (call_on sha256 caller before command moment) before after result
-makes_call caller moment before after command result runs =
-    subst (λ (c : Called). Makes c before after result) (call_is caller moment before command) (makes (made_on before (now caller moment) command) before after result (takes_one caller moment before command) runs)
 
 pub runs_call : (caller moment : ℕ) (before after : Book) (command : Command) (result : Result Told Unmade) → Runs (made_on before (now caller moment) command) before after result → Runs (call_on sha256 caller before command moment) before after result
 runs_call caller moment before after command result runs = subst (λ (c : Called). Runs c before after result) (call_is caller moment before command) runs

@@ -9,7 +9,7 @@ use Rattle.cat_model.specs.declared.refusal.Refused.{Refused}
 use Rattle.cat_model.specs.declared.reply.Reply.{Reply}
 use Rattle.cat_model.specs.declared.reply.Reply.TheVariants as replies
 use Rattle.cat_model.specs.declared.reply.Told.{Told}
-use Rattle.cat_model.specs.Book.{Book, IsCalled, IsGivenUp}
+use Rattle.cat_model.specs.Book.{Book, IsCalled}
 use Rattle.cat_model.specs.Calls.{Called}
 use Rattle.cat_model.specs.Refusing.{Outcome}
 use Rattle.cat_model.specs.State.{State}
@@ -111,10 +111,3 @@ Runs called before after (Ok told) = IsCalled called before after (Ok told)
 Runs called before after (Err NotKept) = IsNotKept called before after
 Runs called before after (Err (Failed failures.NoMemory)) = IsSpared called before after
 Runs called before after (Err (Failed (failures.Refused why))) = IsOther why × IsCalled called before after (Err (record { place = Some before.state.place; why = why }))
-
--- what making a call returned and left, against what the call brings, unless memory ran out
-abbrev pub Makes : Called → Book → Book → Result Told Unmade → Type 0
-Makes called before after (Ok told) = IsCalled called before after (Ok told)
-Makes called before after (Err NotKept) = IsNotKept called before after
-Makes called before after (Err (Failed failures.NoMemory)) = IsGivenUp before after (record { place = None; why = refusals.NoMemory })
-Makes called before after (Err (Failed (failures.Refused why))) = IsOther why × IsCalled called before after (Err (record { place = Some before.state.place; why = why }))

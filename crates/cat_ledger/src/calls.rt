@@ -8,7 +8,7 @@ ghost use Rattle.cat_model.specs.WellMade.{is_well_made};
 ghost use Rattle.cat_state.specs.Adding.{IsAbove};
 ghost use Rattle.cat_plans.specs.Expiring.{fails_expired, is_expired};
 ghost use Rattle.cat_ledger.specs.Kept.{Keeps};
-ghost use Rattle.cat_ledger.specs.Making.{Makes, Runs, refused_at, unmade_expired};
+ghost use Rattle.cat_ledger.specs.Making.{Runs, refused_at, unmade_expired};
 ghost use Rattle.cat_ledger.specs.Occasions.{made_on};
 
 use crate::ledger::Ledger;
@@ -141,31 +141,5 @@ impl Ledger {
             draft: None,
         };
         self.run_undrafted(alloc, keeper, occasion, command)
-    }
-
-    /// Makes a call, in the next draft where it opens one.
-    pub fn make<K: Keeper>(
-        &mut self,
-        alloc: Global,
-        keeper: &mut K,
-        caller: u32,
-        moment: Moment,
-        command: &Command,
-    ) -> Result<Told, Unmade>
-        requires well_made { IsTrue (is_well_made sha256 command.now) }
-        requires up { K.down keeper.old ≡ None }
-        requires kept { K.kept keeper.old ≡ self.old.state.place }
-        ensures call { Makes (call_on sha256 caller self.old command.now moment) self.old self.new result }
-        ensures there { IfErr result (λ why. unmade_expired why ≡ false) }
-        ensures later { IsAbove self.old.state.commits self.new.state.commits }
-        ensures kept { K.kept keeper.new ≡ self.new.state.place }
-        ensures keeps { Keeps K.told K.kept K.down K.in_flight K.faults K.moment K.left_since K.may_leave keeper.old keeper.new (call_on sha256 caller self.old command.now moment).logged result }
-    {
-        let occasion = Occasion {
-            caller,
-            moment,
-            draft: None,
-        };
-        self.run(alloc, keeper, occasion, command)
     }
 }

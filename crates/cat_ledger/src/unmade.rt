@@ -4,12 +4,15 @@ use cat_codes::fault::NoMemory;
 use cat_model::refusal::Refusal;
 use cat_state::failure::Failure;
 use std::alloc::AllocError;
+use thiserror::Error;
 
 /// A refusal by the rules or want of memory, or a fault of what keeps the log.
-#[derive(Debug, Drop)]
+#[derive(Debug, Drop, Error)]
 pub enum Unmade {
+    #[error(transparent)]
     Failed(Failure),
     /// The call was accepted, and its entry wasn't kept.
+    #[error("the call's entry wasn't kept")]
     NotKept,
 }
 

@@ -12,6 +12,7 @@ use cat_names::key_fault::KeyFault;
 use cat_names::name_fault::NameFault;
 use cat_names::ref_name::RefName;
 use std::alloc::Global;
+use thiserror::Error;
 
 /// Where a listing goes on.
 #[derive(Clone, Debug, PartialEq, Eq, Drop)]
@@ -25,11 +26,13 @@ pub enum Token {
 }
 
 /// Why a text is no token.
-#[derive(Clone, Copy, Debug, PartialEq, Eq)]
+#[derive(Clone, Copy, Debug, PartialEq, Eq, Error)]
 pub enum TokenFault {
     /// The text isn't spelled as one.
+    #[error("the text isn't spelled as a token")]
     Bad,
     /// Memory ran out.
+    #[error("memory ran out")]
     NoMemory,
 }
 

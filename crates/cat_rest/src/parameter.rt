@@ -18,11 +18,14 @@ use cat_names::ref_name::RefName;
 use cat_pages::token::{Token, TokenFault};
 use cat_queries::first;
 use std::alloc::{AllocFailed, Global};
+use thiserror::Error;
 
 /// Why a query has no reading.
-#[derive(Clone, Copy, Debug, PartialEq, Eq)]
+#[derive(Clone, Copy, Debug, PartialEq, Eq, Error)]
 pub enum QueryFault {
+    #[error("a parameter of the query has no reading")]
     Bad,
+    #[error("memory ran out")]
     NoMemory,
 }
 

@@ -14,11 +14,14 @@ use cat_names::ref_name::RefName;
 use percent_encoding::{DecodeError, percent_decode_str};
 use std::alloc::Global;
 use std::borrow::CowStr;
+use thiserror::Error;
 
 /// Why a parameter of a path has no reading.
-#[derive(Clone, Copy, Debug, PartialEq, Eq)]
+#[derive(Clone, Copy, Debug, PartialEq, Eq, Error)]
 pub enum PathFault {
+    #[error("a parameter of the path has no reading")]
     Bad,
+    #[error("memory ran out")]
     NoMemory,
 }
 

@@ -3,11 +3,14 @@
 use cat_codes::fault::NoMemory;
 use cat_model::refusal::Refusal;
 use std::alloc::AllocError;
+use thiserror::Error;
 
 /// A refusal by the rules, or want of memory.
-#[derive(Debug, Drop)]
+#[derive(Debug, Drop, Error)]
 pub enum Failure {
+    #[error(transparent)]
     Refused(Refusal),
+    #[error("memory ran out")]
     NoMemory,
 }
 

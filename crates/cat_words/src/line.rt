@@ -11,10 +11,12 @@ use clap::{Arg, ArgAction, ArgMatches, Command, Error};
 use std::alloc::{AllocError, Global};
 
 /// Why the words gave no command.
-#[derive(Clone, Copy, Debug, PartialEq, Eq, Drop)]
+#[derive(Clone, Copy, Debug, PartialEq, Eq, Drop, thiserror::Error)]
 pub enum WordsFault {
     /// They aren't the command line's, or a number among them has no reading.
+    #[error("the words aren't the command line's")]
     Usage,
+    #[error("memory ran out")]
     NoMemory,
 }
 
