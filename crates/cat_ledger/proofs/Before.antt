@@ -4,6 +4,7 @@ use Rattle.std.proofs.Math.Nat.{le-max_left}
 use Rattle.sha2.specs.Sha256.{sha256}
 use Rattle.cat_model.specs.declared.command.Command.{Command}
 use Rattle.cat_model.specs.declared.command.Command.TheVariants as commands
+use Rattle.cat_model.specs.declared.refusal.Refusal.TheVariants.{Limit}
 use Rattle.cat_model.specs.Book.{Book}
 use Rattle.cat_model.specs.Commits.{commit_opening}
 use Rattle.cat_model.specs.Merges.{merge_opening}
@@ -23,26 +24,17 @@ use Rattle.cat_ledger.specs.declared.occasion.Occasion.{Occasion}
 use Rattle.cat_ledger.specs.declared.unmade.Unmade.TheVariants.{Failed}
 use Rattle.cat_ledger.specs.Making.{IsSpared, Runs}
 use Rattle.cat_ledger.specs.Occasions.{left_on, made_on, number_on, opened_on, turned}
-use Rattle.cat_ledger.specs.PlainLaws.{IsPlain, plain_bind}
+use Rattle.cat_ledger.specs.PlainLaws.{IsPlain, plain_bind, plain_needs, plain_of}
+use Rattle.cat_ledger.specs.UsualLaws.{usual_opening}
 use Rattle.cat_ledger.proofs.Called.{other, turned_draft}
-use Rattle.cat_ledger.proofs.PlainCalls.{plain_limit, plain_opening}
-use Rattle.cat_ledger.proofs.PlainMerges.{plain_merge_opening, plain_transplant_opening}
 use Rattle.cat_ledger.proofs.Unexpired.{unexpired_left, unexpired_opening}
 
-plain_opened : (state : State) (command : Command) → IsPlain (opening sha256 state command)
-plain_opened state (commands.Create c) = tt
-plain_opened state (commands.Assign c) = tt
-plain_opened state (commands.Delete c) = tt
-plain_opened state (commands.Commit c) = plain_bind (commit_opening sha256 state c) (λ _. Ok tt) (plain_opening state c) (λ o. tt)
-plain_opened state (commands.Merge m) = plain_bind (merge_opening sha256 state m) (λ _. Ok tt) (plain_merge_opening state m) (λ o. tt)
-plain_opened state (commands.Transplant t) = plain_bind (transplant_opening sha256 state t) (λ _. Ok tt) (plain_transplant_opening state t) (λ o. tt)
-
 plain_left : (book : Book) (draft : Option ℕ) → IsPlain (left_on book draft true)
-plain_left book None = plain_limit _ _ _
+plain_left book None = plain_needs _ (Limit _ _) refl
 plain_left book (Some draft) = tt
 
 plain_tests : (book : Book) (draft : Option ℕ) (command : Command) → IsPlain (opening sha256 book.state command >>= λ _. left_on book draft true)
-plain_tests book draft command = plain_bind (opening sha256 book.state command) (λ _. left_on book draft true) (plain_opened book.state command) (λ u. plain_left book draft)
+plain_tests book draft command = plain_bind (opening sha256 book.state command) (λ _. left_on book draft true) (plain_of _ (usual_opening book.state command)) (λ u. plain_left book draft)
 
 unexpired_opened : (state : State) (command : Command) → IsUnexpired (opening sha256 state command)
 unexpired_opened state (commands.Create c) = refl

@@ -3,9 +3,6 @@ pub mod Distinct
 pub mod Steps
 pub mod Accepts
 pub mod Plain
-pub mod PlainCalls
-pub mod PlainMoves
-pub mod PlainMerges
 pub mod OpenedPlans
 pub mod PlannedCalls
 pub mod Called

@@ -20,7 +20,8 @@ use Rattle.cat_ledger.specs.Putting.{accepted_book, accepted_told, add_step}
 use Rattle.cat_ledger.specs.Occasions.{turned}
 use Rattle.cat_ledger.proofs.Called.{step_done, step_fails, step_logs, step_not_kept}
 use Rattle.cat_ledger.proofs.Unexpired.{unexpired_step}
-use Rattle.cat_ledger.proofs.PlainCalls.{plain_step}
+use Rattle.cat_ledger.specs.PlainLaws.{plain_of}
+use Rattle.cat_ledger.specs.UsualLaws.{usual_commit_step}
 
 -- the step adds what was made
 pub commit_done : (book after : Book) (turn : Turn) (c : CommitRequest) (made : Prepared) (told : Told)
@@ -39,7 +40,7 @@ commit_makes book after turn c made (Ok told) s a b p t e r = commit_done book a
 commit_makes book after turn c made (Err NotKept) s a b p t e r =
     step_not_kept book after turn (commands.Commit c) (subst (λ (o : Outcome). IsAccepted book.state.place o) (sym s) a) e
 commit_makes book after turn c made (Err (Failed failure)) s a b p t e r =
-    step_fails book after turn (commands.Commit c) failure (plain_step book.state c turn.draft turn.moment) e (subst (λ (o : Outcome). Fails failure o) (sym s) a)
+    step_fails book after turn (commands.Commit c) failure (plain_of _ (usual_commit_step book.state c turn.draft turn.moment)) e (subst (λ (o : Outcome). Fails failure o) (sym s) a)
 
 pub commit_there : (after : State) (state : State) (c : CommitRequest) (draft moment place : ℕ) (made : Prepared) (result : Result Told Unmade) → step_commit sha256 state c draft moment ≡ add_step state made → ComesAs (λ told. (after, told.reply)) place result (add_step state made) → IfErr result (λ why. unmade_expired why ≡ false)
 commit_there after state c draft moment place made (Ok told) s a = tt

@@ -13,13 +13,14 @@ use Rattle.cat_plans.specs.Drafts.{logged_merge, logged_transplant}
 use Rattle.cat_plans.specs.Outcomes.{ComesTo, IsLoggedAs}
 use Rattle.cat_ledger.specs.declared.logging.Turn.{Turn}
 use Rattle.cat_ledger.specs.Drafting.{IsPlannedFor}
-use Rattle.cat_ledger.proofs.PlainMerges.{plain_merge, plain_transplant}
+use Rattle.cat_ledger.specs.PlainLaws.{plain_of}
+use Rattle.cat_ledger.specs.UsualLaws.{usual_merge, usual_transplant}
 
 -- what a merge comes to is planned for it
 pub merge_planned_for : (book : Book) (m : Merge) (turn : Turn) (planned : Result Outcome Failure)
     → ((moment : ℕ) → ComesTo moment book.state planned (step_merge sha256 book.state m book.state.place moment)) → IfOk planned (IsLoggedAs (logged_merge m)) → IsPlannedFor book turn planned (commands.Merge m)
 merge_planned_for book m turn planned comes logged = record {
-  plain = plain_merge book.state m book.state.place turn.moment;
+  plain = plain_of _ (usual_merge book.state m book.state.place turn.moment);
   comes = comes turn.moment;
   logged = logged;
   head = λ reply. refl;
@@ -29,7 +30,7 @@ merge_planned_for book m turn planned comes logged = record {
 pub transplant_planned_for : (book : Book) (t : Transplant) (turn : Turn) (planned : Result Outcome Failure)
     → ((moment : ℕ) → ComesTo moment book.state planned (step_transplant sha256 book.state t book.state.place moment)) → IfOk planned (IsLoggedAs (logged_transplant t)) → IsPlannedFor book turn planned (commands.Transplant t)
 transplant_planned_for book t turn planned comes logged = record {
-  plain = plain_transplant book.state t book.state.place turn.moment;
+  plain = plain_of _ (usual_transplant book.state t book.state.place turn.moment);
   comes = comes turn.moment;
   logged = logged;
   head = λ reply. refl;

@@ -11,7 +11,8 @@ use Rattle.cat_model.specs.Calls.{told_at}
 use Rattle.cat_state.specs.declared.failure.Failure.{Failure}
 use Rattle.cat_state.specs.declared.failure.Failure.TheVariants as failures
 use Rattle.cat_state.specs.Giving.{Fails}
-use Rattle.cat_ledger.specs.PlainLaws.{IsOther, IsPlain, plain_answer}
+use Rattle.cat_ledger.specs.PlainLaws.{IsOther, IsPlain, plain_of}
+use Rattle.cat_ledger.specs.UsualLaws.{usual_answer}
 use Rattle.cat_ledger.specs.Making.{refused_at}
 
 read_by : (book : Book) (ask : Ask) (why : Refusal) (refused : Refused) → IsOther why → told_at book.state (answer sha256 book.state ask) ≡ Err refused → ReadRefuses sha256 book ask why refused
@@ -36,7 +37,7 @@ read_by book ask Encoding refused p e = e
 -- a refusal that the definition gives is told at the book's place
 pub reads_refused : (book : Book) (ask : Ask) (why : Refusal) → answer sha256 book.state ask ≡ Err why → ReadRefuses sha256 book ask why (record { place = Some book.state.place; why = why })
 reads_refused book ask why e =
-    let other : IsOther why = subst (λ (r : Result _ Refusal). IsPlain r) e (plain_answer book.state ask) in
+    let other : IsOther why = subst (λ (r : Result _ Refusal). IsPlain r) e (plain_of _ (usual_answer book.state ask)) in
     read_by book ask why (record { place = Some book.state.place; why = why }) other (ap (told_at book.state) e)
 
 -- what a reading call answers where it has no reply

@@ -6,3 +6,4 @@ pub mod Kept
 pub mod Putting
 pub mod Drafting
 pub mod PlainLaws
+pub mod UsualLaws

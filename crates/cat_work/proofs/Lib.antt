@@ -1,4 +1,3 @@
-mod Usual
 mod Steps
 mod Callings
 mod Openings

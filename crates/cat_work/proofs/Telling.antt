@@ -1,12 +1,12 @@
 -- What a turn tells of a call, seen from the pass as it was at the call.
-use Rattle.std.proofs.Common.{◌≡◌, ◌<◌, ◌≤◌, ◌⊎◌, inl, inr, ℕ, ◌+◌, List, [], ◌∷◌, ◌++◌, reverse, Option, Some, None, Result, Ok, Err, Bool, true, false, refl, sym, ap, subst, ◌∙◌, arith}
+use Rattle.std.proofs.Common.{◌≡◌, ◌≤◌, ◌⊎◌, inl, inr, ℕ, ◌+◌, List, [], ◌∷◌, ◌++◌, reverse, Option, Some, None, Ok, Err, Bool, true, false, refl, sym, ap, subst, ◌∙◌, arith}
 use Rattle.std.proofs.lemmas.List.{reverse-append, reverse-reverse}
 use Rattle.sha2.specs.Sha256.{sha256}
 use Rattle.cat_core.specs.Drafts as store
 use Rattle.cat_core.specs.Drafts.{Does, IsRefused, Refuses}
-use Rattle.cat_core.specs.Stored.{IsUp, Stored, log_of, opened_of}
+use Rattle.cat_core.specs.Stored.{Stored, log_of}
 use Rattle.cat_desk.specs.Log.{Follows}
-use Rattle.cat_desk.specs.Pass.{DeskId, mark_of, number_of, seen}
+use Rattle.cat_desk.specs.Pass.{DeskId, mark_of, seen}
 use Rattle.cat_desk.specs.declared.pass.Pass.{Pass}
 use Rattle.cat_model.specs.declared.command.Command.{Command}
 use Rattle.cat_model.specs.declared.limits.Quantity.{Quantity}
@@ -25,11 +25,12 @@ use Rattle.cat_model.specs.Refusing.{Outcome}
 use Rattle.cat_model.specs.State.{State}
 use Rattle.cat_model.specs.Step as steps
 use Rattle.cat_model.specs.Step.{opens_draft, step}
-use Rattle.cat_work.specs.Answers.{Answers, AnswersAlone, Causes, ComesToIn, FallsAlone, HadNumber, IsAt, IsDraftAbove, IsEntryOf, IsRuledOut, NoFaultIsNew, RefusesAlone}
+use Rattle.cat_work.specs.Answers.{Answers, AnswersAlone, Causes, ComesToIn, HadNumber, IsAt, IsDraftAbove, IsEntryOf, IsRuledOut, NoFaultIsNew, RefusesAlone}
 use Rattle.cat_work.specs.Passes.{IsAlone, book_of, state_of}
 use Rattle.cat_work.specs.Turns.{Turned}
-use Rattle.cat_work.proofs.Callings.{Brings, Entering, IsStepsOwn, Telling, entry_draft_is, entry_is, refused_is, told_is}
-use Rattle.cat_work.proofs.Usual.{IsUsual, IsUsualCause, usual_step}
+use Rattle.cat_work.proofs.Callings.{Brings, Entering, Telling, entry_draft_is, entry_is, refused_is, told_is}
+use Rattle.cat_ledger.specs.PlainLaws.{IsUsual, IsUsualCause}
+use Rattle.cat_ledger.specs.UsualLaws.{usual_step}
 
 -- ---- what is found and left
 

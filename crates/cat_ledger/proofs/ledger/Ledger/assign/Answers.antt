@@ -5,7 +5,8 @@ use Rattle.cat_model.specs.declared.command.Command.TheVariants as commands
 use Rattle.cat_state.specs.declared.failure.Failure.TheVariants as failures
 use Rattle.cat_model.specs.Moves.{step_assign, with_references}
 use Rattle.cat_model.specs.State.{moved_reference}
-use Rattle.cat_ledger.proofs.PlainMoves.{plain_assign}
+use Rattle.cat_ledger.specs.PlainLaws.{plain_of}
+use Rattle.cat_ledger.specs.UsualLaws.{usual_assign}
 use Rattle.cat_ledger.proofs.Undrafted.{undrafted_fails, undrafted_logs, undrafted_made, unrefused_there}
 use Rattle.cat_plans.specs.ExpiringLaws.{unexpired_fails}
 use Rattle.cat_ledger.proofs.Unexpired.{unexpired_assign}
@@ -21,7 +22,7 @@ pub returns-in_err-moved-clause-call : goal.returns-in_err-moved-clause-call
 returns-in_err-moved-clause-call g c =
     let p = err_from_is_err_and c.from_residual.result c.from_residual.ensures.1 in
     rw (p.1, p.2) (undrafted_fails c.args.self.now c.args.occasion (commands.Assign c.args.assign.now) c.in_err-moved.field-0.0
-    (record { opens = refl; passes = refl }) (plain_assign c.args.self.now.state c.args.assign.now) c.in_err-moved.ensures.step)
+    (record { opens = refl; passes = refl }) (plain_of _ (usual_assign c.args.self.now.state c.args.assign.now)) c.in_err-moved.ensures.step)
 
 pub returns-clause-call : goal.returns-clause-call
 returns-clause-call g c =
@@ -60,7 +61,7 @@ returns-in_err-moved-clause-keeps g c = let p = err_from_is_err_and c.from_resid
 pub returns-in_err-command-clause-call : goal.returns-in_err-command-clause-call
 returns-in_err-command-clause-call g c =
     let p = err_from_is_err_and c.from_residual-in_err-command.result c.from_residual-in_err-command.ensures.1 in
-    rw (p.1, p.2) (undrafted_fails c.args.self.now c.args.occasion (commands.Assign c.args.assign.now) failures.NoMemory (record { opens = refl; passes = refl }) (plain_assign c.args.self.now.state c.args.assign.now) tt)
+    rw (p.1, p.2) (undrafted_fails c.args.self.now c.args.occasion (commands.Assign c.args.assign.now) failures.NoMemory (record { opens = refl; passes = refl }) (plain_of _ (usual_assign c.args.self.now.state c.args.assign.now)) tt)
 
 pub returns-in_err-command-clause-keeps : goal.returns-in_err-command-clause-keeps
 returns-in_err-command-clause-keeps g c = let p = err_from_is_err_and c.from_residual-in_err-command.result c.from_residual-in_err-command.ensures.1 in rw (p.1, p.2) (stays g.K.Keeper.told g.K.Keeper.kept g.K.Keeper.down g.K.Keeper.in_flight g.K.Keeper.faults g.K.Keeper.moment g.K.Keeper.left_since g.K.Keeper.may_leave (g.met.K.Keeper g.world.𝓛 g.world.𝓜 g.world.𝓡 ((λ s x. x), (λ x. x), (λ x. x), λ x. x)).safe (g.met.K.Keeper g.world.𝓛 g.world.𝓜 g.world.𝓡 ((λ s x. x), (λ x. x), (λ x. x), λ x. x)).only_now c.args.keeper.now)

@@ -1,9 +1,8 @@
-use Rattle.std.proofs.Common.{◌≡◌, true, refl, sym, subst}
+use Rattle.std.proofs.Common.{◌≡◌, true, subst}
 use Rattle.sha2.specs.Sha256.{sha256}
 use Rattle.cat_model.specs.declared.command.Command.{Command}
-use Rattle.cat_model.specs.Step.{opens_draft}
 use Rattle.cat_model.specs.WellMade.{is_well_made}
-use Rattle.cat_ledger.proofs.Asked.{assign_points, create_points, have_theirs, ops_are_distinct}
+use Rattle.cat_ledger.proofs.Asked.{assign_points, create_points}
 use Rattle.cat_ledger.proofs.ledger.Ledger.run_undrafted.Goals as goal
 
 pub create-requires-clause-points : goal.create-requires-clause-points

@@ -8,12 +8,13 @@ use Rattle.cat_ledger.proofs.Called.{step_fails}
 use Rattle.cat_ledger.proofs.Keeping.{keeps_as, stays}
 use Rattle.cat_ledger.proofs.Loggable.{commit_loggable}
 use Rattle.cat_ledger.proofs.Opened.{commit_ends, commit_logs, commit_makes, commit_there}
-use Rattle.cat_ledger.proofs.PlainCalls.{plain_step}
+use Rattle.cat_ledger.specs.PlainLaws.{plain_of}
+use Rattle.cat_ledger.specs.UsualLaws.{usual_commit_step}
 use Rattle.cat_ledger.proofs.Unexpired.{unexpired_step}
 use Rattle.cat_ledger.proofs.ledger.Ledger.settle_commit.Goals as goal
 
 pub returns-in-Err-clause-call : goal.returns-in-Err-clause-call
-returns-in-Err-clause-call g c = step_fails c.args.self.now c.take.new.self c.args.turn (commands.Commit c.args.request.now) c.in-Err.failure (plain_step c.args.self.now.state c.args.request.now _ _) c.take.ensures c.in-Err.ensures.step
+returns-in-Err-clause-call g c = step_fails c.args.self.now c.take.new.self c.args.turn (commands.Commit c.args.request.now) c.in-Err.failure (plain_of _ (usual_commit_step c.args.self.now.state c.args.request.now _ _)) c.take.ensures c.in-Err.ensures.step
 
 pub returns-in-Err-clause-there : goal.returns-in-Err-clause-there
 returns-in-Err-clause-there g c = unexpired_fails c.in-Err.failure _ (unexpired_step c.args.self.now.state c.args.request.now _ c.args.turn.moment) c.in-Err.ensures.step

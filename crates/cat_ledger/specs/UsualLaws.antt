@@ -1,19 +1,18 @@
 -- No step refuses for want of memory or a fault, for attempts that were spent, or for want of a draft number.
-use Rattle.std.proofs.Common.{if◌then◌else◌, ◌≡◌, ℕ, List, Option, Some, None, Result, Ok, Err, Bool, true, false, refl, ◌+◌, length, [], ◌∷◌, nat_lt, nat_le, map, filter_map, cond}
+use Rattle.std.proofs.Common.{if◌then◌else◌, ℕ, List, Option, Some, None, Result, Ok, Err, Bool, true, false, refl, ◌+◌, length, [], ◌∷◌, nat_lt, nat_le, map, filter_map, cond}
 use Rattle.sha2.specs.Sha256.{sha256}
 use Rattle.cat_names.specs.declared.hash.Hash.{Hash}
 use Rattle.cat_model.specs.declared.content.Content.{Content}
 use Rattle.cat_model.specs.declared.reference.Reference.{Reference}
 use Rattle.cat_model.specs.declared.refusal.Refusal.{Refusal}
-use Rattle.cat_model.specs.declared.refusal.Refusal.TheVariants.{RefNotFound, Fault, Down, NoMemory, BadRequest, Collision, Limit, RefExists, Conflicts, RetriesSpent}
-use Rattle.cat_model.specs.Chain.{entries}
-use Rattle.cat_model.specs.Maps.{Map}
+use Rattle.cat_model.specs.declared.refusal.Refusal.TheVariants.{RefNotFound, BadRequest, Collision, Limit, RefExists, Conflicts, ContentNotFound}
+use Rattle.cat_model.specs.Chain.{entries, on_chain}
+use Rattle.cat_model.specs.Maps.{Map, entry_of}
 use Rattle.cat_model.specs.Refusing.{◌>>=◌, needs, found, named, perhaps_named, pointed, needs_kind, needs_room, needs_source_kind, needs_at_most, needs_branch}
-use Rattle.cat_model.specs.State.{State, commit_hash, content_hash}
+use Rattle.cat_model.specs.State.{State, commit_hash, content_hash, content_at, is_known}
 use Rattle.cat_model.specs.declared.command.CommitRequest.{CommitRequest}
 use Rattle.cat_model.specs.declared.commit.Commit.{Commit}
 use Rattle.cat_model.specs.declared.conflict.Conflict.{Conflict}
-use Rattle.cat_model.specs.declared.limits.Quantity.{Quantity}
 use Rattle.cat_model.specs.declared.limits.Quantity.TheVariants as quantities
 use Rattle.cat_model.specs.declared.op.Op.{Op}
 use Rattle.cat_model.specs.declared.reply.Reply.{Reply}
@@ -38,28 +37,17 @@ use Rattle.cat_model.specs.KeySets.{key_set}
 use Rattle.cat_model.specs.Transplants.{are_consecutive, needs_on_chain, step_transplant, transplant_opening, transplant_planned}
 use Rattle.cat_model.specs.declared.command.Command.{Command}
 use Rattle.cat_model.specs.Step.{Turn, opening, step}
-use Rattle.cat_model.specs.declared.limits.Quantity.TheVariants.{Drafts}
+use Rattle.std.specs.Option.{option_map}
+use Rattle.cat_model.specs.declared.ask.Ask.{Ask}
+use Rattle.cat_model.specs.declared.ask.Ask.TheVariants as asks
+use Rattle.cat_model.specs.declared.entry.Entry.{Entry}
+use Rattle.cat_model.specs.declared.reference.Effective.{Effective}
+use Rattle.cat_model.specs.declared.refusal.Missing.TheVariants as missing
+use Rattle.cat_model.specs.declared.reply.Reply.TheVariants as replies
+use Rattle.cat_model.specs.Answer.{answer, answer_content, answer_contents, answer_entries, answer_history, answer_reference, effective_at, needs_until, turned_to}
+use Rattle.cat_ledger.specs.PlainLaws.{IsUsual, IsUsualCause}
 
--- a cause that a step gives
-abbrev is_other_limit : Quantity → Bool
-is_other_limit Drafts = false
-is_other_limit _ = true
-
-abbrev pub is_usual : Refusal → Bool
-is_usual NoMemory = false
-is_usual Fault = false
-is_usual (Down count) = false
-is_usual (RetriesSpent pairs) = false
-is_usual (Limit which number) = is_other_limit which
-is_usual _ = true
-
-abbrev pub IsUsualCause : Refusal → Type 0
-IsUsualCause why = is_usual why ≡ true
-
--- what a definition gives, if it refuses, has such a cause
-abbrev pub IsUsual : {A : Type 0} → Result A Refusal → Type 0
-IsUsual (Ok x) = Unit {0}
-IsUsual (Err why) = IsUsualCause why
+-- ---- tests
 
 pub usual_bind : {A B : Type 0} (r : Result A Refusal) (f : A → Result B Refusal) → IsUsual r → ((x : A) → IsUsual (f x)) → IsUsual (r >>= f)
 usual_bind (Ok x) f p q = q x
@@ -279,3 +267,47 @@ usual_opening state (commands.Delete c) = tt
 usual_opening state (commands.Commit c) = usual_bind (commit_opening sha256 state c) (λ _. Ok tt) (usual_commit_opening state c) (λ o. tt)
 usual_opening state (commands.Merge m) = usual_opening_merge state m
 usual_opening state (commands.Transplant t) = usual_opening_transplant state t
+
+-- ---- reading
+
+usual_turned : (state : State) (hash : Hash) (other : Option Hash) → IsUsual (turned_to sha256 state hash other)
+usual_turned state hash None = tt
+usual_turned state hash (Some other) = usual_bind (needs (is_known sha256 state other) RefNotFound) (λ u. Ok other) (usual_needs _ RefNotFound refl) (λ u. tt)
+
+usual_until : (state : State) (hash : Hash) (until : Option Hash) → IsUsual (needs_until state hash until)
+usual_until state hash None = tt
+usual_until state hash (Some last) = usual_needs (on_chain state.commits hash last) RefNotFound refl
+
+usual_last : (content : Option Content) (e : Effective) → IsUsual (found content (ContentNotFound missing.Expired) >>= λ content. Ok (replies.Content (record { effective = e; content = content })))
+usual_last None e = refl
+usual_last (Some content) e = tt
+
+usual_tail : (entry : Option Entry) (present : List (Hash × Content)) (e : Effective)
+    → IsUsual (found entry (ContentNotFound missing.Absent) >>= λ entry. found (content_at present entry.hash) (ContentNotFound missing.Expired) >>= λ content. Ok (replies.Content (record { effective = e; content = content })))
+usual_tail None present e = refl
+usual_tail (Some entry) present e = usual_last (content_at present entry.hash) e
+
+-- no answer is refused so
+pub usual_answer : (state : State) (ask : Ask) → IsUsual (answer sha256 state ask)
+unfolding answer_reference answer_entries answer_history answer_contents answer_content
+usual_answer state asks.Config = tt
+usual_answer state (asks.References a) = tt
+usual_answer state (asks.Reference p) =
+    usual_bind (perhaps_named state p.name) _ (usual_perhaps state p.name) (λ r.
+    usual_bind (pointed sha256 state r p.hash) _ (usual_pointed state r p.hash) (λ h. tt))
+usual_answer state (asks.Entries a) =
+    usual_bind (perhaps_named state a.at.name) _ (usual_perhaps state a.at.name) (λ r.
+    usual_bind (pointed sha256 state r a.at.hash) _ (usual_pointed state r a.at.hash) (λ h.
+    usual_bind (turned_to sha256 state h (option_map (λ x. x.0) a.after)) _ (usual_turned state h (option_map (λ x. x.0) a.after)) (λ g. tt)))
+usual_answer state (asks.History a) =
+    usual_bind (perhaps_named state a.at.name) _ (usual_perhaps state a.at.name) (λ r.
+    usual_bind (pointed sha256 state r a.at.hash) _ (usual_pointed state r a.at.hash) (λ h.
+    usual_bind (turned_to sha256 state h a.from) _ (usual_turned state h a.from) (λ g.
+    usual_bind (needs_until state g a.until) _ (usual_until state g a.until) (λ u. tt))))
+usual_answer state (asks.Contents a) =
+    usual_bind (perhaps_named state a.at.name) _ (usual_perhaps state a.at.name) (λ r.
+    usual_bind (pointed sha256 state r a.at.hash) _ (usual_pointed state r a.at.hash) (λ h. tt))
+usual_answer state (asks.Content a) =
+    usual_bind (perhaps_named state a.at.name) _ (usual_perhaps state a.at.name) (λ r.
+    usual_bind (pointed sha256 state r a.at.hash) _ (usual_pointed state r a.at.hash) (λ h.
+    usual_tail (entry_of (entries state.commits h) a.key) state.present (effective_at r h)))
