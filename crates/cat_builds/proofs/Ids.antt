@@ -14,34 +14,28 @@ use Rattle.cat_model.specs.Distinct.{are_distinct}
 use Rattle.cat_model.specs.Judge.{op_key}
 use Rattle.cat_model.specs.Same.{same_key}
 use Rattle.cat_model.specs.State.{fresh_id}
-use Rattle.cat_builds.specs.Ops.{their_content, left_after, listed}
+use Rattle.cat_model.specs.Walks.{content_for, left_after, listed, their_own}
 
 abbrev pub Both : Type 0
 Both = Op × Option Content
 
 -- ---- the next operation
 
-their_own : (op : Op) (ops : List Op) (contents : List Content) → with_their_contents (op ∷ ops) contents ≡ (op, their_content op contents) ∷ with_their_contents ops (left_after op contents)
-their_own (Put key entry fresh) ops [] = refl
-their_own (Put key entry fresh) ops (c ∷ contents) = refl
-their_own (Delete key) ops contents = refl
-their_own (Unchanged key) ops contents = refl
-
 from_next : (draft i : ℕ) (ops : List Op) (op : Op) (left : List Content) → i < length ops → op ≡ get_or ops i op
     → given_from sha256 draft i (with_their_contents (drop i ops) left)
-    ≡ given sha256 (fresh_id draft i) (op, their_content op left) ∷ given_from sha256 draft (i + 1) (with_their_contents (drop (i + 1) ops) (left_after op left))
+    ≡ given sha256 (fresh_id draft i) (op, content_for op left) ∷ given_from sha256 draft (i + 1) (with_their_contents (drop (i + 1) ops) (left_after op left))
 from_next draft i ops op left lt e =
     ap (λ (l : List Op). given_from sha256 draft i (with_their_contents l left)) (drop_more ops i op lt ∙ ap (λ (x : Op). x ∷ drop (i + 1) ops) (sym e))
     ∙ ap (λ (l : List Both). given_from sha256 draft i l) (their_own op (drop (i + 1) ops) left)
 
 -- those from the next on begin with it, as the code reads them
 pub next_is : (draft i : ℕ) (ops items : List Op) (op : Op) (left rest : List Content) (id : ContentId) → items ≡ ops → i < length items → op ≡ get_or items i op → id ≡ fresh_id draft i → rest ≡ left_after op left
-    → given_from sha256 draft i (with_their_contents (drop i ops) left) ≡ given sha256 id (op, their_content op left) ∷ given_from sha256 draft (i + 1) (with_their_contents (drop (i + 1) ops) rest)
+    → given_from sha256 draft i (with_their_contents (drop i ops) left) ≡ given sha256 id (op, content_for op left) ∷ given_from sha256 draft (i + 1) (with_their_contents (drop (i + 1) ops) rest)
 next_is draft i ops items op left rest id s lt e d r =
     ap (λ (l : List Op). given_from sha256 draft i (with_their_contents (drop i l) left)) (sym s) ∙ from_next draft i items op left lt e
-    ∙ ap (λ (x : ContentId). given sha256 x (op, their_content op left) ∷ given_from sha256 draft (i + 1) (with_their_contents (drop (i + 1) items) (left_after op left))) (sym d)
-    ∙ ap (λ (l : List Content). given sha256 id (op, their_content op left) ∷ given_from sha256 draft (i + 1) (with_their_contents (drop (i + 1) items) l)) (sym r)
-    ∙ ap (λ (l : List Op). given sha256 id (op, their_content op left) ∷ given_from sha256 draft (i + 1) (with_their_contents (drop (i + 1) l) rest)) s
+    ∙ ap (λ (x : ContentId). given sha256 x (op, content_for op left) ∷ given_from sha256 draft (i + 1) (with_their_contents (drop (i + 1) items) (left_after op left))) (sym d)
+    ∙ ap (λ (l : List Content). given sha256 id (op, content_for op left) ∷ given_from sha256 draft (i + 1) (with_their_contents (drop (i + 1) items) l)) (sym r)
+    ∙ ap (λ (l : List Op). given sha256 id (op, content_for op left) ∷ given_from sha256 draft (i + 1) (with_their_contents (drop (i + 1) l) rest)) s
 
 pub ops_next : (out more all : List Op) (before after : List Both) (x : Both) → before ≡ x ∷ after → out ++ map (λ (b : Both). b.0) before ≡ all → more ≡ out ++ x.0 ∷ [] → more ++ map (λ (b : Both). b.0) after ≡ all
 ops_next out more all before after x b e m =

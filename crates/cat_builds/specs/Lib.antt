@@ -1,4 +1,3 @@
-pub mod Ops
 pub mod Views
 pub mod Builds
 pub mod BuildLaws

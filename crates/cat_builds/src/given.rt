@@ -4,15 +4,14 @@ ghost use Rattle.std.specs.Prelude.{◌≡◌, ◌++◌, ◌∷◌, [], IfOk, On
 ghost use Rattle.sha2.specs.Sha256.{sha256};
 ghost use Rattle.cat_model.specs.declared.op.Op.TheVariants.{Put};
 ghost use Rattle.cat_model.specs.Commits.{given, given_content, given_ops};
-ghost use Rattle.cat_model.specs.Contents.{body_kind};
 ghost use Rattle.cat_model.specs.State.{content_hash, entry_for};
-ghost use Rattle.cat_builds.specs.Ops.{left_after, listed, their_content};
+ghost use Rattle.cat_model.specs.Walks.{content_for, listed};
 
 use cat_codes::fault::NoMemory;
 use cat_codes::seq::Seq;
 use cat_model::command::CommitRequest;
-use cat_model::content::{Body, Content};
-use cat_model::entry::{ContentKind, Entry};
+use cat_model::content::Content;
+use cat_model::entry::Entry;
 use cat_model::op::Op;
 use cat_names::hash::{ContentId, Hash};
 use cat_names::key::ContentKey;
@@ -28,23 +27,12 @@ pub struct Given {
     pub hashes: Vec<Hash>,
 }
 
-fn kind_of(body: &Body) -> ContentKind
-    ensures { result ≡ body_kind body.now }
-{
-    match body {
-        Body::IcebergTable(_) => ContentKind::IcebergTable,
-        Body::IcebergView(_) => ContentKind::IcebergView,
-        Body::DeltaLakeTable(_) => ContentKind::DeltaLakeTable,
-        Body::Namespace(_) => ContentKind::Namespace,
-    }
-}
-
 /// The entry of a content.
 fn entry_for(alloc: Global, content: &Content) -> Result<Entry, NoMemory>
     ensures { IfOk result (λ e. e ≡ entry_for sha256 content.now) }
 {
     Ok(Entry {
-        kind: kind_of(&content.body),
+        kind: content.body.kind(),
         id: content.id,
         hash: content_hash(alloc, content)?,
     })
@@ -60,20 +48,6 @@ fn given_content(id: ContentId, fresh: bool, content: &Content) -> Result<Conten
     }
     content.id = id;
     Ok(content)
-}
-
-/// The contents that are left to the operations after this one.
-fn left_after<'a>(op: &Op, contents: &'a [Content]) -> &'a [Content]
-    ensures { result.now ≡ left_after op.now contents.now }
-{
-    match op {
-        Op::Put { .. } => match contents {
-            [] => contents,
-            [_, rest @ ..] => rest,
-        },
-        Op::Delete { .. } => contents,
-        Op::Unchanged { .. } => contents,
-    }
 }
 
 impl Given {
@@ -119,8 +93,8 @@ impl Given {
         left: &[Content],
     ) -> Result<(), NoMemory>
         requires { self.old.hashes.items ≡ map (content_hash sha256) self.old.contents }
-        ensures ops { OnOk result (self.new.ops ≡ self.old.ops ++ (given sha256 id (op.now, their_content op.now left.now)).0 ∷ []) }
-        ensures contents { OnOk result (self.new.contents ≡ self.old.contents ++ listed (given sha256 id (op.now, their_content op.now left.now)).1) }
+        ensures ops { OnOk result (self.new.ops ≡ self.old.ops ++ (given sha256 id (op.now, content_for op.now left.now)).0 ∷ []) }
+        ensures contents { OnOk result (self.new.contents ≡ self.old.contents ++ listed (given sha256 id (op.now, content_for op.now left.now)).1) }
         ensures hashes { OnOk result (self.new.hashes.items ≡ map (content_hash sha256) self.new.contents) }
     {
         match op {
@@ -154,7 +128,7 @@ pub(crate) fn with_ids(
     for (index, op) in request.ops.as_slice().iter().enumerate() {
         let id = ContentId::from_pair(draft, index as u64);
         given.give(alloc, id, op, left)?;
-        left = left_after(op, left);
+        left = op.left_after(left);
     }
     Ok(given)
 }

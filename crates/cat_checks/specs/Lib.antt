@@ -1,4 +1,3 @@
-pub mod Walks
 pub mod Legal
 pub mod LegalLaws
 pub mod Histories

@@ -6,7 +6,7 @@ ghost use Rattle.sha2.specs.Sha256.{sha256};
 ghost use Rattle.cat_model.specs.Commits.{put_entry, puts, with_their_contents};
 ghost use Rattle.cat_model.specs.WellMade as well_made;
 ghost use Rattle.cat_model.specs.WellMade.{is_made};
-ghost use Rattle.cat_checks.specs.Walks.{content_for, left_after};
+ghost use Rattle.cat_model.specs.Walks.{content_for};
 
 use crate::puts::is_put;
 use cat_codes::fault::NoMemory;
@@ -52,20 +52,6 @@ fn puts(ops: &[Op]) -> usize
     count
 }
 
-/// The contents that are left to the operations after this one.
-fn left_after<'a>(op: &Op, contents: &'a [Content]) -> &'a [Content]
-    ensures { result.now ≡ left_after op.now contents.now }
-{
-    match op {
-        Op::Put { .. } => match contents {
-            [] => contents,
-            [_, rest @ ..] => rest,
-        },
-        Op::Delete { .. } => contents,
-        Op::Unchanged { .. } => contents,
-    }
-}
-
 /// Whether a PUT has its content, the first that is left.
 fn is_made(alloc: Global, op: &Op, left: &[Content]) -> Result<bool, NoMemory>
     ensures { IfOk result (λ b. b ≡ is_made sha256 (op.now, content_for op.now left.now)) }
@@ -89,7 +75,7 @@ fn are_made(alloc: Global, ops: &[Op], contents: &[Content]) -> Result<bool, NoM
         if !is_made(alloc, op, left)? {
             return Ok(false);
         }
-        left = left_after(op, left);
+        left = op.left_after(left);
     }
     Ok(true)
 }

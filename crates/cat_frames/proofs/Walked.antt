@@ -10,7 +10,8 @@ use Rattle.cat_model.specs.declared.content.Content.{Content}
 use Rattle.cat_model.specs.declared.op.Op.{Op}
 use Rattle.cat_frames.specs.declared.asked.Asked.{Asked}
 use Rattle.cat_frames.specs.Requests.{Both, contents_of, ops_of}
-use Rattle.cat_frames.specs.Walks.{and_one, listed}
+use Rattle.cat_model.specs.Walks.{listed}
+use Rattle.cat_frames.specs.Walks.{and_one}
 
 abbrev pub both_of : List Op → List Content → Asked
 both_of ops contents = record { ops = ops; contents = contents }

@@ -14,19 +14,14 @@ use Rattle.cat_model.specs.declared.op.Op.TheVariants.{Put, Delete, Unchanged}
 use Rattle.cat_model.specs.Commits.{puts, with_their_contents}
 use Rattle.cat_model.specs.State.{Digest, fresh_id}
 use Rattle.cat_frames.specs.Requests.{Both, are_logged, contents_of, is_logged, op_code, ops_of, request_fields, request_is_logged, request_of}
-use Rattle.cat_frames.specs.Walks.{content_for, is_whole, left_after}
+use Rattle.cat_model.specs.Walks.{content_for, left_after, their_own}
+use Rattle.cat_frames.specs.Walks.{is_whole}
 
 -- one piece after another
 pub then : (out mid new one two : List ℕ) → mid ≡ out ++ one → new ≡ mid ++ two → new ≡ out ++ (one ++ two)
 then out mid new one two a b = b ∙ ap (λ (l : List ℕ). l ++ two) a ∙ append_assoc out one two
 
 -- ---- the next operation
-
-their_own : (op : Op) (ops : List Op) (contents : List Content) → with_their_contents (op ∷ ops) contents ≡ (op, content_for op contents) ∷ with_their_contents ops (left_after op contents)
-their_own (Put key entry fresh) ops [] = refl
-their_own (Put key entry fresh) ops (c ∷ contents) = refl
-their_own (Delete key) ops contents = refl
-their_own (Unchanged key) ops contents = refl
 
 -- those from the next on begin with it
 pub next_is : (i : ℕ) (ops : List Op) (op : Op) (left : List Content) → i < length ops → op ≡ get_or ops i op

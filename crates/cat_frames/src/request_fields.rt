@@ -6,13 +6,14 @@ ghost use Rattle.sha2.specs.Sha256.{sha256};
 ghost use Rattle.cat_codes.specs.Code.{PlacedFit, placed_spelling};
 ghost use Rattle.cat_codes.specs.Read.{Reads};
 ghost use Rattle.cat_names.specs.declared.hash.ContentId.{ContentId};
-ghost use Rattle.cat_model.specs.Contents.{body_kind, content_code};
+ghost use Rattle.cat_model.specs.Contents.{content_code};
 ghost use Rattle.cat_model.specs.Commits.{given_request, with_their_contents};
 ghost use Rattle.cat_model.specs.WellMade.{have_contents};
 ghost use Rattle.cat_model.specs.declared.command.CommitRequest.{CommitRequest};
 ghost use Rattle.cat_model.specs.State.{entry_for, fresh_id};
+ghost use Rattle.cat_model.specs.Walks.{content_for};
 ghost use Rattle.cat_frames.specs.Requests.{are_logged, change_code, has_its_id, is_logged, op_code, ops_code, put, put_at, request_code, request_is_logged};
-ghost use Rattle.cat_frames.specs.Walks.{asked_at, content_for, is_whole, left_after};
+ghost use Rattle.cat_frames.specs.Walks.{asked_at, is_whole};
 
 use crate::asked::Asked;
 use cat_codes::fault::{FieldFault, NoMemory};
@@ -22,24 +23,13 @@ use cat_codes::seq::Seq;
 use cat_codes::writer::Writer;
 use cat_model::command::CommitRequest;
 use cat_model::commit::Meta;
-use cat_model::content::{Body, Content};
-use cat_model::entry::{ContentKind, Entry};
+use cat_model::content::Content;
+use cat_model::entry::Entry;
 use cat_model::op::Op;
 use cat_names::hash::{ContentId, Hash};
 use cat_names::key::ContentKey;
 use cat_names::ref_name::RefName;
 use std::alloc::Global;
-
-fn kind_of(body: &Body) -> ContentKind
-    ensures { result ≡ body_kind body.now }
-{
-    match body {
-        Body::IcebergTable(_) => ContentKind::IcebergTable,
-        Body::IcebergView(_) => ContentKind::IcebergView,
-        Body::DeltaLakeTable(_) => ContentKind::DeltaLakeTable,
-        Body::Namespace(_) => ContentKind::Namespace,
-    }
-}
 
 /// The entry of a content, whose bytes these are.
 fn entry_of(content: &Content, bytes: &[u8]) -> Entry
@@ -47,7 +37,7 @@ fn entry_of(content: &Content, bytes: &[u8]) -> Entry
     ensures { result ≡ entry_for sha256 content.now }
 {
     Entry {
-        kind: kind_of(&content.body),
+        kind: content.body.kind(),
         id: content.id,
         hash: Hash::of(bytes),
     }
@@ -148,20 +138,6 @@ fn write_put(
     write_within(alloc, out, content)
 }
 
-/// The contents that are left to the operations after this one.
-fn left_after<'a>(op: &Op, contents: &'a [Content]) -> &'a [Content]
-    ensures { result.now ≡ left_after op.now contents.now }
-{
-    match op {
-        Op::Put { .. } => match contents {
-            [] => contents,
-            [_, rest @ ..] => rest,
-        },
-        Op::Delete { .. } => contents,
-        Op::Unchanged { .. } => contents,
-    }
-}
-
 /// Writes an operation, a PUT with the first content that is left.
 #[tactic(auto, unfolding(crate::specs::Requests::op_code, crate::specs::Requests::change_code))]
 fn write_op(alloc: Global, out: &mut Writer, op: &Op, left: &[Content]) -> Result<(), NoMemory>
@@ -200,7 +176,7 @@ fn write_ops(
     let mut left = contents;
     for op in ops {
         write_op(alloc, out, op, left)?;
-        left = left_after(op, left);
+        left = op.left_after(left);
     }
     Ok(())
 }

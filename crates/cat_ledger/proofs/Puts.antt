@@ -27,7 +27,7 @@ use Rattle.cat_state.specs.Keeping.{has_contents, is_held}
 use Rattle.cat_builds.specs.declared.given.Given.{Given}
 use Rattle.cat_ledger.specs.declared.logging.Turn.{Turn}
 use Rattle.cat_ledger.specs.declared.preparing.Prepared.{Prepared}
-use Rattle.cat_builds.specs.Ops.{listed}
+use Rattle.cat_model.specs.Walks.{listed}
 use Rattle.cat_ledger.specs.Putting.{IsPrepared}
 use Rattle.cat_ledger.proofs.Distinct.{Both}
 use Rattle.cat_ledger.proofs.Steps.{AreGiven}

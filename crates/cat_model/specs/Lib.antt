@@ -36,3 +36,4 @@ pub mod Turns
 pub mod TurnLaws
 pub mod Later
 pub mod Naming
+pub mod Walks

@@ -1,9 +1,12 @@
 //! Contents of keys.
 
-ghost use Rattle.std.specs.Prelude.{◌≡◌};
-ghost use Rattle.cat_model.specs.Contents.{table_code, view_code, delta_code, namespace_code, content_code};
+ghost use Rattle.std.specs.Prelude.{◌≡◌, bytes_eq};
+ghost use Rattle.std.specs.Cmp.Lexicographic.{pointwise};
+ghost use Rattle.cat_model.specs.Contents.{table_code, view_code, delta_code, namespace_code, content_code, body_kind};
 ghost use Rattle.cat_model.specs.ContentLaws.{table_is, view_is, delta_is, namespace_is, content_is};
+ghost use Rattle.cat_model.specs.WellMade.{may_stand_at};
 
+use crate::entry::ContentKind;
 use cat_codes::ascending::Ascending;
 use cat_codes::fault::{FieldFault, NoMemory};
 use cat_codes::field::Field;
@@ -12,6 +15,7 @@ use cat_codes::seq::Seq;
 use cat_codes::text::Text;
 use cat_codes::writer::Writer;
 use cat_names::hash::ContentId;
+use cat_names::key::{ContentKey, Element};
 use std::alloc::Global;
 
 #[derive(Clone, Debug, PartialEq, Eq, Drop)]
@@ -56,6 +60,46 @@ pub enum Body {
 pub struct Content {
     pub id: ContentId,
     pub body: Body,
+}
+
+/// Whether the texts are the elements.
+fn are_elements(texts: &[Text], elements: &[Element]) -> bool
+    ensures { result ≡ pointwise bytes_eq texts.now elements.now }
+{
+    let mut texts = texts;
+    let mut elements = elements;
+    while let ([text, other_texts @ ..], [element, other_elements @ ..]) = (texts, elements) {
+        if text.as_str() != element.as_str() {
+            return false;
+        }
+        texts = other_texts;
+        elements = other_elements;
+    }
+    texts.is_empty() && elements.is_empty()
+}
+
+impl Body {
+    /// Its type.
+    pub fn kind(&self) -> ContentKind
+        ensures { result ≡ body_kind self.now }
+    {
+        match self {
+            Body::IcebergTable(_) => ContentKind::IcebergTable,
+            Body::IcebergView(_) => ContentKind::IcebergView,
+            Body::DeltaLakeTable(_) => ContentKind::DeltaLakeTable,
+            Body::Namespace(_) => ContentKind::Namespace,
+        }
+    }
+
+    /// Whether it may stand at the key: a namespace at that of its elements alone.
+    pub fn may_stand_at(&self, key: &ContentKey) -> bool
+        ensures { result ≡ may_stand_at key.now self.now }
+    {
+        match self {
+            Body::Namespace(namespace) => are_elements(namespace.elements.as_slice(), key.elements()),
+            _ => true,
+        }
+    }
 }
 
 impl Field for IcebergTable {

@@ -1,6 +1,6 @@
 use Rattle.std.proofs.Common.{arith}
 use Rattle.sha2.specs.Sha256.{sha256}
-use Rattle.cat_frames.specs.Walks.{content_for}
+use Rattle.cat_model.specs.Walks.{content_for}
 use Rattle.cat_frames.proofs.Written.{ended, goes_on, next_is}
 use Rattle.cat_frames.proofs.request_fields.write_ops.Goals as goal
 
