@@ -96,7 +96,10 @@ impl Body {
         ensures { result ≡ may_stand_at key.now self.now }
     {
         match self {
-            Body::Namespace(namespace) => are_elements(namespace.elements.as_slice(), key.elements()),
+            Body::Namespace(namespace) => are_elements(
+                namespace.elements.as_slice(),
+                key.elements(),
+            ),
             _ => true,
         }
     }
