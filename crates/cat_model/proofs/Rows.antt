@@ -12,3 +12,4 @@ pub mod Planning
 pub mod MergeWords
 pub mod Merging
 pub mod Transplanting
+pub mod Again

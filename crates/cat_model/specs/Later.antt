@@ -1,8 +1,5 @@
 -- States that grew: nothing was taken away.
 use Rattle.std.specs.Prelude.{◌≡◌, List, ◌++◌}
-use Rattle.cat_names.specs.declared.hash.Hash.{Hash}
-use Rattle.cat_model.specs.declared.content.Content.{Content}
-use Rattle.cat_model.specs.Chain.{Commits}
 use Rattle.cat_model.specs.State.{State}
 
 -- a list has another one behind some elements

@@ -91,8 +91,9 @@ as_many_references_as_may_be : said (limited (record ample { references = 2 })) 
 unfolding u8_spelling u16_spelling u32_spelling u64_spelling i64_spelling i32_spelling list ascending text_code short_text_code hash_code id_code element_code key_code moment_code kind_code entry_code meta_code commit_code table_code namespace_code of_table of_namespace content_code emptied_fault changes_of op_fault judge entries commit_bytes content_bytes with_commit with_content expired_keys given_ops given_request request_commit commit_opening needs_commit_room step_commit needs_contents step_create step_assign step_delete history references_page answer_reference answer_entries history_item answer_history answer_contents answer_content entry_made call script
 as_many_references_as_may_be = refl
 
-a_full_log : said (limited (record ample { log = 1 })) (create dev Branch (from_branch main) ∷ create (codes "a") Branch (from_branch main) ∷ assign dev None (Some other) (from_hash H0) ∷ delete dev None (Some other) ∷ [])
-    ≡ stands 1 dev Branch H0 ∷ not (Some 1) (Limit quantities.Log 1) ∷ not (Some 1) (Limit quantities.Log 1) ∷ not (Some 1) (Limit quantities.Log 1) ∷ []
+-- names and hashes come before the room of the log, and the expected head after it
+a_full_log : said (limited (record ample { log = 1 })) (create dev Branch (from_branch main) ∷ create dev Branch (from_branch main) ∷ create (codes "a") Branch (from_branch main) ∷ assign dev None None (from_hash other) ∷ assign dev None (Some other) (from_hash H0) ∷ delete dev None (Some other) ∷ [])
+    ≡ stands 1 dev Branch H0 ∷ not (Some 1) RefExists ∷ not (Some 1) (Limit quantities.Log 1) ∷ not (Some 1) RefNotFound ∷ not (Some 1) (Limit quantities.Log 1) ∷ not (Some 1) (Limit quantities.Log 1) ∷ []
 unfolding u8_spelling u16_spelling u32_spelling u64_spelling i64_spelling i32_spelling list ascending text_code short_text_code hash_code id_code element_code key_code moment_code kind_code entry_code meta_code commit_code table_code namespace_code of_table of_namespace content_code emptied_fault changes_of op_fault judge entries commit_bytes content_bytes with_commit with_content expired_keys given_ops given_request request_commit commit_opening needs_commit_room step_commit needs_contents step_create step_assign step_delete history references_page answer_reference answer_entries history_item answer_history answer_contents answer_content entry_made call script
 a_full_log = refl
 

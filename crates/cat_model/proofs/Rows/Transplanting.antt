@@ -47,7 +47,7 @@ use Rattle.cat_model.proofs.Rows.MergeWords.{new_on, put_on, t3, a1, other, Shap
 
 -- ---- words
 
-abbrev asked : Bool → Bool → List ℕ → Option Hash → List ℕ → List Hash → Behaviour → Command
+abbrev pub asked : Bool → Bool → List ℕ → Option Hash → List ℕ → List Hash → Behaviour → Command
 asked tried result into hash from hashes mode = commands.Transplant (record {
   branch = into;
   hash = hash;
@@ -58,11 +58,11 @@ asked tried result into hash from hashes mode = commands.Transplant (record {
   conflicts_as_result = result;
 })
 
-abbrev transplant_as : Bool → Bool → List ℕ → Option Hash → List ℕ → List Hash → Behaviour → Request
+abbrev pub transplant_as : Bool → Bool → List ℕ → Option Hash → List ℕ → List Hash → Behaviour → Request
 transplant_as tried result into hash from hashes mode = Ok (Change (asked tried result into hash from hashes mode))
 
 -- commits of dev applied to main
-abbrev transplant : List Hash → Behaviour → Request
+abbrev pub transplant : List Hash → Behaviour → Request
 transplant hashes mode = transplant_as false false main None dev hashes mode
 
 -- a commit with a message of its own
@@ -70,7 +70,7 @@ abbrev noted : List ℕ → List ℕ → List Op → List Content → Request
 noted branch message ops contents = Ok (Change (commands.Commit (record { branch = branch; expected = None; meta = record note { message = message }; ops = ops; contents = contents })))
 
 -- the newest commits of main, and how many keys each set or deleted
-abbrev newest : ℕ → Session → List (Shape × ℕ)
+abbrev pub newest : ℕ → Session → List (Shape × ℕ)
 newest n s = map (λ x. (shape x.1, length x.1.ops)) (take n (chain s.state.commits (head s)))
 
 -- ---- one commit
