@@ -12,7 +12,7 @@ use cat_io::{Disk, Failed};
 /// bytes go.
 pub(crate) fn persist<D: Disk>(disk: &mut D, at: u64, bytes: &[u8]) -> Result<(), Failed>
     ensures past { 2 ^ 64 ≤ at + length bytes.now → IsErr result }
-    ensures stays { Told (D.told disk.old) (D.told disk.new) (λ old new. ⊤) }
+    ensures part { Told (D.told disk.old) (D.told disk.new) (Torn at (length bytes.now)) }
     ensures written { OnOk result (Told (D.told disk.old) (D.told disk.new) (λ old new. new ≡ put at bytes.now old)) }
     ensures durable { OnOk result (Only (D.told disk.new) (D.may_leave disk.new)) }
     ensures any_moment { LeavesOnly D.moment D.left_since disk.old disk.new (λ c. (d : List ℕ) × D.may_leave disk.old d × Torn at (length bytes.now) d c) }

@@ -53,14 +53,16 @@ fn spell(out: &mut Vec<u8>, payload: &[u8])
 impl<D: Disk + Send> Journal<D> {
     ghost use Rattle.cat_journal.specs.Journals.{journal_disk};
 
-    /// Opens the journal on a disk, and makes a new one where the disk is empty. Nothing is written
-    /// to a disk that has bytes.
+    /// Opens the journal on a disk, and makes a new one where the disk is empty. Where that fails,
+    /// an empty disk may have any bytes, up to the 17 of a new journal. Nothing is written to a disk
+    /// that has bytes.
     pub fn open(alloc: Global, mut disk: D) -> Result<Journal<D>, (D, OpenFault)>
         ensures payloads { IfOk result (λ j. Told (D.told disk) (⟦<Journal<D> as Keeper>⟧.told j) (λ bytes ps. recovered bytes ≡ Ok ps)) }
         ensures holds { IfOk result (λ j. Told (D.told (journal_disk j)) (⟦<Journal<D> as Keeper>⟧.told j) (λ bytes ps. recovered bytes ≡ Ok ps)) }
         ensures fault { IfErr result (λ e. Told (D.told disk) (D.told e.0) (λ before after. IsFaultOf before e.1)) }
         ensures up { IfOk result (λ j. ⟦<Journal<D> as Keeper>⟧.down j ≡ None) }
         ensures new { IfOk result (λ j. Told (D.told disk) (D.told (journal_disk j)) (λ before after. before ≡ [] → after ≡ new_journal)) }
+        ensures empty { IfErr result (λ e. Told (D.told disk) (D.told e.0) (λ before after. before ≡ [] → length after ≤ 17)) }
         ensures unwritten { IfSome (D.told disk) (λ bytes. 0 < length bytes → MatchResult result
             (λ j. OnlyReads D.told D.may_leave D.moment D.left_since disk (journal_disk j))
             (λ e. OnlyReads D.told D.may_leave D.moment D.left_since disk e.0)) }

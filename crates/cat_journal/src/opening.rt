@@ -1,5 +1,5 @@
 //! Opening a journal's file, which an empty one is made.
-ghost use Rattle.std.specs.Prelude.{ℕ, List, [], ◌++◌, ◌≡◌, ◌<◌, ◌≤◌, ◌+◌, ◌^◌, length, take, Ok, IfOk, IfSome, OnOk, MatchResult};
+ghost use Rattle.std.specs.Prelude.{ℕ, List, [], ◌++◌, ◌≡◌, ◌<◌, ◌≤◌, ◌+◌, ◌^◌, length, take, Ok, IsErr, IfOk, IfSome, OnOk, MatchResult};
 ghost use Rattle.cat_io.specs.Crashes.{Told, Only};
 ghost use Rattle.cat_journal.specs.Frames.{header, new_journal, max_entries, payloads, recovered, IsAtRest};
 ghost use Rattle.cat_journal.specs.Held.{IsHeld};
@@ -60,6 +60,7 @@ fn create<D: Disk>(alloc: Global, disk: &mut D) -> Result<(Vec<u64>, u64), OpenF
     requires { IfSome (D.told disk.old) (λ bytes. bytes ≡ []) }
     ensures found { Told (D.told disk.old) (D.told disk.new) (λ before after. MatchResult result (λ x. IsOpened before after x.0.items x.1) (IsFaultOf before)) }
     ensures new { OnOk result (Told (D.told disk.old) (D.told disk.new) (λ before after. before ≡ [] → after ≡ new_journal)) }
+    ensures empty { IsErr result → Told (D.told disk.old) (D.told disk.new) (λ before after. before ≡ [] → length after ≤ 17) }
     ensures durable { OnOk result (Only (D.told disk.new) (D.may_leave disk.new)) }
     ensures fits { IfOk result (λ x. (x.1 + 1 < 2 ^ 64) × (length x.0.items ≤ max_entries)) }
     ensures cause { HasOpenCause (D.faults disk.old) (D.faults disk.new) result }
@@ -74,6 +75,7 @@ fn create<D: Disk>(alloc: Global, disk: &mut D) -> Result<(Vec<u64>, u64), OpenF
 pub(crate) fn load<D: Disk>(alloc: Global, disk: &mut D) -> Result<(Vec<u64>, u64), OpenFault>
     ensures found { Told (D.told disk.old) (D.told disk.new) (λ before after. MatchResult result (λ x. IsOpened before after x.0.items x.1) (IsFaultOf before)) }
     ensures new { OnOk result (Told (D.told disk.old) (D.told disk.new) (λ before after. before ≡ [] → after ≡ new_journal)) }
+    ensures empty { IsErr result → Told (D.told disk.old) (D.told disk.new) (λ before after. before ≡ [] → length after ≤ 17) }
     ensures durable { OnOk result (Only (D.told disk.new) (D.may_leave disk.new)) }
     ensures unwritten { IfSome (D.told disk.old) (λ bytes. 0 < length bytes → OnlyReads D.told D.may_leave D.moment D.left_since disk.old disk.new) }
     ensures fits { IfOk result (λ x. (x.1 + 1 < 2 ^ 64) × (length x.0.items ≤ max_entries)) }
