@@ -45,7 +45,15 @@ fn commit(
     })
 }
 
-/// What an add of a commit answers; none where the commit can't be added.
+/// What an add of a commit answers.
+#[derive(Clone, Copy, PartialEq, Eq)]
+enum Answer {
+    Added,
+    Refused(AddFault),
+    /// It doesn't stand on what is there.
+    NotNext,
+}
+
 fn add(
     graph: &mut Graph,
     alloc: Global,
@@ -53,23 +61,33 @@ fn add(
     parent: u64,
     merge_parent: Option<u64>,
     generation: u64,
-) -> Result<Option<Result<(), AddFault>>, AllocError> {
+) -> Answer {
     let hash = hash(n);
-    let commit = commit(alloc, parent, merge_parent, generation)?;
+    let Ok(commit) = commit(alloc, parent, merge_parent, generation) else {
+        return Answer::Refused(AddFault::NoMemory);
+    };
     if !graph.is_next(&hash, &commit) {
-        return Ok(None);
+        return Answer::NotNext;
     }
-    Ok(Some(graph.add(hash, commit)))
+    match graph.add(hash, commit) {
+        Ok(()) => Answer::Added,
+        Err(fault) => Answer::Refused(fault),
+    }
 }
 
 /// Commits 1 to 3 in a row, 4 beside the third, and 5, which merges 4 into the third.
-fn forked(alloc: Global) -> Result<Graph, AllocError> {
+fn forked(alloc: Global) -> Result<Graph, Fail> {
     let mut graph = Graph::new(alloc);
-    add(&mut graph, alloc, 1, 0, None, 1)?;
-    add(&mut graph, alloc, 2, 1, None, 2)?;
-    add(&mut graph, alloc, 3, 2, None, 3)?;
-    add(&mut graph, alloc, 4, 2, None, 3)?;
-    add(&mut graph, alloc, 5, 3, Some(4), 4)?;
+    let answers = [
+        add(&mut graph, alloc, 1, 0, None, 1),
+        add(&mut graph, alloc, 2, 1, None, 2),
+        add(&mut graph, alloc, 3, 2, None, 3),
+        add(&mut graph, alloc, 4, 2, None, 3),
+        add(&mut graph, alloc, 5, 3, Some(4), 4),
+    ];
+    if answers != [Answer::Added; 5] {
+        return Err(Fail::from("a commit was not added"));
+    }
     Ok(graph)
 }
 
@@ -130,14 +148,30 @@ fn walked(graph: &Graph, alloc: Global, from: u64, limit: usize) -> Result<Vec<H
     Ok(hashes)
 }
 
+/// Whether a walk meets just the hashes of these numbers.
+fn walks(graph: &Graph, alloc: Global, from: u64, limit: usize, numbers: &[u64]) -> bool {
+    match walked(graph, alloc, from, limit) {
+        Ok(hashes) => are_of(hashes.as_slice(), numbers),
+        Err(_) => false,
+    }
+}
+
+fn are_of(hashes: &[Hash], numbers: &[u64]) -> bool {
+    for (found, n) in hashes.iter().zip(numbers) {
+        if *found != hash(*n) {
+            return false;
+        }
+    }
+    hashes.len() == numbers.len()
+}
+
 #[test]
 fn a_chain_is_walked_up_to_a_limit(rt: HostRuntime) -> Result<(), Fail> {
-    let graph = forked(rt.alloc())?;
-    let all = walked(&graph, rt.alloc(), 5, 9)?;
-    assert!(rt; all.as_slice() == [hash(5), hash(3), hash(2), hash(1)].as_slice());
-    let two = walked(&graph, rt.alloc(), 5, 2)?;
-    assert!(rt; two.as_slice() == [hash(5), hash(3)].as_slice());
-    assert!(rt; walked(&graph, rt.alloc(), 0, 9)?.is_empty());
+    let alloc = rt.alloc();
+    let graph = forked(alloc)?;
+    assert!(rt; walks(&graph, alloc, 5, 9, &[5, 3, 2, 1]));
+    assert!(rt; walks(&graph, alloc, 5, 2, &[5, 3]));
+    assert!(rt; walks(&graph, alloc, 0, 9, &[]));
     Ok(())
 }
 
@@ -161,18 +195,29 @@ fn consecutive_commits_are_each_the_parent_of_the_next(rt: HostRuntime) -> Resul
 fn a_hash_keeps_its_first_commit(rt: HostRuntime) -> Result<(), Fail> {
     let alloc = rt.alloc();
     let mut graph = forked(alloc)?;
-    let again = add(&mut graph, alloc, 3, 2, None, 3)?;
-    assert!(rt; again == Some(Ok(())));
-    let other = add(&mut graph, alloc, 3, 2, Some(1), 3)?;
-    assert!(rt; other == Some(Err(AddFault::Collision)));
-    let refused = [
-        add(&mut graph, alloc, 0, 1, None, 2)?,
-        add(&mut graph, alloc, 9, 8, None, 1)?,
-        add(&mut graph, alloc, 9, 1, Some(4), 2)?,
-        add(&mut graph, alloc, 9, 1, None, 3)?,
+    let again = add(&mut graph, alloc, 3, 2, None, 3);
+    assert!(rt; again == Answer::Added);
+    let other = add(&mut graph, alloc, 3, 2, Some(1), 3);
+    assert!(rt; other == Answer::Refused(AddFault::Collision));
+    let others = [
+        add(&mut graph, alloc, 0, 1, None, 2),
+        add(&mut graph, alloc, 9, 8, None, 1),
+        add(&mut graph, alloc, 9, 1, Some(4), 2),
+        add(&mut graph, alloc, 9, 1, None, 3),
     ];
-    assert!(rt; refused == [None; 4]);
+    assert!(rt; others == [Answer::NotNext; 4]);
     assert!(rt; graph.len() == 5);
+    Ok(())
+}
+
+/// Pushes another commit 3, which merges the second into the first, into room made before.
+fn push_another(graph: &mut Graph, alloc: Global) -> Result<(), Fail> {
+    graph.reserve(1)?;
+    let hash = hash(3);
+    let other = commit(alloc, 1, Some(2), 3)?;
+    if graph.get(&hash).is_none() && graph.is_next(&hash, &other) {
+        graph.push(hash, other);
+    }
     Ok(())
 }
 
@@ -181,25 +226,23 @@ fn what_is_cut_can_be_pushed_anew(rt: HostRuntime) -> Result<(), Fail> {
     let mut graph = forked(rt.alloc())?;
     graph.cut(2);
     assert!(rt; graph.len() == 2);
-    graph.reserve(1)?;
-    let hash = hash(3);
-    let other = commit(rt.alloc(), 1, Some(2), 3)?;
-    if graph.get(&hash).is_none() && graph.is_next(&hash, &other) {
-        graph.push(hash, other);
-    }
+    push_another(&mut graph, rt.alloc())?;
     assert!(rt; told(&graph, 3) == (true, true, 3));
     assert!(rt; !is_on_chain(&graph, 3, 2));
     Ok(())
 }
 
-/// The merge base of two commits; none where one of them isn't known.
-fn base(graph: &Graph, alloc: Global, left: u64, right: u64) -> Result<Option<Hash>, NoMemory> {
+/// Whether this is the merge base of two commits, both of them known.
+fn is_base(graph: &Graph, alloc: Global, left: u64, right: u64, n: u64) -> bool {
     let left = hash(left);
     let right = hash(right);
     if !graph.is_known(&left) || !graph.is_known(&right) {
-        return Ok(None);
+        return false;
     }
-    Ok(Some(graph.base(alloc, &left, &right)?))
+    match graph.base(alloc, &left, &right) {
+        Ok(found) => found == hash(n),
+        Err(_) => false,
+    }
 }
 
 /// The hashes of 3 and 4 begin with d5 and 80, so 4 is the lesser one.
@@ -208,18 +251,21 @@ fn a_merge_base_is_the_nearest_common_ancestor(rt: HostRuntime) -> Result<(), Fa
     let alloc = rt.alloc();
     let mut graph = forked(alloc)?;
     let found = [
-        base(&graph, alloc, 3, 4)?,
-        base(&graph, alloc, 5, 4)?,
-        base(&graph, alloc, 1, 5)?,
-        base(&graph, alloc, 0, 5)?,
-        base(&graph, alloc, 5, 5)?,
+        is_base(&graph, alloc, 3, 4, 2),
+        is_base(&graph, alloc, 5, 4, 4),
+        is_base(&graph, alloc, 1, 5, 1),
+        is_base(&graph, alloc, 0, 5, 0),
+        is_base(&graph, alloc, 5, 5, 5),
     ];
-    assert!(rt; found == [2, 4, 1, 0, 5].map(|n| Some(hash(n))));
-    add(&mut graph, alloc, 6, 4, Some(3), 4)?;
-    let crossed = [base(&graph, alloc, 5, 6)?, base(&graph, alloc, 6, 5)?];
-    assert!(rt; crossed == [Some(hash(4)); 2]);
-    add(&mut graph, alloc, 7, 0, None, 1)?;
-    assert!(rt; base(&graph, alloc, 7, 6)? == Some(Hash::none()));
-    assert!(rt; base(&graph, alloc, 9, 5)?.is_none());
+    assert!(rt; found == [true; 5]);
+    assert!(rt; add(&mut graph, alloc, 6, 4, Some(3), 4) == Answer::Added);
+    let crossed = [
+        is_base(&graph, alloc, 5, 6, 4),
+        is_base(&graph, alloc, 6, 5, 4),
+    ];
+    assert!(rt; crossed == [true; 2]);
+    assert!(rt; add(&mut graph, alloc, 7, 0, None, 1) == Answer::Added);
+    assert!(rt; is_base(&graph, alloc, 7, 6, 0));
+    assert!(rt; !graph.is_known(&hash(9)));
     Ok(())
 }

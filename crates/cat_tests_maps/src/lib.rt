@@ -8,6 +8,8 @@ mod graph;
 #[cfg(test)]
 mod keymap;
 #[cfg(test)]
+mod keys;
+#[cfg(test)]
 mod merge;
 #[cfg(test)]
 mod rules;

@@ -1,6 +1,5 @@
+use crate::keys::{are_conflicts, is_at, key};
 use cat_codes::ascending::Ascending;
-use cat_codes::seq::Seq;
-use cat_codes::text::Text;
 use cat_keymap::key_map::KeyMap;
 use cat_merge::plan::{Plan, plan_merge};
 use cat_model::conflict::ConflictKind;
@@ -8,15 +7,8 @@ use cat_model::entry::{ContentKind, Entry};
 use cat_model::merging::{Behaviour, Modes};
 use cat_names::hash::{ContentId, Hash};
 use cat_names::key::ContentKey;
+use std::alloc::Global;
 use std::test::*;
-
-fn key(rt: HostRuntime, elements: &[&str]) -> Result<ContentKey, Fail> {
-    let mut texts = Seq::new(rt.alloc());
-    for element in elements {
-        texts.push(Text::from_str(rt.alloc(), element)?)?;
-    }
-    Ok(ContentKey::new(rt.alloc(), texts)?)
-}
 
 fn entry(kind: ContentKind, value: u8) -> Entry {
     Entry {
@@ -34,51 +26,82 @@ fn namespace() -> Option<Entry> {
     Some(entry(ContentKind::Namespace, 0))
 }
 
-/// The map with these entries at `a`, `a.t` and `b`.
-fn map(rt: HostRuntime, entries: [Option<Entry>; 3]) -> Result<KeyMap, Fail> {
+fn changes(
+    alloc: Global,
+    entries: [Option<Entry>; 3],
+) -> Result<Ascending<ContentKey, Option<Entry>>, Fail> {
     let [a, t, b] = entries;
-    let mut changes = Ascending::new(rt.alloc());
-    changes.push(key(rt, &["a"])?, a)?;
-    changes.push(key(rt, &["a", "t"])?, t)?;
-    changes.push(key(rt, &["b"])?, b)?;
-    Ok(KeyMap::empty().with_changes(rt.alloc(), &changes)?)
+    let mut changes = Ascending::new(alloc);
+    for (elements, entry) in [
+        (["a"].as_slice(), a),
+        (["a", "t"].as_slice(), t),
+        (["b"].as_slice(), b),
+    ] {
+        changes.push(key(alloc, elements)?, entry)?;
+    }
+    Ok(changes)
 }
 
-/// The plan where `b` has a behaviour, and all other keys another.
+/// The map with these entries at `a`, `a.t` and `b`.
+fn map(alloc: Global, entries: [Option<Entry>; 3]) -> Result<KeyMap, Fail> {
+    let changes = changes(alloc, entries)?;
+    Ok(KeyMap::empty().with_changes(alloc, &changes)?)
+}
+
+fn maps(alloc: Global, entries: &[[Option<Entry>; 3]]) -> Result<Vec<KeyMap>, Fail> {
+    let mut maps = Vec::new(alloc);
+    for each in entries {
+        maps.push(map(alloc, *each)?)?;
+    }
+    Ok(maps)
+}
+
+/// The modes where `b` has a behaviour, and all other keys another.
+fn modes(alloc: Global, default: Behaviour, of_b: Behaviour) -> Result<Modes, Fail> {
+    let mut keys = Ascending::new(alloc);
+    keys.push(key(alloc, &["b"])?, of_b)?;
+    Ok(Modes { default, keys })
+}
+
+/// The plan for the entries of base, source and target, in these modes.
 fn planned(
-    rt: HostRuntime,
-    maps: [[Option<Entry>; 3]; 3],
+    alloc: Global,
+    entries: [[Option<Entry>; 3]; 3],
     default: Behaviour,
     of_b: Behaviour,
 ) -> Result<Plan, Fail> {
-    let mut keys = Ascending::new(rt.alloc());
-    keys.push(key(rt, &["b"])?, of_b)?;
-    let modes = Modes { default, keys };
-    let [base, source, target] = maps;
-    let base = map(rt, base)?;
-    let source = map(rt, source)?;
-    let target = map(rt, target)?;
-    Ok(plan_merge(rt.alloc(), &base, &source, &target, &modes)?)
+    let modes = modes(alloc, default, of_b)?;
+    let maps = maps(alloc, &entries)?;
+    match maps.as_slice() {
+        [base, source, target] => Ok(plan_merge(alloc, base, source, target, &modes)?),
+        _ => Err(Fail::from("not three maps")),
+    }
 }
 
-/// What is found at `b`, by its entries at base, source and target: its conflict, and its entry
-/// after.
-fn at_b(
-    rt: HostRuntime,
+/// Whether a plan has one key, with this conflict, and this entry after.
+fn has_one(plan: &Plan, conflict: Option<ConflictKind>, after: Option<Entry>) -> bool {
+    match plan.details.as_slice() {
+        [detail] => detail.conflict == conflict && plan.map.get(&detail.key) == after,
+        _ => false,
+    }
+}
+
+/// Whether this is found at `b`, by its entries at base, source and target: its conflict, and its
+/// entry after.
+fn is_at_b(
+    alloc: Global,
     entries: [Option<Entry>; 3],
     behaviour: Behaviour,
-) -> Result<(Option<ConflictKind>, Option<Entry>), Fail> {
+    wanted: (Option<ConflictKind>, Option<Entry>),
+) -> Result<bool, Fail> {
     let [base, source, target] = entries;
     let maps = [
         [None, None, base],
         [None, None, source],
         [None, None, target],
     ];
-    let plan = planned(rt, maps, Behaviour::Drop, behaviour)?;
-    match plan.details.as_slice() {
-        [detail] => Ok((detail.conflict, plan.map.get(&detail.key))),
-        _ => Err(Fail::from("not one key")),
-    }
+    let plan = planned(alloc, maps, Behaviour::Drop, behaviour)?;
+    Ok(has_one(&plan, wanted.0, wanted.1))
 }
 
 #[test]
@@ -122,7 +145,7 @@ fn a_key_is_merged_by_its_behaviour(rt: HostRuntime) -> Result<(), Fail> {
             (None, table(3)),
         ),
     ] {
-        assert!(rt; at_b(rt, entries, behaviour)? == want);
+        assert!(rt; is_at_b(rt.alloc(), entries, behaviour, want)?);
     }
     Ok(())
 }
@@ -134,15 +157,13 @@ fn a_forced_key_still_needs_its_namespace(rt: HostRuntime) -> Result<(), Fail> {
         [namespace(), table(2), table(4)],
         [None, None, table(3)],
     ];
-    let plan = planned(rt, maps, Behaviour::Force, Behaviour::Normal)?;
+    let plan = planned(rt.alloc(), maps, Behaviour::Force, Behaviour::Normal)?;
     assert!(rt; plan.details.len() == 2 && plan.ops.len() == 1 && plan.map.len() == 2);
-    let [first, second] = plan.conflicts.as_slice() else {
-        return Err(Fail::from("not two conflicts"));
-    };
-    assert!(rt; first.key == Some(key(rt, &["a", "t"])?));
-    assert!(rt; first.kind == ConflictKind::NamespaceAbsent);
-    assert!(rt; second.key == Some(key(rt, &["b"])?));
-    assert!(rt; second.kind == ConflictKind::ValueDiffers);
+    let wanted = [
+        (["a", "t"].as_slice(), ConflictKind::NamespaceAbsent),
+        (["b"].as_slice(), ConflictKind::ValueDiffers),
+    ];
+    assert!(rt; are_conflicts(plan.conflicts.as_slice(), &wanted));
     Ok(())
 }
 
@@ -153,9 +174,10 @@ fn a_key_that_only_the_target_changed_is_left(rt: HostRuntime) -> Result<(), Fai
         [namespace(), table(1), table(2)],
         [namespace(), table(3), table(1)],
     ];
-    let plan = planned(rt, maps, Behaviour::Normal, Behaviour::Normal)?;
+    let alloc = rt.alloc();
+    let plan = planned(alloc, maps, Behaviour::Normal, Behaviour::Normal)?;
     assert!(rt; plan.details.len() == 1 && plan.conflicts.len() == 0);
-    assert!(rt; plan.map.get(&key(rt, &["a", "t"])?) == table(3));
-    assert!(rt; plan.map.get(&key(rt, &["b"])?) == table(2));
+    assert!(rt; is_at(alloc, &plan.map, &["a", "t"], table(3)));
+    assert!(rt; is_at(alloc, &plan.map, &["b"], table(2)));
     Ok(())
 }

@@ -1,22 +1,13 @@
-use cat_codes::seq::Seq;
-use cat_codes::text::Text;
+use crate::keys::{Change, are_conflicts, is_at, ops};
 use cat_keymap::distinct::are_distinct;
 use cat_keymap::key_map::KeyMap;
-use cat_model::conflict::{Conflict, ConflictKind};
+use cat_model::conflict::ConflictKind;
 use cat_model::entry::{ContentKind, Entry};
 use cat_model::op::Op;
 use cat_names::hash::{ContentId, Hash};
-use cat_names::key::ContentKey;
 use cat_rules::judging::{Judged, judge};
+use std::alloc::Global;
 use std::test::*;
-
-fn key(rt: HostRuntime, elements: &[&str]) -> Result<ContentKey, Fail> {
-    let mut texts = Seq::new(rt.alloc());
-    for element in elements {
-        texts.push(Text::from_str(rt.alloc(), element)?)?;
-    }
-    Ok(ContentKey::new(rt.alloc(), texts)?)
-}
 
 fn entry(kind: ContentKind, id: u8, value: u8) -> Entry {
     Entry {
@@ -26,155 +17,159 @@ fn entry(kind: ContentKind, id: u8, value: u8) -> Entry {
     }
 }
 
-fn put(
-    rt: HostRuntime,
-    elements: &[&str],
-    kind: ContentKind,
-    id: u8,
-    fresh: bool,
-) -> Result<Op, Fail> {
-    Ok(Op::Put {
-        key: key(rt, elements)?,
-        entry: entry(kind, id, id),
-        fresh,
-    })
+fn put(kind: ContentKind, id: u8, fresh: bool) -> Change {
+    Change::Put(entry(kind, id, id), fresh)
 }
 
-fn delete(rt: HostRuntime, elements: &[&str]) -> Result<Op, Fail> {
-    Ok(Op::Delete {
-        key: key(rt, elements)?,
-    })
-}
-
-fn unchanged(rt: HostRuntime, elements: &[&str]) -> Result<Op, Fail> {
-    Ok(Op::Unchanged {
-        key: key(rt, elements)?,
-    })
-}
-
-fn conflict(rt: HostRuntime, elements: &[&str], kind: ConflictKind) -> Result<Conflict, Fail> {
-    Ok(Conflict {
-        key: Some(key(rt, elements)?),
-        kind,
-    })
+fn judged_ops(alloc: Global, expected: &KeyMap, head: &KeyMap, ops: &[Op]) -> Result<Judged, Fail> {
+    if !are_distinct(alloc, ops)? {
+        return Err(Fail::from("a key comes twice"));
+    }
+    Ok(judge(alloc, expected, head, ops)?)
 }
 
 /// What a request is found to be, whose keys must be distinct.
-fn judged(rt: HostRuntime, expected: &KeyMap, head: &KeyMap, ops: &[Op]) -> Result<Judged, Fail> {
-    if !are_distinct(rt.alloc(), ops)? {
-        return Err(Fail::from("a key comes twice"));
-    }
-    Ok(judge(rt.alloc(), expected, head, ops)?)
-}
-
-/// The conflicts of a request.
-fn conflicts(
-    rt: HostRuntime,
+fn judged(
+    alloc: Global,
     expected: &KeyMap,
     head: &KeyMap,
-    ops: &[Op],
-) -> Result<Seq<Conflict>, Fail> {
-    match judged(rt, expected, head, ops)? {
-        Judged::Conflicts(list) => Ok(list),
-        Judged::Map(_) => Ok(Seq::new(rt.alloc())),
+    changes: &[(&[&str], Change)],
+) -> Result<Judged, Fail> {
+    let ops = ops(alloc, changes)?;
+    judged_ops(alloc, expected, head, ops.as_slice())
+}
+
+fn only_kind(judged: &Judged) -> Result<Option<ConflictKind>, Fail> {
+    match judged {
+        Judged::Map(_) => Ok(None),
+        Judged::Conflicts(list) => match list.as_slice() {
+            [conflict] => Ok(Some(conflict.kind)),
+            _ => Err(Fail::from("not one conflict")),
+        },
     }
 }
 
 /// The kind of the only conflict of a request of one operation, or none.
 fn only(
-    rt: HostRuntime,
+    alloc: Global,
     expected: &KeyMap,
     head: &KeyMap,
-    op: Op,
+    elements: &[&str],
+    change: Change,
 ) -> Result<Option<ConflictKind>, Fail> {
-    match conflicts(rt, expected, head, &[op])?.as_slice() {
-        [] => Ok(None),
-        [conflict] => Ok(Some(conflict.kind)),
-        _ => Err(Fail::from("more than one conflict")),
-    }
+    let judged = judged(alloc, expected, head, &[(elements, change)])?;
+    only_kind(&judged)
 }
 
 /// The map after a request without conflicts.
-fn after(rt: HostRuntime, head: &KeyMap, ops: &[Op]) -> Result<KeyMap, Fail> {
-    match judged(rt, head, head, ops)? {
+fn after(alloc: Global, head: &KeyMap, changes: &[(&[&str], Change)]) -> Result<KeyMap, Fail> {
+    match judged(alloc, head, head, changes)? {
         Judged::Map(map) => Ok(map),
         Judged::Conflicts(_) => Err(Fail::from("a conflict")),
     }
 }
 
 /// The map of the namespace `a` and the table `a.t`.
-fn head(rt: HostRuntime) -> Result<KeyMap, Fail> {
-    let ops = [
-        put(rt, &["a", "t"], ContentKind::IcebergTable, 2, true)?,
-        put(rt, &["a"], ContentKind::Namespace, 1, true)?,
+fn head(alloc: Global) -> Result<KeyMap, Fail> {
+    let changes = [
+        (
+            ["a", "t"].as_slice(),
+            put(ContentKind::IcebergTable, 2, true),
+        ),
+        (["a"].as_slice(), put(ContentKind::Namespace, 1, true)),
     ];
-    after(rt, &KeyMap::empty(), ops.as_slice())
+    after(alloc, &KeyMap::empty(), &changes)
 }
 
 #[test]
 fn a_namespace_and_its_table_come_and_go_together(rt: HostRuntime) -> Result<(), Fail> {
-    let head = head(rt)?;
+    let alloc = rt.alloc();
+    let head = head(alloc)?;
     assert!(rt; head.len() == 2);
-    let kind = only(rt, &head, &head, delete(rt, &["a"])?)?;
+    let kind = only(alloc, &head, &head, &["a"], Change::Delete)?;
     assert!(rt; kind == Some(ConflictKind::NamespaceNotEmpty));
-    let both = [delete(rt, &["a"])?, delete(rt, &["a", "t"])?];
-    assert!(rt; after(rt, &head, both.as_slice())?.len() == 0);
+    let both = [
+        (["a"].as_slice(), Change::Delete),
+        (["a", "t"].as_slice(), Change::Delete),
+    ];
+    let none = after(alloc, &head, &both)?;
+    assert!(rt; none.len() == 0);
     Ok(())
 }
 
 #[test]
 fn a_content_moves_with_its_id(rt: HostRuntime) -> Result<(), Fail> {
-    let head = head(rt)?;
+    let alloc = rt.alloc();
+    let head = head(alloc)?;
+    let content = entry(ContentKind::IcebergTable, 2, 2);
+    assert!(rt; is_at(alloc, &head, &["a", "t"], Some(content)));
     let moved = [
-        put(rt, &["t"], ContentKind::IcebergTable, 2, false)?,
-        delete(rt, &["a", "t"])?,
+        (["t"].as_slice(), Change::Put(content, false)),
+        (["a", "t"].as_slice(), Change::Delete),
     ];
-    let map = after(rt, &head, moved.as_slice())?;
-    assert!(rt; map.get(&key(rt, &["t"])?) == head.get(&key(rt, &["a", "t"])?));
+    let map = after(alloc, &head, &moved)?;
+    assert!(rt; is_at(alloc, &map, &["t"], Some(content)));
     Ok(())
 }
 
-/// The conflicts of a request at `z`, `a.t` and `a`.
-fn three_conflicts(rt: HostRuntime) -> Result<Seq<Conflict>, Fail> {
-    let head = head(rt)?;
-    let ops = [
-        delete(rt, &["z"])?,
-        put(rt, &["a", "t"], ContentKind::IcebergTable, 5, false)?,
-        put(rt, &["a"], ContentKind::IcebergView, 1, false)?,
+/// Whether a request has these conflicts, in this order.
+fn conflicts(judged: &Judged, wanted: &[(&[&str], ConflictKind)]) -> bool {
+    match judged {
+        Judged::Conflicts(list) => are_conflicts(list.as_slice(), wanted),
+        Judged::Map(_) => false,
+    }
+}
+
+/// What is found of a request at `z`, `a.t` and `a`.
+fn three(alloc: Global) -> Result<Judged, Fail> {
+    let head = head(alloc)?;
+    let changes = [
+        (["z"].as_slice(), Change::Delete),
+        (
+            ["a", "t"].as_slice(),
+            put(ContentKind::IcebergTable, 5, false),
+        ),
+        (["a"].as_slice(), put(ContentKind::IcebergView, 1, false)),
     ];
-    conflicts(rt, &head, &head, ops.as_slice())
+    judged(alloc, &head, &head, &changes)
 }
 
 #[test]
 fn conflicts_are_told_by_key(rt: HostRuntime) -> Result<(), Fail> {
-    let want = [
-        conflict(rt, &["a"], ConflictKind::PayloadDiffers)?,
-        conflict(rt, &["a", "t"], ConflictKind::ContentIdDiffers)?,
-        conflict(rt, &["z"], ConflictKind::KeyDoesNotExist)?,
+    let judged = three(rt.alloc())?;
+    let wanted = [
+        (["a"].as_slice(), ConflictKind::PayloadDiffers),
+        (["a", "t"].as_slice(), ConflictKind::ContentIdDiffers),
+        (["z"].as_slice(), ConflictKind::KeyDoesNotExist),
     ];
-    assert!(rt; three_conflicts(rt)?.as_slice() == want.as_slice());
+    assert!(rt; conflicts(&judged, &wanted));
     Ok(())
+}
+
+/// The map where `a.t` went away and then came back as this, or stayed away.
+fn away_and_back(alloc: Global, first: &KeyMap, back: Option<Entry>) -> Result<KeyMap, Fail> {
+    let gone = after(alloc, first, &[(["a", "t"].as_slice(), Change::Delete)])?;
+    match back {
+        None => Ok(gone),
+        Some(entry) => after(
+            alloc,
+            &gone,
+            &[(["a", "t"].as_slice(), Change::Put(entry, true))],
+        ),
+    }
 }
 
 /// The only conflict of leaving `a.t` as it was, where it went away and then came back as this, or
 /// stayed away.
-fn left(rt: HostRuntime, back: Option<Entry>) -> Result<Option<ConflictKind>, Fail> {
-    let first = head(rt)?;
-    let gone = after(rt, &first, &[delete(rt, &["a", "t"])?])?;
-    let same = unchanged(rt, &["a", "t"])?;
-    let Some(entry) = back else {
-        return only(rt, &first, &gone, same);
-    };
-    let put = Op::Put {
-        key: key(rt, &["a", "t"])?,
-        entry,
-        fresh: true,
-    };
-    only(rt, &first, &after(rt, &gone, &[put])?, same)
+fn left(alloc: Global, back: Option<Entry>) -> Result<Option<ConflictKind>, Fail> {
+    let first = head(alloc)?;
+    let later = away_and_back(alloc, &first, back)?;
+    only(alloc, &first, &later, &["a", "t"], Change::Unchanged)
 }
 
 #[test]
 fn a_key_is_compared_with_what_was_expected(rt: HostRuntime) -> Result<(), Fail> {
+    let alloc = rt.alloc();
     let table = ContentKind::IcebergTable;
     for (back, want) in [
         (Some(entry(table, 2, 2)), None),
@@ -189,18 +184,20 @@ fn a_key_is_compared_with_what_was_expected(rt: HostRuntime) -> Result<(), Fail>
             Some(ConflictKind::PayloadDiffers),
         ),
     ] {
-        assert!(rt; left(rt, back)? == want);
+        assert!(rt; left(alloc, back)? == want);
     }
-    let head = head(rt)?;
-    assert!(rt; only(rt, &head, &head, unchanged(rt, &["z"])?)? == None);
+    let head = head(alloc)?;
+    let kind = only(alloc, &head, &head, &["z"], Change::Unchanged)?;
+    assert!(rt; kind.is_none());
     Ok(())
 }
 
 #[test]
 fn a_put_needs_a_key_that_fits(rt: HostRuntime) -> Result<(), Fail> {
+    let alloc = rt.alloc();
     let table = ContentKind::IcebergTable;
     let view = ContentKind::IcebergView;
-    let head = head(rt)?;
+    let head = head(alloc)?;
     for (elements, kind, id, fresh, want) in [
         (["a", "t"].as_slice(), table, 2, false, None),
         (
@@ -246,8 +243,8 @@ fn a_put_needs_a_key_that_fits(rt: HostRuntime) -> Result<(), Fail> {
             Some(ConflictKind::NotANamespace),
         ),
     ] {
-        let op = put(rt, elements, kind, id, fresh)?;
-        assert!(rt; only(rt, &head, &head, op)? == want);
+        let found = only(alloc, &head, &head, elements, put(kind, id, fresh))?;
+        assert!(rt; found == want);
     }
     Ok(())
 }
