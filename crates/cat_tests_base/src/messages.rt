@@ -1,4 +1,4 @@
-use cat_http::{Body, Buffer, Incoming, Response, WriteFault, read_request, write_reply};
+use cat_http::{Body, Buffer, Incoming, Request, Response, WriteFault, read_request, write_reply};
 use cat_io::{MemorySink, MemorySource};
 use http::StatusCode;
 use std::alloc::Global;
@@ -29,31 +29,47 @@ fn config(alloc: Global, status: StatusCode, head_only: bool) -> Result<Response
     })
 }
 
+fn is_first(request: &Request<'_>) -> bool {
+    request.method() == b"POST".as_slice()
+        && request.body() == COMMIT.as_bytes()
+        && request.field(b"Transfer-Encoding") == Some(b"Chunked".as_slice())
+        && !request.closes()
+}
+
+fn is_second(request: &Request<'_>) -> bool {
+    request.target() == b"/b".as_slice() && request.minor() == 0 && request.closes()
+}
+
+/// Whether both requests are read from a text in such pieces, and then its end.
+fn are_read(alloc: Global, text: &str, piece: usize) -> Result<bool, Fail> {
+    let mut from = source(alloc, text, piece)?;
+    let mut buffer = Buffer::new(alloc)?;
+    let first = read_request(&mut from, &mut buffer) == Incoming::Request
+        && is_first(&buffer.request());
+    let second = read_request(&mut from, &mut buffer) == Incoming::Request
+        && is_second(&buffer.request());
+    Ok(first && second && read_request(&mut from, &mut buffer) == Incoming::End)
+}
+
 #[test]
 fn requests_in_any_pieces_keep_what_follows(rt: HostRuntime) -> Result<(), Fail> {
     let text = format!(in rt.alloc();
         "\r\nPOST /a HTTP/1.1\r\ntransfer-encoding: Chunked\r\n\r\nca\r\n{COMMIT}\r\n0\r\n\r\nGET /b HTTP/1.0\n\n\r\n"
     )?;
     for piece in [1, 7, 1000] {
-        let mut from = source(rt.alloc(), text.as_str(), piece)?;
-        let mut buffer = Buffer::new(rt.alloc())?;
-        assert_eq!(rt; read_request(&mut from, &mut buffer), Incoming::Request);
-        let first = buffer.request();
-        assert_eq!(rt; first.method(), b"POST".as_slice());
-        assert_eq!(rt; first.body(), COMMIT.as_bytes());
-        assert_eq!(rt;
-            first.field(b"Transfer-Encoding"),
-            Some(b"Chunked".as_slice())
+        assert!(rt;
+            are_read(rt.alloc(), text.as_str(), piece)?,
+            "pieces of {piece}"
         );
-        assert!(rt; !first.closes());
-        assert_eq!(rt; read_request(&mut from, &mut buffer), Incoming::Request);
-        let second = buffer.request();
-        assert_eq!(rt; second.target(), b"/b".as_slice());
-        assert_eq!(rt; second.minor(), 0);
-        assert!(rt; second.closes());
-        assert_eq!(rt; read_request(&mut from, &mut buffer), Incoming::End);
     }
     Ok(())
+}
+
+/// Whether this is answered first.
+fn is_answered(alloc: Global, text: &str, answer: Incoming) -> Result<bool, Fail> {
+    let mut from = source(alloc, text, 9)?;
+    let mut buffer = Buffer::new(alloc)?;
+    Ok(read_request(&mut from, &mut buffer) == answer)
 }
 
 #[test]
@@ -109,47 +125,49 @@ fn a_stream_without_a_request_ends_or_is_refused(rt: HostRuntime) -> Result<(), 
         ),
     ];
     for (text, answer) in table {
-        let mut from = source(rt.alloc(), text, 9)?;
-        let mut buffer = Buffer::new(rt.alloc())?;
-        assert_eq!(rt; read_request(&mut from, &mut buffer), answer);
+        assert!(rt; is_answered(rt.alloc(), text, answer)?, "{text}");
     }
     Ok(())
 }
 
+/// Whether a reply is written as these bytes.
+fn is_written(alloc: Global, reply: &Response, bytes: &[u8]) -> Result<bool, Fail> {
+    let mut sink = MemorySink::new(alloc, 1000, Vec::new(alloc))?;
+    Ok(write_reply(&mut sink, reply) == Ok(()) && sink.bytes() == bytes)
+}
+
+/// Whether a sink of twenty bytes has no room for a reply.
+fn is_too_long(alloc: Global, reply: &Response) -> Result<bool, Fail> {
+    let mut small = MemorySink::new(alloc, 20, Vec::new(alloc))?;
+    Ok(write_reply(&mut small, reply) == Err(WriteFault))
+}
+
 #[test]
 fn the_config_reply_is_these_bytes(rt: HostRuntime) -> Result<(), Fail> {
-    let mut sink = MemorySink::new(rt.alloc(), 1000, Vec::new(rt.alloc()))?;
-    let reply = config(rt.alloc(), StatusCode::OK, false)?;
-    assert_eq!(rt; write_reply(&mut sink, &reply), Ok(()));
-    let text = format!(in rt.alloc();
+    let alloc = rt.alloc();
+    let text = format!(in alloc;
         "HTTP/1.1 200 OK\r\nContent-Type: application/json\r\nCatalogue-Place: 0\r\nContent-Length: 183\r\n\r\n{CONFIG}"
     )?;
-    assert_eq!(rt; sink.bytes(), text.as_bytes());
-    let mut small = MemorySink::new(rt.alloc(), 20, Vec::new(rt.alloc()))?;
-    assert_eq!(rt; write_reply(&mut small, &reply), Err(WriteFault));
+    let reply = config(alloc, StatusCode::OK, false)?;
+    assert!(rt; is_written(alloc, &reply, text.as_bytes())?);
+    assert!(rt; is_too_long(alloc, &reply)?);
     Ok(())
 }
 
 #[test]
 fn replies_to_head_have_no_length(rt: HostRuntime) -> Result<(), Fail> {
-    let mut sink = MemorySink::new(rt.alloc(), 1000, Vec::new(rt.alloc()))?;
     let reply = config(rt.alloc(), StatusCode::METHOD_NOT_ALLOWED, true)?;
-    assert_eq!(rt; write_reply(&mut sink, &reply), Ok(()));
     let head =
         "HTTP/1.1 405 Method Not Allowed\r\nContent-Type: application/json\r\nAllow: GET, HEAD\r\nCatalogue-Place: 0\r\nConnection: close\r\n\r\n";
-    assert_eq!(rt; sink.bytes(), head.as_bytes());
+    assert!(rt; is_written(rt.alloc(), &reply, head.as_bytes())?);
     Ok(())
 }
 
 #[test]
 fn want_of_memory_is_told_by_a_fixed_text(rt: HostRuntime) -> Result<(), Fail> {
-    let mut sink = MemorySink::new(rt.alloc(), 1000, Vec::new(rt.alloc()))?;
-    assert_eq!(rt;
-        write_reply(&mut sink, &Response::no_memory(false, false)),
-        Ok(())
-    );
     let text =
         "HTTP/1.1 507 Insufficient Storage\r\nContent-Type: application/json\r\nContent-Length: 92\r\n\r\n{\"errorCode\":\"NO_MEMORY\",\"message\":\"no memory\",\"reason\":\"Insufficient Storage\",\"status\":507}";
-    assert_eq!(rt; sink.bytes(), text.as_bytes());
+    let reply = Response::no_memory(false, false);
+    assert!(rt; is_written(rt.alloc(), &reply, text.as_bytes())?);
     Ok(())
 }

@@ -1,6 +1,7 @@
 //! What names are read from and written as.
 
-use cat_codes::field::{from_bytes, to_bytes};
+use crate::codes::is_spelled;
+use cat_codes::field::from_bytes;
 use cat_codes::seq::Seq;
 use cat_codes::text::Text;
 use cat_names::hash::{ContentId, Hash};
@@ -8,6 +9,8 @@ use cat_names::key::ContentKey;
 use cat_names::key_fault::KeyFault;
 use cat_names::name_fault::NameFault;
 use cat_names::ref_name::RefName;
+use std::alloc::Global;
+use std::test::Fail;
 
 const NONE: &str = "2e1cfa82b035c26cbbbdae632cea070514eb8b773f616aaeaf668e2f0be8f10d";
 
@@ -41,27 +44,38 @@ fn an_id_is_read_in_four_forms_and_written_in_one(rt: HostRuntime) {
     assert!(&rt; text.as_slice() == texts[0].as_bytes());
 }
 
+fn has_elements(key: &ContentKey, first: &str, second: &str) -> bool {
+    match key.elements() {
+        [one, two] => one.as_str() == first && two.as_str() == second,
+        _ => false,
+    }
+}
+
+fn has_path(alloc: Global, key: &ContentKey, wanted: &str) -> bool {
+    match key.to_path(alloc) {
+        Ok(path) => path.as_str() == wanted,
+        Err(_) => false,
+    }
+}
+
 #[test]
-fn a_path_is_cut_at_its_dots(rt: HostRuntime) {
+fn a_path_is_cut_at_its_dots(rt: HostRuntime) -> Result<(), Fail> {
     let alloc = rt.alloc();
-    let Ok(key) = ContentKey::parse_path(alloc, "a\u{1d}b.c") else {
-        panic!(&rt; "no key");
-    };
-    let [first, second] = key.elements() else {
-        panic!(&rt; "not two elements");
-    };
-    assert!(&rt; first.as_str() == "a.b");
-    assert!(&rt; second.as_str() == "c");
-    let Ok(path) = key.to_path(alloc) else {
-        panic!(&rt; "no path");
-    };
-    assert!(&rt; path.as_str() == "a\u{1d}b.c");
-    let Ok(same) = ContentKey::parse_path(alloc, "a\0b.c") else {
-        panic!(&rt; "no key");
-    };
-    assert!(&rt; same == key);
-    assert!(&rt; same.begins_with(&key));
-    assert!(&rt; same.parent().len() == 1);
+    let key = ContentKey::parse_path(alloc, "a\u{1d}b.c")?;
+    let same = ContentKey::parse_path(alloc, "a\0b.c")?;
+    assert!(rt; has_elements(&key, "a.b", "c"));
+    assert!(rt; has_path(alloc, &key, "a\u{1d}b.c"));
+    assert!(rt; same == key);
+    assert!(rt; same.begins_with(&key));
+    assert!(rt; same.parent().len() == 1);
+    Ok(())
+}
+
+fn has_fault(alloc: Global, path: &str, fault: KeyFault) -> bool {
+    match ContentKey::parse_path(alloc, path) {
+        Ok(_) => false,
+        Err(found) => found == fault,
+    }
 }
 
 #[test]
@@ -77,51 +91,66 @@ fn what_makes_no_key_is_told(rt: HostRuntime) {
         ("a\tb", KeyFault::Control),
     ];
     for (path, fault) in cases {
-        let Err(found) = ContentKey::parse_path(alloc, path) else {
-            panic!(&rt; "a key");
-        };
-        assert!(&rt; found == fault);
+        assert!(&rt; has_fault(alloc, path, fault));
+    }
+}
+
+/// The key `t1`.
+fn t1(alloc: Global) -> Result<ContentKey, Fail> {
+    let mut texts = Seq::new(alloc);
+    texts.push(Text::from_str(alloc, "t1")?)?;
+    Ok(ContentKey::new(alloc, texts)?)
+}
+
+fn is_read(alloc: Global, bytes: &[u8], key: &ContentKey) -> bool {
+    match from_bytes::<ContentKey>(alloc, bytes) {
+        Ok(found) => found == *key,
+        Err(_) => false,
     }
 }
 
 #[test]
-fn a_key_takes_a_count_and_short_texts(rt: HostRuntime) {
-    let alloc = rt.alloc();
-    let Ok(text) = Text::from_str(alloc, "t1") else {
-        panic!(&rt; "no text");
-    };
-    let mut texts = Seq::new(alloc);
-    assert!(&rt; texts.push(text).is_ok());
-    let Ok(key) = ContentKey::new(alloc, texts) else {
-        panic!(&rt; "no key");
-    };
-    let Ok(bytes) = to_bytes(alloc, &key) else {
-        panic!(&rt; "no bytes");
-    };
-    assert!(&rt; bytes.as_slice() == b"\x01\x00\x02t1".as_slice());
-    assert!(&rt; from_bytes::<ContentKey>(alloc, bytes.as_slice()) == Ok(key));
+fn a_key_takes_a_count_and_short_texts(rt: HostRuntime) -> Result<(), Fail> {
+    let key = t1(rt.alloc())?;
+    let bytes = b"\x01\x00\x02t1".as_slice();
+    assert!(rt; is_spelled(rt.alloc(), &key, bytes));
+    assert!(rt; is_read(rt.alloc(), bytes, &key));
+    Ok(())
+}
+
+fn is_name(alloc: Global, text: &str) -> bool {
+    match RefName::parse(alloc, text) {
+        Ok(name) => name.as_str() == text,
+        Err(_) => false,
+    }
+}
+
+fn is_bad(alloc: Global, text: &str) -> bool {
+    match RefName::parse(alloc, text) {
+        Ok(_) => false,
+        Err(fault) => fault == NameFault::Bad,
+    }
+}
+
+fn is_main(alloc: Global, name: &RefName) -> bool {
+    match RefName::main(alloc) {
+        Ok(main) => main == *name,
+        Err(_) => false,
+    }
 }
 
 #[test]
-fn names_of_references_are_told_from_other_texts(rt: HostRuntime) {
+fn names_of_references_are_told_from_other_texts(rt: HostRuntime) -> Result<(), Fail> {
     let alloc = rt.alloc();
     for text in ["main", "a", "Z9/x_y-z.w"] {
-        let Ok(name) = RefName::parse(alloc, text) else {
-            panic!(&rt; "no name");
-        };
-        assert!(&rt; name.as_str() == text);
+        assert!(rt; is_name(alloc, text));
     }
     for text in ["", "1a", "a.", "a/", "a..b", "a b", "\u{e9}"] {
-        let fault = RefName::parse(alloc, text);
-        assert!(&rt; matches!(fault, Err(NameFault::Bad)));
+        assert!(rt; is_bad(alloc, text));
     }
     let bytes = b"\x00\x00\x00\x04main".as_slice();
-    let Ok(name) = from_bytes::<RefName>(alloc, bytes) else {
-        panic!(&rt; "not read");
-    };
-    assert!(&rt; RefName::main(alloc).is_ok_and(|main| main == name));
-    let Ok(again) = to_bytes(alloc, &name) else {
-        panic!(&rt; "not written");
-    };
-    assert!(&rt; again.as_slice() == bytes);
+    let name = from_bytes::<RefName>(alloc, bytes)?;
+    assert!(rt; is_main(alloc, &name));
+    assert!(rt; is_spelled(alloc, &name, bytes));
+    Ok(())
 }
