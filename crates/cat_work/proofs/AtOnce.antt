@@ -19,7 +19,7 @@ use Rattle.cat_work.specs.Passes.{IsAlone, book_of}
 use Rattle.cat_work.specs.Turns.{Comes, Turned}
 use Rattle.cat_work.proofs.Callings.{Brings, call_brings, call_draft}
 use Rattle.cat_work.proofs.Endings.{refuses_open}
-use Rattle.cat_work.proofs.Telling.{AloneAt, Found, Left, Numbered, alone_err, alone_ok, answers_ok, book_found, causes, left_by_turn}
+use Rattle.cat_work.proofs.Telling.{AloneAt, Found, Left, Numbered, alone_err, alone_ok, answers_ok, book_found, causes, grew_in, left_by_turn}
 use Rattle.cat_work.proofs.Unopened.{found_first, none_still}
 
 refers_open : {K : Type 0} (called : Called) (n : ℕ) (s s' : Stored K) (r : Result Told Refused) → Refers called n s s' r → stored.open_of s' ≡ stored.open_of s
@@ -65,6 +65,7 @@ refers_comes desk c p q attempts moment n s s' r number opens none turn h =
     let own : Refers (call_on sha256 (number_of p) s.book c moment) (number_of p) s s' r = subst (λ (m : ℕ). Refers (call_on sha256 m s.book c moment) m s s' r) number h in
     record {
       none = none_still desk p q s s' none turn (refers_open (call_on sha256 (number_of p) s.book c moment) (number_of p) s s' r own);
+      grows = grew_in desk p q s s' turn;
       answers = refers_answers desk c p q attempts moment s s' r opens turn own;
       alone = λ only. subst (λ (called : Called). AnswersAlone (number_of p) called (book_of desk p) (book_of desk q) (mark_of p).fault (mark_of q).fault r)
           (ap (λ (b : Book). call_on sha256 (number_of p) b c moment) (book_found desk p q s s' turn only)) (refers_alone desk c p q moment s s' r opens turn own only);

@@ -25,10 +25,10 @@ use Rattle.cat_model.specs.declared.reply.Told.{Told}
 use Rattle.cat_model.specs.Book.{Book, call_on}
 use Rattle.cat_model.specs.Calls.{Called}
 use Rattle.cat_model.specs.Drafts.{Open, OpenDraft, OpenSweep, Opening, StaysOpen, SweepAwaits, drafts_of, nothing_open, open_of, sweep_of}
-use Rattle.cat_model.specs.Mark.{FailedAppend, Mark}
+use Rattle.cat_model.specs.Mark.{FailedAppend, Grows, Mark}
 use Rattle.cat_model.specs.State.{State}
 use Rattle.cat_model.specs.Step.{opening, opens_draft}
-use Rattle.cat_model.specs.TurnLaws.{nothing_stays}
+use Rattle.cat_model.specs.TurnLaws.{grows_on, nothing_stays}
 use Rattle.cat_work.specs.declared.trying.Trying.{Trying}
 use Rattle.cat_work.specs.Answers.{Answers, AnswersAlone, Causes, IsDraftAbove, NoFaultIsNew, RefusesAlone, Spends, first_place}
 use Rattle.cat_work.specs.Passes.{IsAlone, IsReady, book_of, state_of}
@@ -36,7 +36,7 @@ use Rattle.cat_work.specs.Turns.{Begins, Comes, Ends, EndsLast, Going, IsSpent, 
 use Rattle.cat_work.proofs.Callings.{Brings, called_alone, in_draft, made_brings, made_draft, may_pass}
 use Rattle.cat_work.proofs.Opened.{drafts_more, drafts_one, none_left}
 use Rattle.cat_work.proofs.Openings.{may_room}
-use Rattle.cat_work.proofs.Telling.{AloneAt, Found, Left, Numbered, alone_err, alone_ok, answers_ok, book_found, causes, faults_same, follows_same, given_up_alone, left_by_turn}
+use Rattle.cat_work.proofs.Telling.{AloneAt, Found, Left, Numbered, alone_err, alone_ok, answers_ok, book_found, causes, faults_same, follows_same, given_up_alone, grew_in, left_by_turn}
 use Rattle.cat_work.proofs.Trails.{built_on, follows_on, one_head, place_at, trail_next, trail_start}
 
 -- ---- what is open of the caller
@@ -115,7 +115,7 @@ begins K desk c p q t attempts none legal keeps known_is room b =
       count = ap (λ (l : List (ℕ × Hash)). length l) b.pairs_are;
       room = room;
       faults = λ x is own. turn.linked.own_fault x (sym (ap (λ (m : Mark). m.fault) mark) ∙ is) own;
-      fallen = λ x is. ap (λ (m : Mark). m.fault) mark ∙ turn.linked.grows.fault x is;
+      grows = grew_in desk p q s s' turn;
       alone = λ only. record {
         seen_is = log ∙ (turn.alone only).0;
         mark_is = mark ∙ (λ i. record ((turn.alone only).1 i) { draft = d.number; drafter = o.caller_is i });
@@ -133,8 +133,12 @@ found_on desk c first present next t attempts number s s' g turn = record {
   follows = follows_on (number_of first) (seen first) (seen present) (log_of s) g.follows (subst (λ (n : ℕ). Follows n (seen present) (log_of s)) g.kept.number turn.follows);
   led = turn.led;
   no_new = λ x is own. g.faults x (turn.linked.own_fault x is (own ∙ sym g.kept.number)) own;
-  kept = λ x is. turn.linked.grows.fault x (g.fallen x is);
+  kept = λ x is. turn.linked.grows.fault x (g.grows.fault x is);
 }
+
+-- and the mark that it leaves
+grown : {K : Type 0} (desk : DeskId) (c : Command) (first present next : Pass) (t : Trying) (attempts number : ℕ) (s s' : Stored K) → Going desk c first present t attempts number → Turned desk present next s s' → Grows (mark_of first) (mark_of next)
+grown desk c first present next t attempts number s s' g turn = grows_on (mark_of first) (mark_of present) (mark_of next) g.grows (grew_in desk present next s s' turn)
 
 alone_still : (desk : DeskId) (first present : Pass) → Keeps desk first present → IsAlone first → IsAlone present
 alone_still desk first present kept alone = ap (λ (n : ℕ). n + spare_of present) kept.held ∙ (ap (λ (n : ℕ). stands_for first + n) kept.spare ∙ alone)
@@ -204,7 +208,7 @@ goes_on {K} desk c first present next t u attempts number s s' g keeps legal tur
       count = more_long t.pairs.items u.pairs.items (u.view.place, m.head) m.pairs_are ∙ ap (λ (n : ℕ). n + 1) g.count;
       room = roomy (attempts + 1) (vec_capacity t.pairs) (vec_capacity u.pairs) g.room room;
       faults = λ x is own. found.no_new x (sym (ap (λ (y : Mark). y.fault) mark) ∙ is) own;
-      fallen = λ x is. ap (λ (y : Mark). y.fault) mark ∙ found.kept x is;
+      grows = grown desk c first present next t attempts number s s' g turn;
       alone = λ only. absurd (m.moved.other (stays_alone desk present next s s' d t.view m.built g.tries.view_is m.is_built turn (alone_still desk first present g.kept only)));
     }
 
@@ -344,6 +348,7 @@ pub comes_early : {K : Type 0} (desk : DeskId) (c : Command) (first present next
     → Ends s t.draft t.view moment r s' → Comes desk c first next attempts moment r
 comes_early desk c first present next t attempts number moment s s' r opens g turn ends = record {
   none = closed_then desk present next s s' t.draft g.tries.left_is g.tries.caller turn (ends_closed s s' t.draft t.view moment r ends);
+  grows = grown desk c first present next t attempts number s s' g turn;
   answers = settled_answers desk c first present next t attempts number moment s s' r opens g turn ends;
   alone = settled_alone desk c first present next t attempts number moment s s' r opens g turn ends;
 }
@@ -386,6 +391,7 @@ spent_comes {K} desk c first present next t attempts moment s s' built r opens g
     let found : Found desk (number_of first) first s = found_on desk c first present next t attempts attempts s s' g turn in
     record {
       none = closed_then desk present next s s' t.draft g.tries.left_is g.tries.caller turn (ap (λ (y : Stored K). (stored.open_of y)) x.after);
+      grows = grown desk c first present next t attempts attempts s s' g turn;
       answers = subst (λ (e : Refused). Answers desk (number_of first) c moment attempts (known first) (mark_of first) (mark_of next) (seen first) (seen next) (Err e)) (sym x.is) (
         follows_same desk (number_of first) first next s s' found left book,
         (ap (λ (y : State). Some y.place) (sym state), spent_pairs desk c first present next t attempts s s' built r opens g legal turn is x),

@@ -20,11 +20,12 @@ use Rattle.cat_model.specs.declared.reply.Told.{Told}
 use Rattle.cat_model.specs.Book.{Book, IsCalled, IsGivenUp, after_call}
 use Rattle.cat_model.specs.Calls.{Called, entry_made}
 use Rattle.cat_model.specs.Drafts.{Open}
-use Rattle.cat_model.specs.Mark.{FailedAppend, Mark}
+use Rattle.cat_model.specs.Mark.{FailedAppend, Grows, Mark}
 use Rattle.cat_model.specs.Refusing.{Outcome}
 use Rattle.cat_model.specs.State.{State}
 use Rattle.cat_model.specs.Step as steps
 use Rattle.cat_model.specs.Step.{opens_draft, step}
+use Rattle.cat_model.specs.TurnLaws.{grows_on}
 use Rattle.cat_work.specs.Answers.{Answers, AnswersAlone, Causes, ComesToIn, HadNumber, IsAt, IsDraftAbove, IsEntryOf, IsRuledOut, NoFaultIsNew, RefusesAlone}
 use Rattle.cat_work.specs.Passes.{IsAlone, book_of, state_of}
 use Rattle.cat_work.specs.Turns.{Turned}
@@ -59,6 +60,10 @@ left_by_turn desk p q s s' t =
     let draft : (mark_of q).draft ≡ s'.book.draft = ap (λ (m : Mark). m.draft) t.mark_is ∙ t.draft_on in
     let log : reverse (seen q) ≡ s'.book.log = ap (λ (l : List LogEntry). reverse l) t.seen_is ∙ reverse-reverse s'.book.log in
     record { seen_is = t.seen_is; mark_is = t.mark_is; state_is = state; book_is = λ i. record { state = state i; draft = draft i; log = log i } }
+
+-- the mark that the pass holds grew, between its turns and in this one
+pub grew_in : {K : Type 0} (desk : DeskId) (p q : Pass) (s s' : Stored K) → Turned desk p q s s' → Grows (mark_of p) (mark_of q)
+grew_in desk p q s s' t = subst (Grows (mark_of p)) (sym t.mark_is) (grows_on (mark_of p) s.mark s'.mark t.linked.grows t.grew)
 
 -- the book that a pass finds alone is its own
 pub book_found : {K : Type 0} (desk : DeskId) (p q : Pass) (s s' : Stored K) → Turned desk p q s s' → IsAlone p → s.book ≡ book_of desk p

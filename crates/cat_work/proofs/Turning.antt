@@ -19,6 +19,7 @@ use Rattle.cat_model.specs.declared.refusal.Refused.{Refused}
 use Rattle.cat_model.specs.declared.reply.Told.{Told}
 use Rattle.cat_model.specs.Drafts.{StaysOpen, open_of}
 use Rattle.cat_model.specs.Later.{IsLater}
+use Rattle.cat_model.specs.Mark.{Grows}
 use Rattle.cat_model.specs.State.{State}
 use Rattle.cat_model.specs.Turns.{Opened}
 use Rattle.cat_work.specs.Passes.{IsAlone, state_of}
@@ -31,8 +32,8 @@ led_from desk s opened led = ap (λ (o : Opened). (book_at o (log_of s)).state) 
 
 pub turned : {K : Type 0} (desk : DeskId) (p during q : Pass) (s s' : Stored K) → number_of during ≡ number_of p → opened_of s ≡ desk.opened → opened_of s' ≡ opened_of s → Follows (number_of p) (seen p) (log_of s) → Linked (number_of p) (mark_of p) s.mark
     → StaysOpen (left_by p) (open_of (number_of p) (stored.open_of s)) → (IsAlone p → (log_of s ≡ seen p) × (s.mark ≡ mark_of p)) → (book_at (opened_of s) (log_of s)).state ≡ s.book.state → s.mark.draft ≡ s.book.draft → (book_at (opened_of s') (log_of s')).state ≡ s'.book.state
-    → s'.mark.draft ≡ s'.book.draft → seen q ≡ log_of s' → mark_of q ≡ s'.mark → left_by q ≡ open_of (number_of during) (stored.open_of s') → Turned desk p q s s'
-turned desk p during q s s' number opened same follows linked own alone led draft led_on draft_on seen_is mark_is left = record {
+    → s'.mark.draft ≡ s'.book.draft → seen q ≡ log_of s' → mark_of q ≡ s'.mark → Grows s.mark s'.mark → left_by q ≡ open_of (number_of during) (stored.open_of s') → Turned desk p q s s'
+turned desk p during q s s' number opened same follows linked own alone led draft led_on draft_on seen_is mark_is grew left = record {
   opened = opened;
   follows = follows;
   linked = linked;
@@ -44,6 +45,7 @@ turned desk p during q s s' number opened same follows linked own alone led draf
   draft_on = draft_on;
   seen_is = seen_is;
   mark_is = mark_is;
+  grew = grew;
   left = left ∙ ap (λ (n : ℕ). open_of n (stored.open_of s')) number;
 }
 

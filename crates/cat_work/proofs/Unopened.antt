@@ -19,7 +19,7 @@ use Rattle.cat_model.specs.Mark.{FailedAppend, Mark}
 use Rattle.cat_model.specs.Refusing.{◌>>=◌, Tested}
 use Rattle.cat_model.specs.State.{State}
 use Rattle.cat_model.specs.Step.{opening, opens_draft}
-use Rattle.cat_model.specs.TurnLaws.{nothing_stays}
+use Rattle.cat_model.specs.TurnLaws.{grows_self, nothing_stays}
 use Rattle.cat_core.specs.Stored as stored
 use Rattle.cat_work.specs.Answers.{Answers, AnswersAlone, Causes, IsAt, IsDraftAbove, IsRuledOut, KnowsAt, Knows, RefusesAlone}
 use Rattle.cat_work.specs.Passes.{IsAlone, book_of, state_of}
@@ -27,7 +27,7 @@ use Rattle.cat_work.specs.Turns.{BeginsNone, Comes, Turned, out_of_memory}
 use Rattle.cat_work.proofs.Openings as openings
 use Rattle.cat_work.proofs.Openings.{HasNone, is_early, may_not}
 use Rattle.cat_work.proofs.Steps.{step_first}
-use Rattle.cat_work.proofs.Telling.{Found, Left, at_state, book_found, comes_at, faults_same, follows_same, left_by_turn, state_same}
+use Rattle.cat_work.proofs.Telling.{Found, Left, at_state, book_found, comes_at, faults_same, follows_same, grew_in, left_by_turn, state_same}
 use Rattle.cat_work.proofs.Trails.{follows_itself}
 
 -- what the first turn of a call finds
@@ -228,6 +228,7 @@ alone_none desk moment c p q s s' r refusals.Encoding opens turn same reason h o
 no_turn : (desk : DeskId) (c : Command) (p : Pass) (attempts moment : ℕ) → left_by p ≡ nothing_open → Comes desk c p p attempts moment (Err out_of_memory)
 no_turn desk c p attempts moment none = record {
   none = none;
+  grows = grows_self (mark_of p);
   answers = (follows_itself (number_of p) (seen p), (refl, λ x is own. is));
   alone = λ only. (unchanged_given_up (book_of desk p) (book_of desk p) out_of_memory refl refl, refl);
 }
@@ -236,6 +237,7 @@ pub begins_none : (K : Type 0) (desk : DeskId) (c : Command) (p q : Pass) (attem
 begins_none K desk c p q attempts moment r opens none (inl h) = subst (λ (z : Pass × Refused). Comes desk c p z.0 attempts moment (Err z.1)) (λ i. (sym h.0 i, sym h.1 i)) (no_turn desk c p attempts moment none)
 begins_none K desk c p q attempts moment r opens none (inr h) = record {
   none = none_still desk p q h.0 h.1 none h.2 (ap (λ (y : Stored K). stored.open_of y) h.3);
+  grows = grew_in desk p q h.0 h.1 h.2;
   answers = answers_none desk moment attempts (known p) c p q h.0 h.1 r r.why opens h.2 h.3 refl h.4;
   alone = λ only. alone_none desk moment c p q h.0 h.1 r r.why opens h.2 h.3 refl h.4 only;
 }

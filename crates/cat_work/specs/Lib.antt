@@ -2,3 +2,4 @@ pub mod Passes
 pub mod Answers
 pub mod Turns
 pub mod BookLaws
+pub mod AnswerLaws

@@ -22,7 +22,7 @@ use Rattle.cat_model.specs.declared.refusal.Refused.{Refused}
 use Rattle.cat_model.specs.declared.reply.Told.{Told}
 use Rattle.cat_model.specs.Book.{call_on}
 use Rattle.cat_model.specs.Drafts.{StaysOpen, nothing_open, open_of}
-use Rattle.cat_model.specs.Mark.{FailedAppend}
+use Rattle.cat_model.specs.Mark.{Grows}
 use Rattle.cat_model.specs.State.{State}
 use Rattle.cat_model.specs.Step.{opening}
 use Rattle.cat_work.specs.declared.trying.Tried.{Tried}
@@ -60,6 +60,7 @@ pub record Turned {K : Type 0} (desk : DeskId) (p q : Pass) (s s' : Stored K) : 
   pub draft_on : s'.mark.draft ≡ s'.book.draft
   pub seen_is : seen q ≡ log_of s'
   pub mark_is : mark_of q ≡ s'.mark
+  pub grew : Grows s.mark s'.mark
   pub left : left_by q ≡ open_of (number_of p) (stored.open_of s')
 
 -- a turn that opened a draft
@@ -178,7 +179,7 @@ pub record Going (desk : DeskId) (c : Command) (first present : Pass) (t : Tryin
   pub count : length t.pairs.items ≡ number
   pub room : attempts + 1 ≤ vec_capacity t.pairs
   pub faults : NoFaultIsNew (number_of first) (mark_of first) (mark_of present)
-  pub fallen : (x : FailedAppend) → (mark_of first).fault ≡ Some x → (mark_of present).fault ≡ Some x
+  pub grows : Grows (mark_of first) (mark_of present)
   pub alone : IsAlone first → StoodAlone desk c first present t.draft.number
 
 -- the first turn of a call, and the head that is built on first
@@ -195,5 +196,6 @@ BeginsNone K desk c p q r = ((q ≡ p) × (r ≡ out_of_memory)) ⊎ OpensNone K
 -- what a call has come to at the pass's last turn
 pub record Comes (desk : DeskId) (c : Command) (first next : Pass) (attempts moment : ℕ) (r : Result Told Refused) : Type 0 where
   pub none : left_by next ≡ nothing_open
+  pub grows : Grows (mark_of first) (mark_of next)
   pub answers : Answers desk (number_of first) c moment attempts (known first) (mark_of first) (mark_of next) (seen first) (seen next) r
   pub alone : IsAlone first → AnswersAlone (number_of first) (call_on sha256 (number_of first) (book_of desk first) c moment) (book_of desk first) (book_of desk next) (mark_of first).fault (mark_of next).fault r

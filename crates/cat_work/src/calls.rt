@@ -5,6 +5,7 @@ ghost use Rattle.cat_checks.specs.Histories.{IsLegalFrom};
 ghost use Rattle.cat_desk.specs.Pass.{Keeps, known, mark_of, number_of, seen};
 ghost use Rattle.cat_io.specs.Clocks.{Ticks};
 ghost use Rattle.cat_model.specs.Book.{call_on};
+ghost use Rattle.cat_model.specs.Mark.{Grows};
 ghost use Rattle.cat_model.specs.Step.{opens_draft};
 ghost use Rattle.cat_model.specs.WellMade.{is_well_made};
 ghost use Rattle.cat_work.specs.Answers.{Answers, AnswersAlone, Knows};
@@ -82,6 +83,7 @@ fn make<R: Wait, K: Keeper, G: Gate, C: Clock>(
     ensures ready { IsReady desk.now pass.new }
     ensures gate { G.ready gate.new × (G.desks gate.new ≡ G.desks gate.old) }
     ensures known { Knows pass.old pass.new result }
+    ensures grows { Grows (mark_of pass.old) (mark_of pass.new) }
     ensures answers { (moment : ℕ) × Ticks (C.ahead clock.old) (C.ahead clock.new) moment × Answers desk.now (number_of pass.old) command.now moment attempts (known pass.old) (mark_of pass.old) (mark_of pass.new) (seen pass.old) (seen pass.new) result
         × (IsAlone pass.old → AnswersAlone (number_of pass.old) (call_on sha256 (number_of pass.old) (book_of desk.now pass.old) command.now moment) (book_of desk.now pass.old) (book_of desk.now pass.new) (mark_of pass.old).fault (mark_of pass.new).fault result) }
 {
@@ -109,6 +111,7 @@ pub fn commit<R: Wait, K: Keeper, G: Gate, C: Clock>(
     ensures ready { IsReady desk.now pass.new }
     ensures gate { G.ready gate.new × (G.desks gate.new ≡ G.desks gate.old) }
     ensures known { Knows pass.old pass.new result }
+    ensures grows { Grows (mark_of pass.old) (mark_of pass.new) }
     ensures answers { (moment : ℕ) × Ticks (C.ahead clock.old) (C.ahead clock.new) moment × Answers desk.now (number_of pass.old) command.now moment attempts (known pass.old) (mark_of pass.old) (mark_of pass.new) (seen pass.old) (seen pass.new) result
         × (IsAlone pass.old → AnswersAlone (number_of pass.old) (call_on sha256 (number_of pass.old) (book_of desk.now pass.old) command.now moment) (book_of desk.now pass.old) (book_of desk.now pass.new) (mark_of pass.old).fault (mark_of pass.new).fault result) }
 {
@@ -135,6 +138,7 @@ pub fn merge<R: Wait, K: Keeper, G: Gate, C: Clock>(
     ensures ready { IsReady desk.now pass.new }
     ensures gate { G.ready gate.new × (G.desks gate.new ≡ G.desks gate.old) }
     ensures known { Knows pass.old pass.new result }
+    ensures grows { Grows (mark_of pass.old) (mark_of pass.new) }
     ensures answers { (moment : ℕ) × Ticks (C.ahead clock.old) (C.ahead clock.new) moment × Answers desk.now (number_of pass.old) command.now moment attempts (known pass.old) (mark_of pass.old) (mark_of pass.new) (seen pass.old) (seen pass.new) result
         × (IsAlone pass.old → AnswersAlone (number_of pass.old) (call_on sha256 (number_of pass.old) (book_of desk.now pass.old) command.now moment) (book_of desk.now pass.old) (book_of desk.now pass.new) (mark_of pass.old).fault (mark_of pass.new).fault result) }
 {
@@ -161,6 +165,7 @@ pub fn transplant<R: Wait, K: Keeper, G: Gate, C: Clock>(
     ensures ready { IsReady desk.now pass.new }
     ensures gate { G.ready gate.new × (G.desks gate.new ≡ G.desks gate.old) }
     ensures known { Knows pass.old pass.new result }
+    ensures grows { Grows (mark_of pass.old) (mark_of pass.new) }
     ensures answers { (moment : ℕ) × Ticks (C.ahead clock.old) (C.ahead clock.new) moment × Answers desk.now (number_of pass.old) command.now moment attempts (known pass.old) (mark_of pass.old) (mark_of pass.new) (seen pass.old) (seen pass.new) result
         × (IsAlone pass.old → AnswersAlone (number_of pass.old) (call_on sha256 (number_of pass.old) (book_of desk.now pass.old) command.now moment) (book_of desk.now pass.old) (book_of desk.now pass.new) (mark_of pass.old).fault (mark_of pass.new).fault result) }
 {
@@ -187,6 +192,7 @@ pub fn call<R: Wait, K: Keeper, G: Gate, C: Clock>(
     ensures ready { IsReady desk.now pass.new }
     ensures gate { G.ready gate.new × (G.desks gate.new ≡ G.desks gate.old) }
     ensures known { Knows pass.old pass.new result }
+    ensures grows { Grows (mark_of pass.old) (mark_of pass.new) }
     ensures answers { (moment : ℕ) × Ticks (C.ahead clock.old) (C.ahead clock.new) moment × Answers desk.now (number_of pass.old) command.now moment attempts (known pass.old) (mark_of pass.old) (mark_of pass.new) (seen pass.old) (seen pass.new) result
         × (IsAlone pass.old → AnswersAlone (number_of pass.old) (call_on sha256 (number_of pass.old) (book_of desk.now pass.old) command.now moment) (book_of desk.now pass.old) (book_of desk.now pass.new) (mark_of pass.old).fault (mark_of pass.new).fault result) }
 {

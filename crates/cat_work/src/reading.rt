@@ -4,6 +4,7 @@ ghost use Rattle.sha2.specs.Sha256.{sha256};
 ghost use Rattle.cat_desk.specs.Log.{Follows};
 ghost use Rattle.cat_desk.specs.Pass.{Keeps, known, mark_of, number_of, seen};
 ghost use Rattle.cat_model.specs.Book.{Reads};
+ghost use Rattle.cat_model.specs.Mark.{Grows};
 ghost use Rattle.cat_work.specs.Passes.{IsAlone, IsReady, book_of};
 
 use cat_core::Store;
@@ -27,6 +28,7 @@ pub fn read<R: Wait, K: Keeper>(
     ensures kept { Keeps desk.now pass.old pass.new }
     ensures ready { IsReady desk.now pass.new }
     ensures known { (known pass.old ≤ length (seen pass.new)) × (known pass.new ≡ length (seen pass.new)) }
+    ensures grows { Grows (mark_of pass.old) (mark_of pass.new) }
     ensures follows { Follows (number_of pass.old) (seen pass.old) (seen pass.new) }
     ensures reads { Reads sha256 (book_of desk.now pass.new) ask.now result }
     ensures alone { IsAlone pass.old → (book_of desk.now pass.new ≡ book_of desk.now pass.old) × ((mark_of pass.new).fault ≡ (mark_of pass.old).fault) }

@@ -5,6 +5,9 @@ use Rattle.cat_work.proofs.referring.refer.Goals as goal
 pub returns-clause-ready : goal.returns-clause-ready
 returns-clause-ready g c = record { free = c.refer_at.ensures.kept.free; none = (c.refer_at.ensures.comes 0).none; legal = c.refer_at.ensures.legal }
 
+pub returns-clause-grows : goal.returns-clause-grows
+returns-clause-grows g c = (c.refer_at.ensures.comes 0).grows
+
 pub returns-clause-answers : goal.returns-clause-answers
 returns-clause-answers g c = let comes : (attempts : ℕ) → Comes c.args.desk.now c.args.command.now c.args.pass.now c.refer_at.new.pass attempts c.now.result c.refer_at.result =
     λ attempts. subst (λ (n : ℕ). Comes c.args.desk.now c.args.command.now c.args.pass.now c.refer_at.new.pass attempts n c.refer_at.result) c.from_micros-moment.ensures (c.refer_at.ensures.comes attempts) in
