@@ -13,10 +13,8 @@ use Rattle.cat_model.specs.declared.reply.Reply.TheVariants as replies
 use Rattle.cat_model.specs.Records.{with_commit, with_contents}
 use Rattle.cat_model.specs.Refusing.{◌>>=◌, Outcome}
 use Rattle.cat_model.specs.State.{State}
-use Rattle.cat_state.specs.declared.failure.Failure.{Failure}
 use Rattle.cat_state.specs.Adding.{moved_state, with_both}
-use Rattle.cat_state.specs.Giving.{Fails}
-use Rattle.cat_state.specs.GivingLaws.{fails_on, in_turn}
+use Rattle.cat_state.specs.GivingLaws.{in_turn}
 use Rattle.cat_ledger.specs.declared.preparing.Prepared.{Prepared}
 use Rattle.cat_names.specs.declared.hash.Hash.{Hash}
 use Rattle.cat_state.specs.declared.failure.Failure.TheVariants as failures
@@ -43,12 +41,6 @@ pub step_accepted : (state more after : State) (made : Prepared) (contents : Lis
 step_accepted state more after made contents are added moved =
     let here : with_both state made.request.contents made.kept.commit ≡ Ok more = subst (λ (l : List Content). with_both state l made.kept.commit ≡ Ok more) are added in
     sym (both_then state made) ∙ ap (λ (r : Result State Refusal). r >>= moved_with made) here ∙ ap (λ (s : State). Ok (s, reply_of made)) (sym moved)
-
--- nothing is added
-pub step_refused : (state : State) (made : Prepared) (contents : List Content) (failure : Failure) → contents ≡ made.request.contents → Fails failure (with_both state contents made.kept.commit) → Fails failure (add_step state made)
-step_refused state made contents failure are fails =
-    let here : Fails failure (with_both state made.request.contents made.kept.commit) = subst (λ (l : List Content). Fails failure (with_both state l made.kept.commit)) are fails in
-    subst (λ (o : Outcome). Fails failure o) (both_then state made) (fails_on failure (with_both state made.request.contents made.kept.commit) (moved_with made) here)
 
 -- ---- where the entry isn't kept
 

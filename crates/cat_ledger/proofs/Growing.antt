@@ -29,7 +29,3 @@ above_entry book after references entry e = subst (λ (b : Book). IsAbove book.s
 pub above_made : {T E : Type 0} (book after : Book) (references : List Reference) (entry : LogEntry) (result : Result T E) → OnOk result (after ≡ with_entry book (with_references book.state references) entry) → OnErr result (after ≡ book) → IsAbove book.state.commits after.state.commits
 above_made book after references entry (Ok x) ok err = above_entry book after references entry ok
 above_made book after references entry (Err why) ok err = above_same book after err
-
-pub above_accepted : {T E : Type 0} (book after : Book) (draft : ℕ) (result : Result T E) → OnOk result (IsAbove book.state.commits after.state.commits) → OnErr result (after ≡ taking book draft) → IsAbove book.state.commits after.state.commits
-above_accepted book after draft (Ok x) ok err = ok
-above_accepted book after draft (Err why) ok err = above_taking book after draft err

@@ -1,6 +1,6 @@
 //! Calls that open a draft, built and settled in one turn.
 
-ghost use Rattle.std.specs.Prelude.{◌≡◌, ◌≤◌, ◌<◌, ◌+◌, ℕ, None, Ok, true, false, min, IfErr, IfOk, IfSome, IsTrue, OnOk};
+ghost use Rattle.std.specs.Prelude.{◌≡◌, ◌≤◌, ◌<◌, ℕ, None, Ok, true, false, min, IfErr, IfOk, IfSome, IsTrue, OnOk};
 ghost use Rattle.sha2.specs.Sha256.{sha256};
 ghost use Rattle.cat_model.specs.Calls.{needs_draft};
 ghost use Rattle.cat_model.specs.Step.{opening, opens_draft};

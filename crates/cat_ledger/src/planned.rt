@@ -1,7 +1,6 @@
 //! Commits of plans, tried or made.
 
 ghost use Rattle.std.specs.Prelude.{◌≡◌, ◌<◌, ◌+◌, ◌∷◌, [], Some, None, false, IfErr, IfOk, OnErr, OnOk, reverse};
-ghost use Rattle.sha2.specs.Sha256.{sha256};
 ghost use Rattle.cat_model.specs.Step.{head_told};
 ghost use Rattle.cat_model.specs.declared.command.Command.{Command as Call};
 ghost use Rattle.cat_model.specs.declared.reply.Reply.TheVariants as replies;
