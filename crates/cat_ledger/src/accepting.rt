@@ -16,6 +16,7 @@ use crate::unmade::Unmade;
 use cat_keeper::Keeper;
 use cat_model::command::Command;
 use cat_model::reply::{Committed, Reply, Told};
+use cat_state::failure::Failure;
 use std::alloc::Global;
 
 impl Ledger {
@@ -43,7 +44,10 @@ impl Ledger {
         ensures keeps { Keeps K.told K.kept K.down K.in_flight K.faults K.moment K.left_since K.may_leave keeper.old keeper.new (entry_at self.old turn (commands.Commit made.request) (head_of (add_step self.old.state made)) ∷ []) result }
     {
         self.draft = self.draft.max(turn.draft);
-        let catalogue = self.catalogue.alone(alloc)?;
+        let Ok(catalogue) = self.catalogue.alone(alloc) else {
+            drop(made);
+            return Err(Unmade::Failed(Failure::NoMemory));
+        };
         let place = catalogue.place() + 1;
         let extent = catalogue.extent();
         let Prepared {

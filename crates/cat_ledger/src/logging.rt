@@ -17,6 +17,7 @@ use cat_model::moment::Moment;
 use cat_names::hash::Hash;
 use cat_state::catalogue::Catalogue;
 use cat_state::extent::Extent;
+use cat_state::failure::Failure;
 use std::alloc::Global;
 
 /// Who makes a call, the number of its draft, 0 where it opens none, and when.
@@ -81,10 +82,21 @@ pub(crate) fn keep<K: Keeper>(
     ensures as_many { OnErr result (K.kept keeper.new ≡ K.kept keeper.old) }
     ensures keeps { Keeps K.told K.kept K.down K.in_flight K.faults K.moment K.left_since K.may_leave keeper.old keeper.new (entry ∷ []) result }
 {
-    log.reserve(1)?;
-    append(alloc, keeper, &entry)?;
-    log.push_reserved(entry);
-    Ok(())
+    if log.reserve(1).is_err() {
+        // By a call, so that the proof doesn't take each kind of command apart at each way out.
+        drop(entry);
+        return Err(Unmade::Failed(Failure::NoMemory));
+    }
+    match append(alloc, keeper, &entry) {
+        Ok(()) => {
+            log.push_reserved(entry);
+            Ok(())
+        }
+        Err(why) => {
+            drop(entry);
+            Err(why)
+        }
+    }
 }
 
 /// Keeps an entry in the log, or takes away what was added for it since the catalogue held so much.

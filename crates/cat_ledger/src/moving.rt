@@ -25,6 +25,7 @@ use cat_model::reference::Reference;
 use cat_model::reply::{Reply, Told};
 use cat_names::ref_name::RefName;
 use cat_state::catalogue::Catalogue;
+use cat_state::failure::Failure;
 use std::alloc::{AllocError, Global};
 
 /// The call as it is logged.
@@ -81,7 +82,10 @@ fn add_reference<K: Keeper>(
     ensures keeps { Keeps K.told K.kept K.down K.in_flight K.faults K.moment K.left_since K.may_leave keeper.old keeper.new (record { place = catalogue.old.place + 1; caller = turn.caller; draft = turn.draft; moment = turn.moment; command = command; head = Some reference.head } ∷ []) result }
 {
     let place = catalogue.place() + 1;
-    catalogue.insert(reference)?;
+    if catalogue.insert(reference).is_err() {
+        drop(command);
+        return Err(Unmade::Failed(Failure::NoMemory));
+    }
     let creation = entry(place, turn, command, Some(answer.head));
     if let Err(fault) = keep(alloc, keeper, log, creation) {
         catalogue.take_back(&answer.name);
@@ -117,8 +121,14 @@ impl Ledger {
         ensures kept { K.kept keeper.new ≡ self.new.state.place }
         ensures keeps { Keeps K.told K.kept K.down K.in_flight K.faults K.moment K.left_since K.may_leave keeper.old keeper.new (entry_at self.old turn command (Some reference.head) ∷ []) result }
     {
-        let answer = copy_reference(&reference)?;
-        let catalogue = self.catalogue.alone(alloc)?;
+        let Ok(answer) = copy_reference(&reference) else {
+            drop(command);
+            return Err(Unmade::Failed(Failure::NoMemory));
+        };
+        let Ok(catalogue) = self.catalogue.alone(alloc) else {
+            drop(command);
+            return Err(Unmade::Failed(Failure::NoMemory));
+        };
         match add_reference(
             alloc,
             keeper,
@@ -155,7 +165,10 @@ impl Ledger {
         ensures kept { K.kept keeper.new ≡ self.new.state.place }
         ensures keeps { Keeps K.told K.kept K.down K.in_flight K.faults K.moment K.left_since K.may_leave keeper.old keeper.new (entry_at self.old turn command (Some moved.head) ∷ []) result }
     {
-        let catalogue = self.catalogue.alone(alloc)?;
+        let Ok(catalogue) = self.catalogue.alone(alloc) else {
+            drop(command);
+            return Err(Unmade::Failed(Failure::NoMemory));
+        };
         let place = catalogue.place() + 1;
         let assignment = entry(place, turn, command, Some(moved.head));
         keep(alloc, keeper, &mut self.log, assignment)?;
@@ -188,7 +201,10 @@ impl Ledger {
         ensures kept { K.kept keeper.new ≡ self.new.state.place }
         ensures keeps { Keeps K.told K.kept K.down K.in_flight K.faults K.moment K.left_since K.may_leave keeper.old keeper.new (entry_at self.old turn command None ∷ []) result }
     {
-        let catalogue = self.catalogue.alone(alloc)?;
+        let Ok(catalogue) = self.catalogue.alone(alloc) else {
+            drop(command);
+            return Err(Unmade::Failed(Failure::NoMemory));
+        };
         let place = catalogue.place() + 1;
         let deletion = entry(place, turn, command, None);
         keep(alloc, keeper, &mut self.log, deletion)?;

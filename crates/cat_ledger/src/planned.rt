@@ -58,7 +58,14 @@ fn add_commits<K: Keeper>(
         planned,
         mut merged,
     } = adding;
-    let head = catalogue.add_planned(alloc, turn.moment, &merged.target.head, planned)?;
+    let head = match catalogue.add_planned(alloc, turn.moment, &merged.target.head, planned) {
+        Ok(head) => head,
+        Err(failure) => {
+            drop(merged);
+            drop(command);
+            return Err(Unmade::Failed(failure));
+        }
+    };
     merged.target.head = head;
     let made = entry(place, turn, command, Some(head));
     keep_or_cut_back(alloc, keeper, catalogue, log, made, extent)?;
@@ -114,7 +121,11 @@ impl Ledger {
         ensures kept { K.kept keeper.new ≡ self.new.state.place }
         ensures keeps { Keeps K.told K.kept K.down K.in_flight K.faults K.moment K.left_since K.may_leave keeper.old keeper.new (entry_at self.old turn command (head_of (step_adding turn.moment self.old.state adding)) ∷ []) result }
     {
-        let catalogue = self.catalogue.alone(alloc)?;
+        let Ok(catalogue) = self.catalogue.alone(alloc) else {
+            drop(adding);
+            drop(command);
+            return Err(Unmade::Failed(Failure::NoMemory));
+        };
         let place = catalogue.place() + 1;
         match add_commits(
             alloc,

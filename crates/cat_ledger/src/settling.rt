@@ -58,8 +58,9 @@ impl Ledger {
         ensures place { OnOk result (self.now.state.place < 4294967295) }
     {
         let catalogue = self.catalogue();
-        let Ok((branch, _expected)) = open_commit(catalogue, request) else {
-            unreachable!()
+        let branch = match open_commit(catalogue, request) {
+            Ok((branch, _expected)) => branch,
+            Err(_) => unreachable!(),
         };
         catalogue.contents_are_held();
         let head = catalogue.map_at(&branch.head)?;
@@ -124,8 +125,9 @@ impl Ledger {
         ensures keeps { Keeps K.told K.kept K.down K.in_flight K.faults K.moment K.left_since K.may_leave keeper.old keeper.new (turned self.old turn (commands.Merge merge.now)).logged result }
     {
         let catalogue = self.catalogue();
-        let Ok((branch, source)) = open_merge(catalogue, merge) else {
-            unreachable!()
+        let (branch, source) = match open_merge(catalogue, merge) {
+            Ok(opened) => opened,
+            Err(_) => unreachable!(),
         };
         let planned = settle_merge(alloc, catalogue, merge, branch, &source, draft);
         self.make_planned(alloc, keeper, turn, planned)
@@ -152,8 +154,9 @@ impl Ledger {
         ensures keeps { Keeps K.told K.kept K.down K.in_flight K.faults K.moment K.left_since K.may_leave keeper.old keeper.new (turned self.old turn (commands.Transplant transplant.now)).logged result }
     {
         let catalogue = self.catalogue();
-        let Ok(branch) = open_transplant(catalogue, transplant) else {
-            unreachable!()
+        let branch = match open_transplant(catalogue, transplant) {
+            Ok(branch) => branch,
+            Err(_) => unreachable!(),
         };
         let planned = settle_transplant(alloc, catalogue, transplant, branch, draft);
         self.make_planned(alloc, keeper, turn, planned)

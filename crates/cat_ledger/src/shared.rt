@@ -35,10 +35,7 @@ impl Model for Shared {
 fn sharing(alloc: Global, catalogue: Catalogue) -> Result<Arc<Catalogue>, NoMemory>
     ensures { IfOk result (λ shared. catalogue_in shared ≡ catalogue) }
 {
-    match Arc::new(alloc, catalogue) {
-        Ok(shared) => Ok(shared),
-        Err(_) => Err(NoMemory),
-    }
+    Ok(Arc::new(alloc, catalogue)?)
 }
 
 /// Puts a copy in its place while a view holds it.
