@@ -16,6 +16,8 @@ pub(crate) fn with_changes(alloc: Global, planned: Vec<Planned>) -> Result<Vec<P
     for one in planned {
         if has_changes(&one) {
             made.push(one)?;
+        } else {
+            drop(one);
         }
     }
     Ok(made)
