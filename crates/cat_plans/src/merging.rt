@@ -1,6 +1,6 @@
 //! Merges of a commit into a branch.
 
-ghost use Rattle.std.specs.Prelude.{ℕ, ◌≡◌, ◌<◌, ◌∷◌, [], Ok, IfErr, IfOk, OnOk, false};
+ghost use Rattle.std.specs.Prelude.{ℕ, ◌≡◌, ◌<◌, ◌∷◌, [], Some, Ok, IfErr, IfOk, OnOk, false};
 ghost use Rattle.sha2.specs.Sha256.{sha256};
 ghost use Rattle.cat_model.specs.Base.{base};
 ghost use Rattle.cat_model.specs.Chain.{entries};
@@ -43,8 +43,32 @@ fn plan_from(
     let target = catalogue.map_at(head)?;
     catalogue.map_is_well_formed(head);
     catalogue.contents_are_held();
-    let plan = plan_merge(alloc, &before, &merged, &target, modes)?;
+    let made = plan_merge(alloc, &before, &merged, &target, modes);
+    // By calls, once, so that the proof has no maps at the ways out below.
+    drop(before);
+    drop(merged);
+    drop(target);
+    let plan = made?;
     Ok(plan)
+}
+
+/// The plan of a merge, with what is said of its commit.
+fn one_planned(
+    alloc: Global,
+    merge: &Merge,
+    source: &Hash,
+    plan: Plan,
+) -> Result<Vec<Planned>, NoMemory>
+    ensures { IfOk result (λ out. out.items ≡ record { merge_parent = Some source.now; meta = merge.now.meta; plan = plan } ∷ []) }
+{
+    let meta = copy_meta(&merge.meta)?;
+    let mut planned = Vec::new(alloc);
+    planned.push(Planned {
+        merge_parent: Some(*source),
+        meta,
+        plan,
+    })?;
+    Ok(planned)
 }
 
 /// What a merge of a commit into a branch plans, from their base.
@@ -67,12 +91,7 @@ pub fn draft_merge(
         source,
         &branch.head,
     )?;
-    let mut planned = Vec::new(alloc);
-    planned.push(Planned {
-        merge_parent: Some(*source),
-        meta: copy_meta(&merge.meta)?,
-        plan,
-    })?;
+    let planned = one_planned(alloc, merge, source, plan)?;
     Ok(Draft {
         ancestor: Some(ancestor),
         planned,
