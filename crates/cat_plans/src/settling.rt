@@ -51,6 +51,8 @@ fn tried_or_made(planned: Vec<Planned>, dry_run: bool, merged: Merged, command: 
     ensures { IsMadeOf planned.items dry_run merged command result }
 {
     if dry_run {
+        // By a call, so that the proof doesn't take each kind of command apart here.
+        drop(command);
         return Outcome::Tried(Adding { planned, merged });
     }
     let merged = applied(merged);
@@ -62,6 +64,8 @@ fn outcome_of(planned: Vec<Planned>, dry_run: bool, merged: Merged, command: Com
     ensures { IsMadeOf planned.items dry_run merged command result }
 {
     if planned.len() == 0 {
+        drop(planned);
+        drop(command);
         return Outcome::Replied(merged);
     }
     tried_or_made(planned, dry_run, merged, command)
@@ -71,8 +75,20 @@ fn outcome_of(planned: Vec<Planned>, dry_run: bool, merged: Merged, command: Com
 fn make(alloc: Global, draft: Draft, merged: Merged) -> Result<Outcome, NoMemory>
     ensures { IfOk result (IsMadeOf (changing draft.planned.items) draft.asked.dry_run merged draft.command) }
 {
-    let planned = with_changes(alloc, draft.planned)?;
-    Ok(outcome_of(planned, draft.asked.dry_run, merged, draft.command))
+    let Draft {
+        planned,
+        asked,
+        command,
+        ..
+    } = draft;
+    match with_changes(alloc, planned) {
+        Ok(made) => Ok(outcome_of(made, asked.dry_run, merged, command)),
+        Err(fault) => {
+            drop(merged);
+            drop(command);
+            Err(fault)
+        }
+    }
 }
 
 /// What plans without conflicts come to: commits of those that change something, if there are any.
@@ -135,7 +151,10 @@ fn by_conflicts(
     if conflicts.len() == 0 {
         return apply(alloc, catalogue, branch, draft, details);
     }
-    let clashing = clash(branch, &draft, details, conflicts)?;
+    let told = clash(branch, &draft, details, conflicts);
+    // By a call, so that the proof doesn't take the draft apart at each way out.
+    drop(draft);
+    let clashing = told?;
     Ok(Outcome::Replied(clashing))
 }
 
