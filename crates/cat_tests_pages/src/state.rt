@@ -11,6 +11,7 @@ use cat_names::ref_name::RefName;
 use cat_state::catalogue::Catalogue;
 use cat_state::failure::Failure;
 use std::alloc::Global;
+use std::process::Abort;
 use std::test::*;
 
 /// The head of `main`.
@@ -25,9 +26,12 @@ fn main_head(alloc: Global, catalogue: &Catalogue) -> Result<Hash, Failure>
 fn add_tag(catalogue: &mut Catalogue, alloc: Global, name: &str, head: Hash) -> Result<(), Fail>
     requires { IsTrue (is_known sha256 catalogue.old head) }
 {
-    let name = RefName::parse(alloc, name)?;
     catalogue.needs_log()?;
-    catalogue.needs_new_name(&name)?;
+    let name = RefName::parse(alloc, name)?;
+    if let Err(refusal) = catalogue.needs_new_name(&name) {
+        drop(name);
+        return Err(Fail::from(refusal));
+    }
     catalogue.insert(Reference {
         name,
         kind: Kind::Tag,
@@ -42,30 +46,67 @@ fn listed(alloc: Global, catalogue: &Catalogue) -> Result<(usize, bool), Failure
         limit: 1,
         after: None,
     });
-    match catalogue.answer(alloc, &ask)? {
-        Reply::References(page) => Ok((page.items.len(), page.next.is_some())),
-        _ => Ok((0, false)),
-    }
+    let reply = catalogue.answer(alloc, &ask);
+    drop(ask);
+    let reply = reply?;
+    let seen = match &reply {
+        Reply::References(page) => (page.items.len(), page.next.is_some()),
+        _ => (0, false),
+    };
+    drop(reply);
+    Ok(seen)
+}
+
+fn list_one_more<R: Abort>(rt: &R, alloc: Global, catalogue: &mut Catalogue) -> Result<(), Fail> {
+    assert!(rt; listed(alloc, catalogue)? == (1, false));
+    let head = main_head(alloc, catalogue)?;
+    add_tag(catalogue, alloc, "v1", head)?;
+    assert!(rt; listed(alloc, catalogue)? == (1, true));
+    Ok(())
 }
 
 #[test]
 fn a_reference_more_is_listed(rt: HostRuntime) -> Result<(), Fail> {
-    let mut catalogue = Catalogue::new(rt.alloc(), Limits::program())?;
-    assert!(rt; listed(rt.alloc(), &catalogue)? == (1, false));
-    let head = main_head(rt.alloc(), &catalogue)?;
-    add_tag(&mut catalogue, rt.alloc(), "v1", head)?;
-    assert!(rt; listed(rt.alloc(), &catalogue)? == (1, true));
+    let alloc = rt.alloc();
+    let mut catalogue = Catalogue::new(alloc, Limits::program())?;
+    let done = list_one_more(&rt, alloc, &mut catalogue);
+    drop(catalogue);
+    done
+}
+
+/// What a copy of a catalogue lists.
+fn listed_copy(alloc: Global, catalogue: &Catalogue) -> Result<(usize, bool), Failure> {
+    let copy = catalogue.copy(alloc)?;
+    let seen = listed(alloc, &copy);
+    drop(copy);
+    seen
+}
+
+fn add_beside<R: Abort>(
+    rt: &R,
+    alloc: Global,
+    catalogue: &mut Catalogue,
+    copy: &Catalogue,
+) -> Result<(), Fail> {
+    let head = main_head(alloc, catalogue)?;
+    add_tag(catalogue, alloc, "v1", head)?;
+    assert!(rt; listed(alloc, copy)? == (1, false));
+    assert!(rt; listed_copy(alloc, catalogue)? == (1, true));
     Ok(())
+}
+
+fn copy_and_add<R: Abort>(rt: &R, alloc: Global, catalogue: &mut Catalogue) -> Result<(), Fail> {
+    let copy = catalogue.copy(alloc)?;
+    let done = add_beside(rt, alloc, catalogue, &copy);
+    drop(copy);
+    done
 }
 
 #[test]
 fn a_copy_stays_as_it_is(rt: HostRuntime) -> Result<(), Fail> {
-    let mut catalogue = Catalogue::new(rt.alloc(), Limits::program())?;
-    let head = main_head(rt.alloc(), &catalogue)?;
-    let copy = catalogue.copy(rt.alloc())?;
-    add_tag(&mut catalogue, rt.alloc(), "v1", head)?;
-    let later = catalogue.copy(rt.alloc())?;
-    assert!(rt; listed(rt.alloc(), &copy)? == (1, false));
-    assert!(rt; listed(rt.alloc(), &later)? == (1, true));
-    Ok(())
+    let alloc = rt.alloc();
+    let mut catalogue = Catalogue::new(alloc, Limits::program())?;
+    let done = copy_and_add(&rt, alloc, &mut catalogue);
+    drop(catalogue);
+    done
 }

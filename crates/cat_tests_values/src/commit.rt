@@ -1,50 +1,114 @@
-//! Commits and instants against values from outside.
+//! Commits and instants against values from outside. A value whose parts have variants is given to
+//! `drop` before the next way out: each way out has its proof.
 
-use cat_codes::fault::FieldFault;
+use cat_codes::fault::{FieldFault, NoMemory};
 use cat_commit::{CommitMetaForm, MetaForm, from_bytes, id, read_instant, to_bytes, write_instant};
 use cat_json::fault::JsonFault;
 use cat_json::read::from_bytes as read;
 use cat_json::write::to_text;
+use cat_model::commit::Commit;
 use cat_model::moment::Moment;
+use cat_names::hash::Hash;
+use std::alloc::Global;
 use std::test::Fail;
+
+/// Whether a commit has these bytes.
+fn has_bytes(alloc: Global, commit: &Commit, want: &[u8]) -> Result<bool, NoMemory> {
+    let bytes = to_bytes(alloc, commit)?;
+    let same = bytes.as_slice() == want;
+    drop(bytes);
+    Ok(same)
+}
+
+/// Whether a commit under its hash is told so.
+fn is_told(alloc: Global, told: &(Hash, Commit), want: &str) -> Result<bool, NoMemory> {
+    let text = to_text::<CommitMetaForm>(alloc, told)?;
+    let same = text.as_str() == want;
+    drop(text);
+    Ok(same)
+}
+
+fn is_told_by_its_hash(alloc: Global, commit: Commit, want: &str) -> Result<bool, NoMemory> {
+    let hash = id(alloc, &commit);
+    let hash = match hash {
+        Ok(hash) => hash,
+        Err(fault) => {
+            drop(commit);
+            return Err(fault);
+        }
+    };
+    let told = (hash, commit);
+    let same = is_told(alloc, &told, want);
+    drop(told);
+    same
+}
+
+/// Whether the commit of these bytes is written as they are, and told so.
+fn is_written_and_told(alloc: Global, bytes: &[u8], want: &str) -> Result<bool, Fail> {
+    let commit = from_bytes(alloc, bytes)?;
+    let written = match has_bytes(alloc, &commit, bytes) {
+        Ok(written) => written,
+        Err(fault) => {
+            drop(commit);
+            return Err(Fail::from(fault));
+        }
+    };
+    let told = is_told_by_its_hash(alloc, commit, want)?;
+    Ok(written && told)
+}
+
+fn fault_of(alloc: Global, bytes: &[u8]) -> Option<FieldFault> {
+    let commit = from_bytes(alloc, bytes);
+    let fault = match &commit {
+        Ok(_) => None,
+        Err(fault) => Some(*fault),
+    };
+    drop(commit);
+    fault
+}
 
 #[test]
 fn a_commit_has_its_bytes_and_their_hash(rt: HostRuntime) -> Result<(), Fail> {
     let alloc = rt.alloc();
-    let commit = from_bytes(alloc, COMMIT)?;
-    let bytes = to_bytes(alloc, &commit)?;
-    assert!(rt; bytes.as_slice() == COMMIT);
-    let hash = id(alloc, &commit)?;
-    let text = to_text::<CommitMetaForm>(alloc, &(hash, commit))?;
-    assert!(rt; text.as_str() == COMMIT_TEXT);
-    assert!(rt; from_bytes(alloc, b"NC2") == Err(FieldFault::Range));
-    assert!(rt; from_bytes(alloc, b"NC1") == Err(FieldFault::Short));
+    assert!(rt; is_written_and_told(alloc, COMMIT, COMMIT_TEXT)?);
+    assert!(rt; fault_of(alloc, b"NC2") == Some(FieldFault::Range));
+    assert!(rt; fault_of(alloc, b"NC1") == Some(FieldFault::Short));
     Ok(())
 }
 
 #[test]
 fn the_merge_parent_is_told_after_the_parent(rt: HostRuntime) -> Result<(), Fail> {
-    let alloc = rt.alloc();
-    let commit = from_bytes(alloc, MERGE)?;
-    let bytes = to_bytes(alloc, &commit)?;
-    assert!(rt; bytes.as_slice() == MERGE);
-    let hash = id(alloc, &commit)?;
-    let text = to_text::<CommitMetaForm>(alloc, &(hash, commit))?;
-    assert!(rt; text.as_str() == MERGE_TEXT);
+    assert!(rt; is_written_and_told(rt.alloc(), MERGE, MERGE_TEXT)?);
     Ok(())
+}
+
+/// Whether the meta that is read of these bytes is told so.
+fn is_meta_told(alloc: Global, bytes: &[u8], want: &str) -> Result<bool, Fail> {
+    let meta = read::<MetaForm>(alloc, bytes)?;
+    let text = to_text::<MetaForm>(alloc, &meta);
+    drop(meta);
+    let text = text?;
+    let same = text.as_str() == want;
+    drop(text);
+    Ok(same)
+}
+
+fn is_no_meta(alloc: Global, bytes: &[u8]) -> bool {
+    let meta = read::<MetaForm>(alloc, bytes);
+    let bad = match &meta {
+        Ok(_) => false,
+        Err(fault) => *fault == JsonFault::Bad,
+    };
+    drop(meta);
+    bad
 }
 
 #[test]
 fn instants_are_read_by_jiff_and_written_with_six_digits(rt: HostRuntime) -> Result<(), Fail> {
     let alloc = rt.alloc();
-    let meta = read::<MetaForm>(alloc, META)?;
-    let text = to_text::<MetaForm>(alloc, &meta)?;
-    assert!(rt; text.as_str() == META_TEXT);
-    assert!(rt; read::<MetaForm>(alloc, b"{}") == Err(JsonFault::Bad));
-    assert!(rt;
-        read::<MetaForm>(alloc, br#"{"message":"","authorTime":"2024-02-03"}"#)
-            == Err(JsonFault::Bad)
-    );
+    assert!(rt; is_meta_told(alloc, META, META_TEXT)?);
+    assert!(rt; is_no_meta(alloc, b"{}"));
+    assert!(rt; is_no_meta(alloc, br#"{"message":"","authorTime":"2024-02-03"}"#));
     for text in [
         "1969-12-31T23:59:59.9999999Z",
         "2024-02-03T04:05:06",
