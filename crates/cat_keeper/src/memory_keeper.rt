@@ -71,6 +71,7 @@ impl Keeper for MemKeeper {
     ghost use Rattle.std.proofs.Common.{inl, sym, ◌∙◌};
     ghost use Rattle.cat_frames.specs.Payload.{has_reading};
     ghost use Rattle.cat_keeper.specs.Keeping.{HasKeepCause, WithOrWithout};
+    ghost use Rattle.cat_io.specs.Causes.{raised_if};
     ghost use Rattle.cat_io.specs.Crashes.{LeavesOnly};
     ghost use Rattle.cat_keeper.specs.Moments.{Within};
     ghost use Rattle.cat_keeper.specs.Listed.{list_counts, list_only};
@@ -129,6 +130,7 @@ impl Keeper for MemKeeper {
         ensures time { LeavesOnly keeper_moment keeper_left self.old self.new (keeper_images self.old) }
         ensures cause { HasKeepCause (keeper_faults self.old) (keeper_faults self.new) result }
         ensures fails { IsErrOf result KeepFault.Fault ↔ (next_fails self.old ≡ true) }
+        ensures counts { keeper_faults self.new ≡ raised_if (next_fails self.old) (keeper_faults self.old) }
         ensures calls { keeper_calls self.new ≡ keeper_next self.old }
         ensures failing { keeper_failing self.new ≡ keeper_failing self.old }
     {
@@ -181,6 +183,8 @@ impl Keeper for MemKeeper {
         ensures no_memory_taken { IsErrOf result KeepFault.NoMemory → ⊥ }
         ensures any_moment { keeper_down self.old ≡ None → LeavesOnly keeper_moment keeper_left self.old self.new (WithOrWithout (keeper_payloads self.old) bytes.now) }
         ensures fails { keeper_down self.old ≡ None → IsErrOf result KeepFault.Fault ↔ (next_fails self.old ≡ true) }
+        ensures counts { keeper_down self.old ≡ None → keeper_faults self.new ≡ raised_if (next_fails self.old) (keeper_faults self.old) }
+        ensures stands { (c : ℕ) → keeper_down self.old ≡ Some c → (keeper_calls self.new ≡ keeper_calls self.old) × (keeper_faults self.new ≡ keeper_faults self.old) }
         ensures calls { keeper_down self.old ≡ None → keeper_calls self.new ≡ keeper_next self.old }
         ensures failing { keeper_failing self.new ≡ keeper_failing self.old }
     {
