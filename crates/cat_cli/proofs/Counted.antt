@@ -6,12 +6,12 @@ use Rattle.cat_core.specs.Stored.{Stored}
 use Rattle.cat_journal.specs.Frames.{recovered}
 use Rattle.cat_cli.specs.declared.status.Status.{Status}
 use Rattle.cat_cli.specs.declared.status.Status.TheVariants as statuses
-use Rattle.cat_cli.specs.Journals.{DiskRose, DiskStays, StandsFor, told_at}
+use Rattle.cat_cli.specs.Journals.{DiskRose, DiskStays, StandsFor, Stays, told_at}
 use Rattle.cat_cli.specs.Lines.{check_line, no_memory_line}
 use Rattle.cat_cli.specs.Opening.{Counted, CountedKnown, HoldsLog, IsOpened, IsClosed}
 use Rattle.cat_cli.specs.Runs.{Checks, Opens, RefusesSo, Says, Seen, TellsKnown}
 use Rattle.cat_cli.specs.Sessions.{Readings}
-use Rattle.cat_cli.proofs.Opened.{begins_at, disk_rose, disk_stays, left_at}
+use Rattle.cat_cli.proofs.Opened.{begins_at, disk_rose, disk_stays, left_at, unraised}
 use Rattle.cat_cli.proofs.Told.{some_is, not_none}
 
 stands_both : (told after : Option (List ℕ)) (payloads : List (List ℕ)) → IfSome told (λ bytes. recovered bytes ≡ Ok payloads) → IfSome after (λ bytes. recovered bytes ≡ Ok payloads) → StandsFor told after
@@ -53,8 +53,8 @@ module _ {D K : Type 0} (told : D → Option (List ℕ)) (faults : D → ℕ) (d
   -- or didn't
   stayed : (Rose count (kept_faults store.keeper) → ⊥) → DiskStays faults place place'
   stayed stays =
-      let at_rest : Rose (faults opened.disk) (faults closed.disk) → ⊥ =
-      λ rose. stays (subst (λ (n : ℕ). Rose n (kept_faults store.keeper)) (sym opened.counted) (subst (λ (n : ℕ). Rose (faults opened.disk) n) closed.counted rose)) in
+      let at_rest : Stays (faults opened.disk) (faults closed.disk) =
+      subst (λ (n : ℕ). Stays n (faults closed.disk)) opened.counted (subst (λ (n : ℕ). Stays count n) (sym closed.counted) (unraised count (kept_faults store.keeper) opened.stored.later stays)) in
       subst (λ (q : Option (Option D)). DiskStays faults place q) (sym there) (disk_stays faults place opened.disk closed.disk opened.was at_rest)
 
   module _ (others : Type 0) where
@@ -94,5 +94,5 @@ module _ {D K : Type 0} (told : D → Option (List ℕ)) (faults : D → ℕ) (d
 
     -- where it ran out before a session on the catalogue began
     pub says_none : (clock : Readings) (to_come : Option Readings) (b w : List ℕ) (status : Status) → status ≡ statuses.NoMemory → TellsKnown no_memory_line held after before now → to_come ≡ Some clock → held ≡ Some w
-        → (h : List ℕ) × (after ≡ Some h) × Says (others ⊎ DiskRose faults place place') clock to_come b (seen w h) status
+        → (h : List ℕ) × (after ≡ Some h) × Says (others ⊎ DiskRose faults place place') (DiskStays faults place place') clock to_come b (seen w h) status
     says_none clock to_come b w status is told still e = let x = tells_none w status is told e in (x.0, x.1, inr (x.2, still))

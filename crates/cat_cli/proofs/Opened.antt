@@ -23,7 +23,7 @@ use Rattle.cat_cli.specs.declared.status.Status.{Status}
 use Rattle.cat_cli.specs.declared.status.Status.TheVariants as statuses
 use Rattle.cat_cli.specs.declared.unopened.Unopened.{Unopened}
 use Rattle.cat_cli.specs.declared.unopened.Unopened.TheVariants as whys
-use Rattle.cat_cli.specs.Journals.{Begins, DiskRose, DiskStays, Holds, IsBack, StandsFor, told_at}
+use Rattle.cat_cli.specs.Journals.{Begins, DiskRose, DiskStays, Holds, IsBack, StandsFor, Stays, told_at}
 use Rattle.cat_cli.specs.Opening.{FaultKnown, FaultTold, IsReason, IsStored, Refused, RefusedKnown, by_journal, by_store}
 use Rattle.cat_cli.specs.Runs.{Refuses, RefusesSo, Seen}
 use Rattle.cat_cli.specs.Sessions.{Fallen}
@@ -33,6 +33,10 @@ use Rattle.cat_cli.proofs.Told.{some_is, not_none}
 
 pub rose_later : (a b c : ℕ) → a ≤ b → Rose b c → Rose a c
 rose_later a b c le rose = omega (arith, le, rose)
+
+-- a count that neither fell nor rose is as it was
+pub unraised : (before now : ℕ) → before ≤ now → (Rose before now → ⊥) → Stays before now
+unraised before now later stays = (omega (arith, later, stays), omega (arith, later, stays))
 
 -- ---- bytes, and the payloads that they recover to
 
@@ -235,7 +239,7 @@ module _ {D : Type 0} where
   pub disk_rose : (faults : D → ℕ) (place : Option (Option D)) (disk again : D) → IfSome place (λ p. p ≡ Some disk) → Rose (faults disk) (faults again) → DiskRose faults place (stood again (taken place))
   disk_rose faults place disk again is rose = record { opened = disk; again = again; was = is; is = is_there place again; rose = rose }
 
-  pub disk_stays : (faults : D → ℕ) (place : Option (Option D)) (disk again : D) → IfSome place (λ p. p ≡ Some disk) → (Rose (faults disk) (faults again) → ⊥) → DiskStays faults place (stood again (taken place))
+  pub disk_stays : (faults : D → ℕ) (place : Option (Option D)) (disk again : D) → IfSome place (λ p. p ≡ Some disk) → Stays (faults disk) (faults again) → DiskStays faults place (stood again (taken place))
   disk_stays faults None disk again is stays = tt
   disk_stays faults (Some None) disk again is stays = absurd (nothing_stands disk is)
   disk_stays faults (Some (Some d)) disk again is stays = subst (λ (p : Option D). DiskStays faults (Some p) (Some (Some again))) (sym is) stays

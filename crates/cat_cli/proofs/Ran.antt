@@ -1,5 +1,5 @@
 -- A session on the catalogue of a journal that was opened, and is given back.
-use Rattle.std.proofs.Common.{◌≡◌, ◌⊎◌, ℕ, List, ◌++◌, reverse, Option, Some, None, IfSome, Bool, true, false, refl, sym, ◌∙◌, ap, subst, inl, inr}
+use Rattle.std.proofs.Common.{◌≡◌, ◌⊎◌, ℕ, ◌≤◌, List, ◌++◌, reverse, Option, Some, None, IfSome, Bool, true, false, refl, sym, ◌∙◌, ap, subst, inl, inr, arith}
 use Rattle.std.specs.Option.{option_map}
 use Rattle.std.proofs.lemmas.List.{reverse-append, reverse-reverse, map-append}
 use Rattle.cat_io.specs.Causes.{Rose}
@@ -11,13 +11,13 @@ use Rattle.cat_cli.specs.declared.ending.Session.{Session as End}
 use Rattle.cat_cli.specs.declared.ending.Session.TheVariants as ends
 use Rattle.cat_cli.specs.declared.status.Status.{Status}
 use Rattle.cat_cli.specs.declared.status.Status.TheVariants as statuses
-use Rattle.cat_cli.specs.Journals.{DiskRose, Holds, told_at}
+use Rattle.cat_cli.specs.Journals.{DiskRose, DiskStays, Holds, Stays, told_at}
 use Rattle.cat_cli.specs.Opening.{HoldsLog, IsOpened, IsClosed, status_of}
-use Rattle.cat_cli.specs.Runs.{Answers, Ran, Says, Seen, start}
+use Rattle.cat_cli.specs.Runs.{Answers, Ran, RanWell, Says, Seen, start}
 use Rattle.cat_cli.specs.Sessions.{Readings, Fallen}
 use Rattle.cat_cli.specs.SessionLaws.{log_grows}
 use Rattle.cat_cli.specs.Stores.{RunsKnown}
-use Rattle.cat_cli.proofs.Opened.{begins_at, disk_rose, left_at, rose_later}
+use Rattle.cat_cli.proofs.Opened.{begins_at, disk_rose, disk_stays, left_at, rose_later, unraised}
 
 -- the entries of a log that grew
 log_of : (payloads : List (List ℕ)) (before after news : List LogEntry) → payloads ≡ spellings (reverse before) → after ≡ news ++ before → spellings (reverse after) ≡ payloads ++ spellings (reverse news)
@@ -28,19 +28,22 @@ log_of payloads before after news is grew =
     ∙ ap (λ (l : List (List ℕ)). l ++ spellings (reverse news)) (sym is)
 
 -- by how it ended, and whether the disk failed
-module _ (fell : Type 0) (clock : Readings) (to_come : Option Readings) (bytes : List ℕ) (s : Seen) where
-  pub answers : (end : End) (rose : Bool) (ran : Ran fell clock to_come bytes s end) → (rose ≡ false → ran.last.fallen ≡ None) → Answers fell clock to_come bytes s (status_of end rose)
+module _ (fell stays : Type 0) (clock : Readings) (to_come : Option Readings) (bytes : List ℕ) (s : Seen) where
+  ran_well : (end : End) (ran : Ran fell clock to_come bytes s end) → (ran.last.fallen ≡ None) × stays → RanWell fell stays clock to_come bytes s end
+  ran_well end ran (none, same) = (ran, none, same)
+
+  pub answers : (end : End) (rose : Bool) (ran : Ran fell clock to_come bytes s end) → (rose ≡ false → (ran.last.fallen ≡ None) × stays) → Answers fell stays clock to_come bytes s (status_of end rose)
   answers ends.NoMemory rose ran well = ran
   answers ends.WriteFault rose ran well = ran
   answers ends.ReadFault rose ran well = ran
   answers ends.Closed true ran well = inl ran
-  answers ends.Closed false ran well = (ran, well refl)
+  answers ends.Closed false ran well = ran_well ends.Closed ran (well refl)
   answers ends.Capped true ran well = inr (inl ran)
-  answers ends.Capped false ran well = inl (ran, well refl)
+  answers ends.Capped false ran well = inl (ran_well ends.Capped ran (well refl))
   answers ends.BadHead true ran well = inr (inr (inl ran))
-  answers ends.BadHead false ran well = inr (inl (ran, well refl))
+  answers ends.BadHead false ran well = inr (inl (ran_well ends.BadHead ran (well refl)))
   answers ends.TooLarge true ran well = inr (inr (inr ran))
-  answers ends.TooLarge false ran well = inr (inr (ran, well refl))
+  answers ends.TooLarge false ran well = inr (inr (ran_well ends.TooLarge ran (well refl)))
 
 pub read_failed : (end : End) (rose : Bool) → status_of end rose ≡ statuses.ReadFault → end ≡ ends.ReadFault
 read_failed ends.NoMemory rose e = cc
@@ -116,6 +119,13 @@ module _ {D K : Type 0} (told : D → Option (List ℕ)) (faults : D → ℕ) (d
       subst (λ (n : ℕ). Rose n (faults closed.disk)) opened.counted (subst (λ (n : ℕ). Rose count n) (sym closed.counted) rose) in
       subst (λ (q : Option (Option D)). DiskRose faults place q) (sym there) (disk_rose faults place opened.disk closed.disk opened.was by_disk)
 
+  -- or didn't
+  stayed : count ≤ kept_faults new.keeper → (Rose count (kept_faults new.keeper) → ⊥) → DiskStays faults place place'
+  stayed later stays =
+      let at_rest : Stays (faults opened.disk) (faults closed.disk) =
+      subst (λ (n : ℕ). Stays n (faults closed.disk)) opened.counted (subst (λ (n : ℕ). Stays count n) (sym closed.counted) (unraised count (kept_faults new.keeper) later stays)) in
+      subst (λ (q : Option (Option D)). DiskStays faults place q) (sym there) (disk_stays faults place opened.disk closed.disk opened.was at_rest)
+
   -- what is seen of it
   abbrev pub seen : List ℕ → List ℕ → Seen
   seen w h = record { written = w; held = h; before = before; now = now; journal = told_at told place; left = told_at told place' }
@@ -151,13 +161,16 @@ module _ {D K : Type 0} (told : D → Option (List ℕ)) (faults : D → ℕ) (d
 
   -- and what it says, by the status
   pub says : (others : Type 0) (clock : Readings) (b w : List ℕ) (rose : Bool) (status : Status) → status ≡ status_of end rose
-      → old.began ≡ kept_faults old.keeper → ((c : ℕ) → down new.keeper ≡ Some c → Rose old.began (kept_faults new.keeper))
+      → old.began ≡ kept_faults old.keeper → old.began ≤ kept_faults new.keeper → ((c : ℕ) → down new.keeper ≡ Some c → Rose old.began (kept_faults new.keeper))
       → (rose ≡ false → Rose count (kept_faults new.keeper) → ⊥)
-      → ahead ≡ Some clock → bytes ≡ Some b → held ≡ Some w → (h : List ℕ) × (after ≡ Some h) × Says (others ⊎ DiskRose faults place place') clock ahead' b (seen w h) status
-  says others clock b w rose status is began rises stays a e f =
+      → ahead ≡ Some clock → bytes ≡ Some b → held ≡ Some w → (h : List ℕ) × (after ≡ Some h) × Says (others ⊎ DiskRose faults place place') (DiskStays faults place place') clock ahead' b (seen w h) status
+  says others clock b w rose status is began later rises stays a e f =
       let raised : (c : ℕ) → down new.keeper ≡ Some c → Rose count (kept_faults new.keeper) =
       λ c down_at. rose_later count (kept_faults old.keeper) (kept_faults new.keeper) opened.stored.later (subst (λ (n : ℕ). Rose n (kept_faults new.keeper)) began (rises c down_at)) in
       let x = ran others clock b w raised a e f in
-      let well : rose ≡ false → x.2.last.fallen ≡ None = λ still. none_fell (down new.keeper) x.2.last.fallen x.3 (λ c down_at. stays still (raised c down_at)) in
+      let kept : count ≤ kept_faults new.keeper = omega (arith, opened.stored.later, subst (λ (n : ℕ). n ≤ kept_faults new.keeper) began later) in
+      let well : rose ≡ false → (x.2.last.fallen ≡ None) × DiskStays faults place place' =
+      λ still. (none_fell (down new.keeper) x.2.last.fallen x.3 (λ c down_at. stays still (raised c down_at)), stayed kept (stays still)) in
       let fell : Type 0 = others ⊎ DiskRose faults place place' in
-      (x.0, x.1, inl (subst (λ (st : Status). Answers fell clock ahead' b (seen w x.0) st) (sym is) (answers fell clock ahead' b (seen w x.0) end rose x.2 well)))
+      let staying : Type 0 = DiskStays faults place place' in
+      (x.0, x.1, inl (subst (λ (st : Status). Answers fell staying clock ahead' b (seen w x.0) st) (sym is) (answers fell staying clock ahead' b (seen w x.0) end rose x.2 well)))

@@ -1,5 +1,5 @@
 -- The journal that a run opens: what its disk tells, and what that stands for.
-use Rattle.std.specs.Prelude.{ℕ, ◌<◌, ◌≡◌, ◌⊎◌, List, [], ◌∷◌, ◌++◌, length, Option, Some, None, IfSome, Ok, Err}
+use Rattle.std.specs.Prelude.{ℕ, ◌<◌, ◌-◌, ◌^◌, ◌≡◌, ◌⊎◌, List, [], ◌∷◌, ◌++◌, length, Option, Some, None, IfSome, Ok, Err}
 use Rattle.sha2.specs.Sha256.{sha256}
 use Rattle.cat_io.specs.Causes.{Rose}
 use Rattle.cat_checks.specs.Legal.{replayed}
@@ -34,13 +34,17 @@ pub record DiskRose {D : Type 0} (faults : D → ℕ) (before after : Option (Op
   pub is : IfSome after (λ place. place ≡ Some again)
   pub rose : Rose (faults opened) (faults again)
 
+-- the count is as it was, below its type's end
+abbrev pub Stays : ℕ → ℕ → Type 0
+Stays before now = (now ≡ before) × (now < 2 ^ 64 - 1)
+
 -- and where both are known, it didn't rise
 abbrev pub DiskStays : {D : Type 0} → (D → ℕ) → Option (Option D) → Option (Option D) → Type 0
 DiskStays faults None after = Unit {0}
 DiskStays faults (Some None) after = Unit {0}
 DiskStays faults (Some (Some opened)) None = Unit {0}
 DiskStays faults (Some (Some opened)) (Some None) = Unit {0}
-DiskStays faults (Some (Some opened)) (Some (Some again)) = Rose (faults opened) (faults again) → ⊥
+DiskStays faults (Some (Some opened)) (Some (Some again)) = Stays (faults opened) (faults again)
 
 -- ---- what a journal stands for
 

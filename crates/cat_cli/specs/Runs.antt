@@ -88,32 +88,32 @@ pub record Ran (fell : Type 0) (clock : Readings) (to_come : Option Readings) (b
   pub cause : IfSome last.fallen (λ _. fell)
   pub reads_on : to_come ≡ Some (from last.readings clock)
 
--- and no append failed
-abbrev pub RanWell : Type 0 → Readings → Option Readings → List ℕ → Seen → End → Type 0
-RanWell fell clock to_come bytes s end = (ran : Ran fell clock to_come bytes s end) × (ran.last.fallen ≡ None)
+-- and no append failed; stays says that the count of faults of the journal's disk didn't rise
+abbrev pub RanWell : Type 0 → Type 0 → Readings → Option Readings → List ℕ → Seen → End → Type 0
+RanWell fell stays clock to_come bytes s end = (ran : Ran fell clock to_come bytes s end) × (ran.last.fallen ≡ None) × stays
 
 -- a session was held, by the status
-abbrev pub Answers : Type 0 → Readings → Option Readings → List ℕ → Seen → Status → Type 0
-Answers fell clock to_come bytes s statuses.Done = RanWell fell clock to_come bytes s ends.Closed
-Answers fell clock to_come bytes s statuses.Cut =
-    RanWell fell clock to_come bytes s ends.Capped ⊎ RanWell fell clock to_come bytes s ends.BadHead ⊎ RanWell fell clock to_come bytes s ends.TooLarge
-Answers fell clock to_come bytes s statuses.DiskFault =
+abbrev pub Answers : Type 0 → Type 0 → Readings → Option Readings → List ℕ → Seen → Status → Type 0
+Answers fell stays clock to_come bytes s statuses.Done = RanWell fell stays clock to_come bytes s ends.Closed
+Answers fell stays clock to_come bytes s statuses.Cut =
+    RanWell fell stays clock to_come bytes s ends.Capped ⊎ RanWell fell stays clock to_come bytes s ends.BadHead ⊎ RanWell fell stays clock to_come bytes s ends.TooLarge
+Answers fell stays clock to_come bytes s statuses.DiskFault =
     Ran fell clock to_come bytes s ends.Closed ⊎ Ran fell clock to_come bytes s ends.Capped
     ⊎ Ran fell clock to_come bytes s ends.BadHead ⊎ Ran fell clock to_come bytes s ends.TooLarge
-Answers fell clock to_come bytes s statuses.ReadFault = Ran fell clock to_come bytes s ends.ReadFault
-Answers fell clock to_come bytes s statuses.WriteFault = Ran fell clock to_come bytes s ends.WriteFault
-Answers fell clock to_come bytes s statuses.NoMemory = Ran fell clock to_come bytes s ends.NoMemory
-Answers fell clock to_come bytes s _ = ⊥
+Answers fell stays clock to_come bytes s statuses.ReadFault = Ran fell clock to_come bytes s ends.ReadFault
+Answers fell stays clock to_come bytes s statuses.WriteFault = Ran fell clock to_come bytes s ends.WriteFault
+Answers fell stays clock to_come bytes s statuses.NoMemory = Ran fell clock to_come bytes s ends.NoMemory
+Answers fell stays clock to_come bytes s _ = ⊥
 
 -- what a run of `script` does, by its status; where no session was held the clock wasn't read
-abbrev pub Says : Type 0 → Readings → Option Readings → List ℕ → Seen → Status → Type 0
-Says fell clock to_come bytes s status = Answers fell clock to_come bytes s status ⊎ (RefusesSo fell s status × (to_come ≡ Some clock))
+abbrev pub Says : Type 0 → Type 0 → Readings → Option Readings → List ℕ → Seen → Status → Type 0
+Says fell stays clock to_come bytes s status = Answers fell stays clock to_come bytes s status ⊎ (RefusesSo fell s status × (to_come ≡ Some clock))
 
 -- the same where the clock, the source and the sink tell what they have
-abbrev pub SaysKnown : Type 0 → Option Readings → Option Readings → Option (List ℕ) → Option (List ℕ) → Status → Option (List ℕ) → ℕ → ℕ → Option (List ℕ) → Option (List ℕ) → Type 0
-SaysKnown fell ahead to_come bytes held status after before now journal left =
+abbrev pub SaysKnown : Type 0 → Type 0 → Option Readings → Option Readings → Option (List ℕ) → Option (List ℕ) → Status → Option (List ℕ) → ℕ → ℕ → Option (List ℕ) → Option (List ℕ) → Type 0
+SaysKnown fell stays ahead to_come bytes held status after before now journal left =
     (clock : Readings) (b w : List ℕ) → ahead ≡ Some clock → bytes ≡ Some b → held ≡ Some w
-    → (h : List ℕ) × (after ≡ Some h) × Says fell clock to_come b (record { written = w; held = h; before = before; now = now; journal = journal; left = left }) status
+    → (h : List ℕ) × (after ≡ Some h) × Says fell stays clock to_come b (record { written = w; held = h; before = before; now = now; journal = journal; left = left }) status
 
 -- ---- a check
 

@@ -47,6 +47,7 @@ pub fn run<R: Threads + Wait + Sync, O: Disks, S: Source, K: Sink, C: Clock, L: 
     // What a script writes are the replies to the requests in the bytes of the source, the journal has the entries of all that they changed, and the clock stands where their moments left it.
     ensures replies { (journal : List ℕ) → asked (map (λ word. word.now) words.now) ≡ Some (script journal)
         → SaysKnown (Rose (O.faults disks.old) (O.faults disks.new) ⊎ DiskRose O.D.faults (O.at_path disks.old journal) (O.at_path disks.new journal))
+        (DiskStays O.D.faults (O.at_path disks.old journal) (O.at_path disks.new journal))
         (C.ahead clock.old) (C.ahead clock.new) (S.left source.old) (K.held sink.old) result (K.held sink.new) (K.faults sink.old) (K.faults sink.new)
         (told_at O.D.told (O.at_path disks.old journal)) (told_at O.D.told (O.at_path disks.new journal)) }
     // What a check writes is the line of the catalogue that the journal's entries lead to.

@@ -1,4 +1,4 @@
-use Rattle.std.proofs.Common.{ℕ, refl, subst}
+use Rattle.std.proofs.Common.{ℕ, ◌≤◌, refl, subst}
 use Rattle.cat_io.specs.Causes.{Rose}
 use Rattle.cat_cli.specs.Runs.{start}
 use Rattle.cat_cli.proofs.Left.{began_on, left_so, rose}
@@ -22,6 +22,12 @@ returns-in-Ok-clause-ends g c clock b w a e f =
           c.log_is_kept.ensures.fallen c.log_is_kept.ensures.flies,
       x.4.to_come,
     )
+
+pub returns-in-Ok-clause-later : goal.returns-in-Ok-clause-later
+returns-in-Ok-clause-later g c =
+    let store = c.release-store.result in
+    let began = began_on c.args.store store _ c.in-Ok.ensures.opened c.release-store.ensures.opened in
+    subst (λ (n : ℕ). n ≤ g.K0.Keeper.faults store.keeper) began c.log_is_kept.ensures.later
 
 pub returns-in-Ok-clause-rose : goal.returns-in-Ok-clause-rose
 returns-in-Ok-clause-rose g c count fell =

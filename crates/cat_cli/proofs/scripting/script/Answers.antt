@@ -14,7 +14,7 @@ pub returns-in-Ok-hold_session-clause-replies : goal.returns-in-Ok-hold_session-
 returns-in-Ok-hold_session-clause-replies g c clock b w =
     says {K = Journal g.row.O-D.Denot g.O.D.Disk} g.O.D.Disk.told g.O.D.Disk.faults (λ j. j.down) (λ j. option_map (λ _. payload_of j.frame.items) j.down) (λ j. g.O.D.Disk.faults j.disk)
     _ _ _ _ c.in-Ok.store c.in-Ok-hold_session.store _ _ _ _ _ _ _ c.in-Ok-hold_session.end c.in-Ok.ensures.opened c.in-Ok-hold_session.ensures.ends c.close-rose.ensures.closed
-    (Rose (g.O.Disks.faults c.args.disks.now) (g.O.Disks.faults c.close-rose.new.disks)) clock b w c.close-rose.result c.status_of.result c.status_of.ensures c.in-Ok.ensures.fresh.2 c.in-Ok-hold_session.ensures.rose c.close-rose.ensures.stays
+    (Rose (g.O.Disks.faults c.args.disks.now) (g.O.Disks.faults c.close-rose.new.disks)) clock b w c.close-rose.result c.status_of.result c.status_of.ensures c.in-Ok.ensures.fresh.2 c.in-Ok-hold_session.ensures.later c.in-Ok-hold_session.ensures.rose c.close-rose.ensures.stays
 
 pub returns-in-Ok-hold_session-clause-disk : goal.returns-in-Ok-hold_session-clause-disk
 returns-in-Ok-hold_session-clause-disk g c is =
