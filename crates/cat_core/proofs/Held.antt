@@ -78,7 +78,7 @@ sound_held book after faults left_open held t c sound takes next is =
 
 pub step_held : {K : Type 0} (told : K → Option (List (List ℕ))) (kept : K → ℕ) (down : K → Option ℕ) (faults : K → ℕ) (book after : Book) (keeper : K) (fallen : Option Fallen) (began number : ℕ) → after ≡ taking book number → IsInStep told kept down faults book keeper fallen began → IsInStep told kept down faults after keeper fallen began
 step_held {K} told kept down faults book after keeper fallen began number takes was =
-    subst (λ (b : Book). IsInStep told kept down faults b keeper fallen began) (sym takes) record { payloads = was.payloads; number = was.number; fallen = was.fallen; later = was.later; rose = was.rose }
+    subst (λ (b : Book). IsInStep told kept down faults b keeper fallen began) (sym takes) record { payloads = was.payloads; number = was.number; fallen = was.fallen; later = was.later; rose = was.rose; counted = was.counted }
 
 -- what is left then
 pub held_as : {K : Type 0} (book after : Book) (keeper : K) (fault : Option FailedAppend) (drafter : ℕ) (dropped : Option Ticket) (xs ys : List OpenDraft) (began : ℕ) (t : Ticket) (c : Command) (x : Stored K) → after ≡ taking book t.number → t.number ≡ book.draft + 1 → map draft_held ys ≡ map draft_held xs ++ held_for t c ∷ []

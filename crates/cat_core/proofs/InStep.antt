@@ -1,5 +1,5 @@
 -- The keeper has the entries of the log.
-use Rattle.std.proofs.Common.{◌≡◌, ◌≤◌, ℕ, max, arith, List, [], ◌∷◌, ◌++◌, map, reverse, Option, Some, None, Result, Ok, Err, Bool, true, false, nat_lt, if◌then◌else◌, IfSome, refl, sym, ap, subst, ◌∙◌}
+use Rattle.std.proofs.Common.{◌≡◌, ◌≤◌, ℕ, max, arith, List, [], ◌∷◌, ◌++◌, map, reverse, Option, Some, None, Result, Ok, Err, Bool, true, false, nat_lt, if◌then◌else◌, IfSome, le_refl, refl, sym, ap, subst, ◌∙◌}
 use Rattle.std.proofs.lemmas.List.{append-nil, reverse-append, map-append}
 use Rattle.sha2.specs.Sha256.{sha256}
 use Rattle.cat_io.specs.Causes.{Rose}
@@ -98,7 +98,7 @@ module _ {K : Type 0} (told : K → Option (List (List ℕ))) (kept : K → ℕ)
     stayed log keeps =
         let later : began ≤ faults old = was.later in
         let more : faults old ≤ faults new = keeps.later in
-        record { payloads = still told old new before after keeps.payloads log was.payloads; number = number; fallen = keeps.fallen ∙ was.fallen; later = omega arith; rose = tt }
+        record { payloads = still told old new before after keeps.payloads log was.payloads; number = number; fallen = keeps.fallen ∙ was.fallen; later = omega arith; rose = tt; counted = tt }
 
     -- after a call
     pub in_step : (made : Result Told Unmade) → Runs called before after made → Keeps told kept down in_flight faults moment left_since may_leave old new called.logged made → IsInStep told kept down faults after new (fallen_by caller (faults new) None made) began
@@ -111,6 +111,7 @@ module _ {K : Type 0} (told : K → Option (List (List ℕ))) (kept : K → ℕ)
           fallen = keeps.up;
           later = omega arith;
           rose = tt;
+          counted = tt;
         }
     in_step (Err NotKept) runs keeps =
         let later : began ≤ faults old = was.later in
@@ -121,6 +122,7 @@ module _ {K : Type 0} (told : K → Option (List (List ℕ))) (kept : K → ℕ)
           fallen = keeps.fallen;
           later = omega arith;
           rose = rose_since began (faults old) (faults new) was.later keeps.rose;
+          counted = (rose_since began (faults old) (faults new) was.later keeps.rose, le_refl (faults new));
         }
     in_step (Err (Failed failures.NoMemory)) runs keeps = stayed runs.log keeps
     in_step (Err (Failed (failures.Refused why))) runs keeps = stayed (ap (λ (b : Book). b.log) runs.1.book ∙ ap (λ (l : List LogEntry). l ++ before.log) (right.none _ runs.1.said)) keeps

@@ -105,6 +105,11 @@ pub rose_at : (began now : ℕ) (fallen : Option Fallen) (flight : Option (List 
 rose_at began now None flight rose x is = absurd (up_of x is)
 rose_at began now (Some f) flight rose x is = rose
 
+pub counted_at : (began now : ℕ) (fallen : Option Fallen) (flight : Option (List ℕ)) → IfSome fallen (λ f. Rose began f.count × (f.count ≤ now)) → (x : FailedAppend) → failed fallen flight ≡ Some x → Rose began x.count × (x.count ≤ now)
+counted_at began now None flight counted x is = absurd (up_of x is)
+counted_at began now (Some f) None counted x is = absurd (up_of x is)
+counted_at began now (Some f) (Some payload) counted x is = let same : f.count ≡ x.count = cc in subst (λ (n : ℕ). Rose began n × (n ≤ now)) same counted
+
 -- ---- calls
 
 module _ {K : Type 0} (told : K → Option (List (List ℕ))) (kept : K → ℕ) (down : K → Option ℕ) (in_flight : K → Option (List ℕ)) (faults : K → ℕ) (moment : K → ℕ) (left_since : K → ℕ → Option (List (List ℕ)) → Type 0) (may_leave : K → Option (List (List ℕ)) → Type 0)

@@ -86,6 +86,7 @@ pub record IsInStep {K : Type 0} (told : K → Option (List (List ℕ))) (kept :
   pub fallen : down keeper ≡ option_map (λ (f : Fallen). f.count) fell
   pub later : began ≤ faults keeper
   pub rose : IfSome fell (λ f. Rose began (faults keeper))
+  pub counted : IfSome fell (λ f. Rose began f.count × (f.count ≤ faults keeper))
 
 -- none has the number
 abbrev pub IsNumberOfNone : ℕ → List drafts.OpenDraft → Type 0

@@ -196,6 +196,7 @@ impl<K: Keeper> Store<K> {
         ensures flies { K.in_flight self.now.keeper ≡ option_map (λ (x : FailedAppend). x.payload) self.now.mark.fault }
         ensures later { self.now.began ≤ K.faults self.now.keeper }
         ensures rose { (x : FailedAppend) → self.now.mark.fault ≡ Some x → Rose self.now.began (K.faults self.now.keeper) }
+        ensures counted { (x : FailedAppend) → self.now.mark.fault ≡ Some x → Rose self.now.began x.count × (x.count ≤ K.faults self.now.keeper) }
     {
         let _ = &self.fallen;
     }

@@ -4,6 +4,6 @@ use Rattle.cat_core.proofs.store.Store.over.Goals as goal
 
 pub invariant_of-result : goal.invariant_of-result
 invariant_of-result g c = (
-  record { payloads = c.requires.payloads; number = c.requires.number; fallen = c.requires.up; later = at_least _ _ (search rules); rose = tt },
+  record { payloads = c.requires.payloads; number = c.requires.number; fallen = c.requires.up; later = at_least _ _ (search rules); rose = tt; counted = tt },
   none_held c.args.ledger _ _ (search rules) (c.requires.sound _),
 )
