@@ -1,5 +1,5 @@
 -- What a call does to a store is a turn of its caller.
-use Rattle.std.proofs.Common.{◌≡◌, ◌≤◌, ◌<◌, ℕ, ◌+◌, List, [], ◌∷◌, ◌++◌, reverse, Option, Some, None, Result, Ok, Err, true, false, refl, sym, ap, ◌∙◌, subst, inl, inr, arith, le_refl}
+use Rattle.std.proofs.Common.{◌≡◌, ◌≤◌, ℕ, ◌+◌, List, [], ◌∷◌, ◌++◌, reverse, Some, None, Result, Ok, Err, true, false, refl, sym, ap, ◌∙◌, subst, inl, inr, arith, le_refl}
 use Rattle.std.proofs.lemmas.List.{append-nil, reverse-append}
 use Rattle.sha2.specs.Sha256.{sha256}
 use Rattle.cat_checks.specs.Histories.{IsLegalFrom}
@@ -12,19 +12,19 @@ use Rattle.cat_model.specs.declared.refusal.Refused.{Refused}
 use Rattle.cat_model.specs.declared.reply.Told.{Told}
 use Rattle.cat_model.specs.Book.{Book, after_call, call_on}
 use Rattle.cat_model.specs.Calls.{Called}
-use Rattle.cat_model.specs.Drafts.{LeavesOthers, Open, OpenDraft, Opening, drafts_of}
+use Rattle.cat_model.specs.Drafts.{LeavesOthers, Open, Opening, drafts_of}
 use Rattle.cat_model.specs.Mark.{FailedAppend, Later, Mark}
 use Rattle.cat_model.specs.State.{State, first_state}
 use Rattle.cat_model.specs.Step.{opens_draft}
 use Rattle.cat_model.specs.WellMade.{is_well_made}
 use Rattle.cat_ledger.proofs.Before.{call_opens}
-use Rattle.cat_model.specs.TurnLaws.{adds_none, grows_self, later_self, leaves_self}
-use Rattle.cat_model.specs.Turns.{Acts, Adds, Own, Snapshot}
+use Rattle.cat_model.specs.TurnLaws.{adds_none, later_self, leaves_self}
+use Rattle.cat_model.specs.Turns.{Acts, Adds, Own}
 use Rattle.cat_builds.specs.declared.building.Built.{Built}
 use Rattle.cat_core.specs.declared.draft.Draft.{Draft}
 use Rattle.cat_core.specs.declared.draft.Settled.{Settled}
 use Rattle.cat_core.specs.declared.draft.Settled.TheVariants as settled
-use Rattle.cat_core.specs.Drafts.{Does, Falls, IsMoved, IsOpen, IsOpening, IsRefused, Refers, Refuses, Settles, called_in, closed, command_in, dropping, holding, opening_in, open_draft_of, with_opened, without}
+use Rattle.cat_core.specs.Drafts.{Does, IsOpen, IsOpening, IsRefused, Refers, Refuses, Settles, called_in, closed, command_in, dropping, holding, opening_in, open_draft_of, with_opened, without}
 use Rattle.cat_core.specs.declared.tickets.Ticket.{Ticket}
 use Rattle.cat_model.specs.Naming.{names_of}
 use Rattle.cat_core.specs.Stored.{AreWaiting, IsNumberOfNone, IsSound, Stored, log_of, opened_of, opening_at, snap}

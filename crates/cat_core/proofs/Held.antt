@@ -1,38 +1,30 @@
 -- Drafts as a store holds them, and what its calls on them leave.
-use Rattle.std.proofs.Common.{◌≡◌, ◌≤◌, ◌<◌, ℕ, ◌+◌, max, List, [], ◌∷◌, ◌++◌, length, reverse, map, Option, Some, None, Result, Ok, Err, IfErr, Bool, true, false, cond, not, ◌&&◌, nat_eq, refl, sym, ap, ◌∙◌, subst, arith}
+use Rattle.std.proofs.Common.{◌≡◌, ◌≤◌, ℕ, ◌+◌, max, List, [], ◌∷◌, ◌++◌, length, reverse, map, Option, None, Result, Ok, Err, Bool, true, false, cond, not, ◌&&◌, nat_eq, refl, sym, ap, ◌∙◌, subst, arith}
 use Rattle.std.proofs.lemmas.List.{map-append}
-use Rattle.std.proofs.Math.Nat.{le-max_right}
 use Rattle.std.specs.List.{filter}
 use Rattle.std.specs.Prelude.{is_err, is_ok, if◌then◌else◌}
-use Rattle.std.specs.Option.{option_map}
 use Rattle.sha2.specs.Sha256.{sha256}
-use Rattle.cat_names.specs.declared.hash.Hash.{Hash}
 use Rattle.cat_builds.specs.declared.building.Built.{Built}
 use Rattle.cat_builds.specs.declared.call.Call.{Call}
 use Rattle.cat_builds.specs.Builds.{HasHead, IsBuilt, command_of}
-use Rattle.cat_checks.specs.HistoryLaws.{AreAtMost, at_most_more, place_is}
-use Rattle.cat_checks.specs.Histories.{IsLegalFrom, begun, book_after}
+use Rattle.cat_checks.specs.HistoryLaws.{at_most_more, place_is}
+use Rattle.cat_checks.specs.Histories.{begun, book_after}
 use Rattle.cat_model.specs.declared.command.Command.{Command}
-use Rattle.cat_model.specs.declared.log_entry.LogEntry.{LogEntry}
-use Rattle.cat_model.specs.declared.refusal.Refusal.{Refusal}
-use Rattle.cat_model.specs.declared.refusal.Refused.{Refused}
 use Rattle.cat_model.specs.Book.{Book}
-use Rattle.cat_model.specs.Calls.{needs_draft}
 use Rattle.cat_model.specs.Drafts as drafts
-use Rattle.cat_model.specs.Drafts.{Names, Opening, drafts_of}
+use Rattle.cat_model.specs.Drafts.{Opening, drafts_of}
 use Rattle.cat_model.specs.Mark.{FailedAppend, Mark}
 use Rattle.cat_model.specs.Naming.{names_of}
-use Rattle.cat_model.specs.Refusing.{◌>>=◌, Tested}
 use Rattle.cat_model.specs.Later.{IsLater}
 use Rattle.cat_model.specs.State.{State, first_state}
-use Rattle.cat_model.specs.Step.{opening, opens_draft}
+use Rattle.cat_model.specs.Step.{opening}
 use Rattle.cat_ledger.specs.Making.{taking}
 use Rattle.cat_core.specs.declared.draft.Draft.{Draft}
 use Rattle.cat_core.specs.declared.tickets.Fallen.{Fallen}
 use Rattle.cat_core.specs.declared.tickets.OpenDraft.{OpenDraft}
 use Rattle.cat_core.specs.declared.tickets.Ticket.{Ticket}
 use Rattle.cat_core.specs.Drafts.{IsOpen, closed, holding, open_draft_of, opening_in, without}
-use Rattle.cat_core.specs.Stored.{AreWaiting, IsFree, IsInStep, IsSound, Stored, draft_held, failed, held_mark, held_open, log_of, opening_at}
+use Rattle.cat_core.specs.Stored.{IsFree, IsInStep, IsSound, Stored, draft_held, held_mark, held_open, log_of, opening_at}
 use Rattle.cat_core.proofs.Sound.{sound_with}
 use Rattle.cat_core.proofs.Waiting.{in_all, none_left, waiting_closed, waiting_more, waits}
 

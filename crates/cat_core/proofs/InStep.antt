@@ -1,5 +1,5 @@
 -- The keeper has the entries of the log.
-use Rattle.std.proofs.Common.{◌≡◌, ◌≤◌, ℕ, max, arith, List, [], ◌∷◌, ◌++◌, map, reverse, Option, Some, None, Result, Ok, Err, Bool, true, false, nat_lt, if◌then◌else◌, IfSome, le_refl, refl, sym, ap, subst, ◌∙◌}
+use Rattle.std.proofs.Common.{◌≡◌, ◌≤◌, ℕ, max, arith, List, [], ◌∷◌, ◌++◌, reverse, Option, Some, None, Result, Ok, Err, Bool, true, false, nat_lt, if◌then◌else◌, IfSome, le_refl, refl, sym, ap, subst, ◌∙◌}
 use Rattle.std.proofs.lemmas.List.{append-nil, reverse-append, map-append}
 use Rattle.sha2.specs.Sha256.{sha256}
 use Rattle.cat_io.specs.Causes.{Rose}
@@ -13,7 +13,6 @@ use Rattle.cat_model.specs.Calls.{Called, call, needs_draft, opened_call, steppe
 use Rattle.cat_model.specs.Refusing.{◌>>=◌, Outcome, Tested}
 use Rattle.cat_model.specs.State.{State}
 use Rattle.cat_model.specs.Step.{Turn, opening, opens_draft, step}
-use Rattle.cat_state.specs.declared.failure.Failure.{Failure}
 use Rattle.cat_state.specs.declared.failure.Failure.TheVariants as failures
 use Rattle.cat_ledger.specs.declared.unmade.Unmade.TheVariants.{Failed, NotKept}
 use Rattle.cat_ledger.specs.declared.unmade.Unmade.{Unmade}
@@ -22,7 +21,6 @@ use Rattle.cat_ledger.specs.declared.logging.Turn as ledger
 use Rattle.cat_ledger.specs.declared.occasion.Occasion.{Occasion}
 use Rattle.cat_ledger.specs.Making.{Runs}
 use Rattle.cat_ledger.specs.Occasions.{begun, left_on, made_on, opened_on, turn_on, turned_step}
-use Rattle.cat_core.specs.declared.tickets.Fallen.{Fallen}
 use Rattle.cat_core.specs.Made.{fallen_by}
 use Rattle.cat_core.specs.Stored.{IsInStep}
 

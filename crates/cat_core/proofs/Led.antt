@@ -4,7 +4,6 @@ use Rattle.std.proofs.lemmas.List.{drop_more, take-append-drop, take_all, take_m
 use Rattle.std.specs.Result.{IsErrOf}
 use Rattle.sha2.specs.Sha256.{sha256}
 use Rattle.cat_io.specs.Causes.{Rose}
-use Rattle.cat_io.specs.Crashes.{LeavesOnly}
 use Rattle.cat_io.specs.Crashes as crashes
 use Rattle.cat_keeper.specs.Moments.{followed, started}
 use Rattle.cat_checks.specs.Legal.{replayed}

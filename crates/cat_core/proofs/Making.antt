@@ -1,9 +1,8 @@
 -- What a store answers and leaves by what a call made in its ledger.
-use Rattle.std.proofs.Common.{◌≡◌, ◌≤◌, ℕ, arith, List, [], ◌∷◌, ◌++◌, Option, Some, None, Result, Ok, Err, IfErr, false, refl, sym, ap, subst, ◌∙◌}
+use Rattle.std.proofs.Common.{◌≡◌, ◌≤◌, ℕ, arith, List, [], ◌++◌, Option, Some, None, Result, Ok, Err, IfErr, false, refl, sym, ap, subst, ◌∙◌}
 use Rattle.std.specs.Option.{option_map}
 use Rattle.std.specs.Prelude.{IfSome}
 use Rattle.cat_io.specs.Causes.{Rose}
-use Rattle.sha2.specs.Sha256.{sha256}
 use Rattle.cat_model.specs.declared.log_entry.LogEntry.{LogEntry}
 use Rattle.cat_model.specs.declared.refusal.Refusal.{Refusal}
 use Rattle.cat_model.specs.declared.refusal.Refusal.TheVariants.{BadRequest, RefNotFound, RefExists, ContentNotFound, Conflicts, Expired, RetriesSpent, SweepOpen, Limit, Collision, Fault, Down, NoMemory, NoRoute, WrongMethod, TooLarge, Encoding}
@@ -11,15 +10,13 @@ use Rattle.cat_model.specs.declared.refusal.Refused.{Refused}
 use Rattle.cat_model.specs.declared.reply.Told.{Told}
 use Rattle.cat_model.specs.Book.{Book, after_call}
 use Rattle.cat_model.specs.Calls.{Called}
-use Rattle.cat_model.specs.Drafts as drafts
 use Rattle.cat_model.specs.Drafts.{Open}
 use Rattle.cat_model.specs.Mark.{FailedAppend}
-use Rattle.cat_model.specs.State.{State}
 use Rattle.cat_plans.specs.Expiring.{is_expired}
 use Rattle.cat_state.specs.declared.failure.Failure.TheVariants as failures
 use Rattle.cat_ledger.specs.declared.unmade.Unmade.{Unmade}
 use Rattle.cat_ledger.specs.declared.unmade.Unmade.TheVariants.{Failed, NotKept}
-use Rattle.cat_ledger.specs.Kept.{Keeps, Leaves, spelling}
+use Rattle.cat_ledger.specs.Kept.{Keeps, spelling}
 use Rattle.cat_ledger.specs.Making.{Runs, unmade_expired}
 use Rattle.cat_ledger.specs.PlainLaws.{IsOther}
 use Rattle.cat_core.specs.declared.tickets.Fallen.{Fallen}
@@ -28,7 +25,7 @@ use Rattle.cat_core.specs.declared.tickets.Ticket.{Ticket}
 use Rattle.cat_core.specs.Drafts.{IsRefused, Refers, Refuses}
 use Rattle.cat_core.specs.Kept.{IsTold}
 use Rattle.cat_core.specs.Made.{fallen_by, told_at}
-use Rattle.cat_core.specs.Stored.{IsDownAt, IsUp, MayBeDown, Stored, failed, held_mark, held_open}
+use Rattle.cat_core.specs.Stored.{IsUp, MayBeDown, Stored, failed, held_mark, held_open}
 use Rattle.cat_core.proofs.InStep.{LogsRight}
 use Rattle.cat_core.proofs.Keeping.{keeps_told, leaves_made}
 use Rattle.cat_core.proofs.Sound.{Brings, IsCallIn}

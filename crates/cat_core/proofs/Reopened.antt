@@ -1,5 +1,5 @@
 -- The book of payloads that are executed again is sound.
-use Rattle.std.proofs.Common.{◌≡◌, ℕ, ◌+◌, List, [], ◌∷◌, Option, Some, None, Result, Ok, Err, Bool, true, false, if◌then◌else◌, refl, sym, subst}
+use Rattle.std.proofs.Common.{◌≡◌, ℕ, ◌+◌, List, [], ◌∷◌, Option, Some, None, Result, Ok, Err, Bool, true, false, if◌then◌else◌, refl, subst}
 use Rattle.sha2.specs.Sha256.{sha256}
 use Rattle.cat_checks.specs.Legal.{is_legal, next_book, read_next, replayed, replayed_call}
 use Rattle.cat_codes.specs.declared.fault.FieldFault.{FieldFault}

@@ -1,7 +1,6 @@
 -- What settling a draft comes to, by how far it gets.
-use Rattle.std.proofs.Common.{◌≡◌, ◌≤◌, ◌<◌, ℕ, List, [], ◌∷◌, Option, Some, None, Result, Ok, Err, IfErr, IfOk, Bool, true, false, refl, sym, ap, ◌∙◌, subst, arith}
+use Rattle.std.proofs.Common.{◌≡◌, ℕ, List, [], Option, Some, None, Result, Ok, Err, true, false, refl, sym, ap, ◌∙◌, subst}
 use Rattle.sha2.specs.Sha256.{sha256}
-use Rattle.cat_checks.specs.Histories.{IsLegalFrom}
 use Rattle.cat_names.specs.declared.hash.Hash.{Hash}
 use Rattle.cat_model.specs.declared.command.Command.{Command}
 use Rattle.cat_model.specs.declared.log_entry.LogEntry.{LogEntry}
@@ -10,22 +9,19 @@ use Rattle.cat_model.specs.declared.refusal.Refusal.{Refusal}
 use Rattle.cat_model.specs.declared.refusal.Refusal.TheVariants.{BadRequest, RefNotFound, RefExists, ContentNotFound, Conflicts, Expired, RetriesSpent, SweepOpen, Limit, Collision, Fault, Down, NoMemory, NoRoute, WrongMethod, TooLarge, Encoding}
 use Rattle.cat_model.specs.declared.refusal.Refused.{Refused}
 use Rattle.cat_model.specs.declared.reply.Told.{Told}
-use Rattle.cat_model.specs.Book.{Book, after_call}
-use Rattle.cat_model.specs.Calls.{Called, needs_draft}
+use Rattle.cat_model.specs.Calls.{Called}
 use Rattle.cat_model.specs.Drafts.{Open}
-use Rattle.cat_model.specs.Mark.{FailedAppend}
 use Rattle.cat_model.specs.Refusing.{◌>>=◌, Tested}
 use Rattle.cat_model.specs.State.{State, reference_of}
 use Rattle.cat_model.specs.Step.{opening, opens_draft}
 use Rattle.cat_plans.specs.Expiring.{answers_expired, is_expired}
 use Rattle.cat_state.specs.declared.failure.Failure.{Failure}
 use Rattle.cat_state.specs.declared.failure.Failure.TheVariants as failures
-use Rattle.cat_state.specs.Giving.{Fails, GivesAs}
+use Rattle.cat_state.specs.Giving.{Fails}
 use Rattle.cat_builds.specs.declared.building.Built.{Built}
-use Rattle.cat_builds.specs.declared.call.Call.{Call}
-use Rattle.cat_builds.specs.Builds.{HasHead, branch_of, command_of}
+use Rattle.cat_builds.specs.Builds.{HasHead, branch_of}
 use Rattle.cat_ledger.specs.declared.occasion.Occasion.{Occasion}
-use Rattle.cat_ledger.specs.Kept.{Fell, Grew, Leaves, Stayed}
+use Rattle.cat_ledger.specs.Kept.{Leaves, Stayed}
 use Rattle.cat_ledger.specs.Making.{refused_at}
 use Rattle.cat_ledger.specs.Occasions.{left_on, made_on}
 use Rattle.cat_ledger.specs.PlainLaws.{IsOther}
@@ -34,8 +30,8 @@ use Rattle.cat_ledger.proofs.Keeping.{leaves_any, stays}
 use Rattle.cat_core.specs.declared.draft.Draft.{Draft}
 use Rattle.cat_core.specs.declared.draft.Settled.{Settled}
 use Rattle.cat_core.specs.declared.draft.Settled.TheVariants as settled
-use Rattle.cat_core.specs.Drafts.{Does, Falls, IsGivenBack, IsOn, IsRefused, NotOpened, Refers, Refuses, Settles, called_in, closed, command_in, may_open}
-use Rattle.cat_core.specs.Kept.{IsSettled, IsTold, KeepsTold}
+use Rattle.cat_core.specs.Drafts.{IsGivenBack, IsOn, NotOpened, Refuses, called_in, closed, command_in, may_open}
+use Rattle.cat_core.specs.Kept.{IsSettled, IsTold}
 use Rattle.cat_core.specs.Stored.{IsDownAt, IsUp, Stored}
 use Rattle.cat_core.proofs.InStep.{right_made}
 use Rattle.cat_core.proofs.Keeping.{not_fault}

@@ -1,11 +1,11 @@
 -- Books that their logs lead to: what a call brings leads them on.
-use Rattle.std.proofs.Common.{◌≡◌, ◌≤◌, ◌<◌, ◌⊎◌, ℕ, ◌+◌, max, List, [], ◌∷◌, ◌++◌, reverse, Option, Some, None, Result, Ok, Err, Bool, true, false, not, ◌&&◌, cond, if◌then◌else◌, nat_eq, nat_lt, refl, sym, ap, ap₂, ◌∙◌, subst, arith, ne_eqb}
+use Rattle.std.proofs.Common.{◌≡◌, ◌≤◌, ◌<◌, ℕ, ◌+◌, max, List, [], ◌∷◌, ◌++◌, reverse, Some, Ok, Err, Bool, true, false, not, ◌&&◌, if◌then◌else◌, nat_eq, nat_lt, refl, sym, ap, ◌∙◌, subst, arith, ne_eqb}
 use Rattle.std.proofs.lemmas.List.{append-nil, reverse-append, reverse-reverse}
 use Rattle.std.proofs.Math.Nat.{le-max_left, le-max_right}
 use Rattle.cat_codes.specs.ListLaws.{and_true}
 use Rattle.sha2.specs.Sha256.{sha256}
 use Rattle.cat_checks.specs.AcceptedLaws.{accepted_is_legal}
-use Rattle.cat_checks.specs.Histories.{AreLegal, IsLegalFrom, after_entry, begun, book_after, book_at}
+use Rattle.cat_checks.specs.Histories.{AreLegal, IsLegalFrom, begun, book_after, book_at}
 use Rattle.cat_checks.specs.HistoryLaws.{AreAtMost, at_most_more, book_more, legal_more, limits_stay, log_is}
 use Rattle.cat_checks.specs.Legal.{draft_after, draft_is_new, has_its_draft, is_just, is_legal, replayed_by, replayed_call, turn_of}
 use Rattle.cat_model.specs.declared.command.Command.{Command}
@@ -13,7 +13,7 @@ use Rattle.cat_model.specs.declared.limits.Limits.{Limits}
 use Rattle.cat_model.specs.declared.log_entry.LogEntry.{LogEntry}
 use Rattle.cat_model.specs.declared.reply.Reply.{Reply}
 use Rattle.cat_model.specs.Book.{Book, after_call, call_on, first_book}
-use Rattle.cat_model.specs.Calls.{Called, call, entry_made, needs_draft, opened_call, stepped, tested_call, unchanged_by}
+use Rattle.cat_model.specs.Calls.{Called, call, entry_made, needs_draft, stepped, tested_call, unchanged_by}
 use Rattle.cat_model.specs.Drafts.{OpenDraft}
 use Rattle.cat_model.specs.Refusing.{◌>>=◌, Outcome, Tested}
 use Rattle.cat_model.specs.State.{State, first_state}
@@ -22,7 +22,7 @@ use Rattle.cat_model.specs.Turns.{Opened}
 use Rattle.cat_model.specs.WellMade.{is_well_made}
 use Rattle.cat_ledger.specs.declared.logging.Turn as ledger
 use Rattle.cat_ledger.specs.declared.occasion.Occasion.{Occasion}
-use Rattle.cat_ledger.specs.Occasions.{left_on, made_on, opened_on, turn_on, turned}
+use Rattle.cat_ledger.specs.Occasions.{left_on, made_on, opened_on}
 use Rattle.cat_core.proofs.Waiting.{waiting_on}
 use Rattle.cat_core.specs.Stored.{AreWaiting, IsNumberOfNone, IsSound}
 

@@ -1,9 +1,8 @@
 -- What holds of a store holds of it after a call.
-use Rattle.std.proofs.Common.{◌≡◌, ◌≤◌, ℕ, arith, List, [], ◌++◌, Option, Some, None, Result, Ok, Err, refl, sym, ap, subst, ◌∙◌}
-use Rattle.cat_model.specs.declared.log_entry.LogEntry.{LogEntry}
+use Rattle.std.proofs.Common.{◌≡◌, ◌≤◌, ℕ, arith, List, Option, None, Result, Ok, Err, sym, ap, subst, ◌∙◌}
 use Rattle.cat_model.specs.declared.refusal.Refused.{Refused}
 use Rattle.cat_model.specs.declared.reply.Told.{Told}
-use Rattle.cat_model.specs.Book.{Book, after_call}
+use Rattle.cat_model.specs.Book.{Book}
 use Rattle.cat_model.specs.Calls.{Called}
 use Rattle.cat_model.specs.Drafts.{OpenDraft}
 use Rattle.cat_state.specs.declared.failure.Failure.TheVariants as failures

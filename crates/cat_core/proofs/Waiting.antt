@@ -1,9 +1,7 @@
 -- Drafts that are open: what opening and closing one does to them, and to those of other callers.
-use Rattle.std.proofs.Common.{◌≡◌, ◌≢◌, ◌≤◌, ◌<◌, ◌⊎◌, ℕ, ◌+◌, List, [], ◌∷◌, ◌++◌, Bool, true, false, cond, not, ◌&&◌, ◌||◌, nat_eq, refl, sym, ap, ◌∙◌, subst, inl, inr, ⊎_elim, arith, eq-eqb, ne_eqb}
+use Rattle.std.proofs.Common.{◌≡◌, ◌≢◌, ◌≤◌, ◌<◌, ◌⊎◌, ℕ, ◌+◌, List, [], ◌∷◌, ◌++◌, Bool, true, false, cond, ◌&&◌, nat_eq, refl, sym, ap, ◌∙◌, subst, inl, inr, ⊎_elim, arith, eq-eqb, ne_eqb}
 use Rattle.std.proofs.lemmas.List.{append-nil}
 use Rattle.std.proofs.lemmas.Map.Views.{exact_unsigned_eq}
-use Rattle.std.specs.List.{filter, list_any}
-use Rattle.std.specs.Prelude.{map}
 use Rattle.cat_checks.specs.HistoryLaws.{AreAtMost, new_above}
 use Rattle.cat_checks.specs.Legal.{draft_is_new}
 use Rattle.cat_model.specs.declared.log_entry.LogEntry.{LogEntry}

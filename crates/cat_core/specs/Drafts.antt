@@ -1,5 +1,5 @@
 -- Drafts: what opening, settling and dropping one answers, and what it leaves.
-use Rattle.std.specs.Prelude.{◌≡◌, ◌⊎◌, ℕ, ◌+◌, List, [], ◌∷◌, ◌++◌, Option, Some, None, Ok, Err, Result, true, cond, nat_eq, ◌&&◌}
+use Rattle.std.specs.Prelude.{◌≡◌, ◌⊎◌, ℕ, ◌+◌, List, [], ◌∷◌, ◌++◌, Some, None, Ok, Err, Result, true, cond, nat_eq, ◌&&◌}
 use Rattle.sha2.specs.Sha256.{sha256}
 use Rattle.cat_model.specs.declared.command.Command.{Command}
 use Rattle.cat_model.specs.declared.log_entry.LogEntry.{LogEntry}
@@ -17,7 +17,6 @@ use Rattle.cat_model.specs.State.{State}
 use Rattle.cat_model.specs.Step.{opening}
 use Rattle.cat_builds.specs.declared.building.Built.{Built}
 use Rattle.cat_builds.specs.Builds.{HasHead, IsGivenBy, command_of}
-use Rattle.cat_ledger.specs.declared.occasion.Occasion.{Occasion}
 use Rattle.cat_ledger.specs.Kept.{spelling}
 use Rattle.cat_ledger.specs.Occasions.{made_on}
 use Rattle.cat_core.specs.declared.draft.Draft.{Draft}

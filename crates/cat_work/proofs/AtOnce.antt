@@ -1,5 +1,5 @@
 -- Calls that are made in one turn.
-use Rattle.std.proofs.Common.{◌≡◌, ◌≤◌, ◌⊎◌, ℕ, ◌+◌, Some, Result, Ok, Err, Bool, true, false, refl, sym, ap, subst, ◌∙◌, arith, le_refl}
+use Rattle.std.proofs.Common.{◌≡◌, ℕ, Result, Ok, Err, Bool, true, false, refl, sym, ap, subst, ◌∙◌, arith}
 use Rattle.sha2.specs.Sha256.{sha256}
 use Rattle.cat_core.specs.Drafts.{Refers}
 use Rattle.cat_core.specs.Stored as stored
@@ -11,15 +11,15 @@ use Rattle.cat_model.specs.declared.refusal.Refused.{Refused}
 use Rattle.cat_model.specs.declared.reply.Told.{Told}
 use Rattle.cat_model.specs.Book.{Book, call_on}
 use Rattle.cat_model.specs.Calls.{Called}
-use Rattle.cat_model.specs.Drafts.{Open, nothing_open}
-use Rattle.cat_model.specs.Mark.{FailedAppend, Mark}
+use Rattle.cat_model.specs.Drafts.{nothing_open}
+use Rattle.cat_model.specs.Mark.{Mark}
 use Rattle.cat_model.specs.Step.{opens_draft}
 use Rattle.cat_work.specs.Answers.{Answers, AnswersAlone, IsDraftAbove}
 use Rattle.cat_work.specs.Passes.{IsAlone, book_of}
 use Rattle.cat_work.specs.Turns.{Comes, Turned}
-use Rattle.cat_work.proofs.Callings.{Brings, call_brings, call_draft}
+use Rattle.cat_work.proofs.Callings.{call_brings, call_draft}
 use Rattle.cat_work.proofs.Endings.{refuses_open}
-use Rattle.cat_work.proofs.Telling.{AloneAt, Found, Left, Numbered, alone_err, alone_ok, answers_ok, book_found, causes, grew_in, left_by_turn}
+use Rattle.cat_work.proofs.Telling.{AloneAt, Numbered, alone_err, alone_ok, answers_ok, book_found, causes, grew_in, left_by_turn}
 use Rattle.cat_work.proofs.Unopened.{found_first, none_still}
 
 refers_open : {K : Type 0} (called : Called) (n : ℕ) (s s' : Stored K) (r : Result Told Refused) → Refers called n s s' r → stored.open_of s' ≡ stored.open_of s

@@ -1,16 +1,15 @@
 -- A call between its attempts, and what ends it.
-use Rattle.std.proofs.Common.{◌≡◌, ◌<◌, ◌≤◌, ◌⊎◌, inl, inr, ℕ, ◌+◌, List, [], ◌∷◌, ◌++◌, length, length-append, reverse, Option, Some, None, Result, Ok, Err, Bool, true, false, vec_capacity, refl, sym, ap, subst, ◌∙◌, arith}
+use Rattle.std.proofs.Common.{◌≡◌, ◌<◌, ◌≤◌, inl, inr, ℕ, ◌+◌, List, [], ◌∷◌, ◌++◌, length, length-append, reverse, Option, Some, None, Result, Ok, Err, Bool, true, vec_capacity, refl, sym, ap, subst, ◌∙◌, arith}
 use Rattle.sha2.specs.Sha256.{sha256}
 use Rattle.cat_names.specs.declared.hash.Hash.{Hash}
 use Rattle.cat_builds.specs.declared.building.Built.{Built}
 use Rattle.cat_builds.specs.Builds.{HasHead, IsBuilt}
 use Rattle.cat_checks.specs.Histories.{IsLegalFrom, begun}
 use Rattle.cat_checks.specs.HistoryLaws.{limits_stay}
-use Rattle.cat_core.specs.Drafts.{IsMoved, IsOn, Refuses, called_in, closed, command_in, may_open, open_draft_of, opening_in, without}
+use Rattle.cat_core.specs.Drafts.{IsOn, Refuses, called_in, closed, command_in, may_open, open_draft_of, opening_in, without}
 use Rattle.cat_core.specs.Stored as stored
 use Rattle.cat_core.specs.Stored.{Stored, log_of}
 use Rattle.cat_core.specs.declared.draft.Draft.{Draft}
-use Rattle.cat_core.specs.declared.draft.Settled.TheVariants as settled
 use Rattle.cat_desk.specs.Log.{Follows}
 use Rattle.cat_desk.specs.Pass.{DeskId, Keeps, known, left_by, mark_of, number_of, seen, spare_of, stands_for}
 use Rattle.cat_desk.specs.declared.pass.Pass.{Pass}
@@ -24,14 +23,14 @@ use Rattle.cat_model.specs.declared.refusal.Refused.{Refused}
 use Rattle.cat_model.specs.declared.reply.Told.{Told}
 use Rattle.cat_model.specs.Book.{Book, call_on}
 use Rattle.cat_model.specs.Calls.{Called}
-use Rattle.cat_model.specs.Drafts.{Open, OpenDraft, OpenSweep, Opening, StaysOpen, SweepAwaits, drafts_of, nothing_open, open_of, sweep_of}
-use Rattle.cat_model.specs.Mark.{FailedAppend, Grows, Mark}
+use Rattle.cat_model.specs.Drafts.{Open, OpenDraft, OpenSweep, StaysOpen, SweepAwaits, drafts_of, nothing_open, open_of}
+use Rattle.cat_model.specs.Mark.{Grows, Mark}
 use Rattle.cat_model.specs.State.{State}
 use Rattle.cat_model.specs.Step.{opening, opens_draft}
 use Rattle.cat_model.specs.TurnLaws.{grows_on, nothing_stays}
 use Rattle.cat_work.specs.declared.trying.Trying.{Trying}
-use Rattle.cat_work.specs.Answers.{Answers, AnswersAlone, Causes, IsDraftAbove, NoFaultIsNew, RefusesAlone, Spends, first_place}
-use Rattle.cat_work.specs.Passes.{IsAlone, IsReady, book_of, state_of}
+use Rattle.cat_work.specs.Answers.{Answers, AnswersAlone, IsDraftAbove, RefusesAlone, Spends}
+use Rattle.cat_work.specs.Passes.{IsAlone, book_of, state_of}
 use Rattle.cat_work.specs.Turns.{Begins, Comes, Ends, EndsLast, Going, IsSpent, Moves, StoodAlone, Trail, Tries, Turned, out_of_memory}
 use Rattle.cat_work.proofs.Callings.{Brings, called_alone, in_draft, made_brings, made_draft, may_pass}
 use Rattle.cat_work.proofs.Opened.{drafts_more, drafts_one, none_left}

@@ -1,5 +1,5 @@
 -- What is open of a caller, as its drafts are opened and closed.
-use Rattle.std.proofs.Common.{◌≡◌, ℕ, List, [], ◌∷◌, ◌++◌, Bool, true, false, cond, nat_eq, ◌&&◌, Option, Some, None, refl, sym, ap, ◌∙◌, eq-eqb}
+use Rattle.std.proofs.Common.{◌≡◌, ℕ, List, [], ◌∷◌, ◌++◌, Bool, true, false, cond, nat_eq, ◌&&◌, refl, ap, ◌∙◌, eq-eqb}
 use Rattle.cat_core.specs.Drafts.{without}
 use Rattle.cat_model.specs.Drafts.{OpenDraft, drafts_of}
 

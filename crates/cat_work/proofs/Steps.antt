@@ -1,5 +1,5 @@
 -- The step of a call after the tests before its draft, and what it leaves of the state where it makes no entry.
-use Rattle.std.proofs.Common.{◌≡◌, ℕ, ◌+◌, ◌<◌, ◌⊎◌, inl, inr, List, [], ◌∷◌, Option, Some, None, Result, Ok, Err, Bool, true, false, if◌then◌else◌, nat_lt, refl, sym, ap, subst, ◌∙◌, arith, ⊎_elim, map, filter_map, length, cond, ◌||◌, not}
+use Rattle.std.proofs.Common.{◌≡◌, ℕ, ◌+◌, ◌<◌, ◌⊎◌, inl, inr, List, [], ◌∷◌, Option, Some, None, Result, Ok, Err, Bool, true, false, if◌then◌else◌, nat_lt, refl, sym, ap, subst, ◌∙◌, arith, map, filter_map, length, cond, ◌||◌, not}
 use Rattle.std.proofs.lemmas.Bool.Decides.{nat_tests}
 use Rattle.std.specs.List.{list_any}
 use Rattle.sha2.specs.Sha256.{sha256}
@@ -28,7 +28,7 @@ use Rattle.cat_model.specs.Judge.{judge}
 use Rattle.cat_model.specs.Contents.{content_code}
 use Rattle.cat_model.specs.Formats.{commit_code}
 use Rattle.cat_model.specs.Maps.{Map}
-use Rattle.cat_model.specs.Merges.{Asked, Planned, all_conflicts, applied, commits_made, has_changes, merge_opening, merge_planned, merge_reply, needs_planned_room, needs_set_contents, planned_commit, step_applied, step_merge, step_planned, step_unless_conflicts, with_planned}
+use Rattle.cat_model.specs.Merges.{Asked, Planned, all_conflicts, commits_made, has_changes, merge_opening, merge_planned, merge_reply, needs_planned_room, needs_set_contents, planned_commit, step_applied, step_merge, step_planned, step_unless_conflicts, with_planned}
 use Rattle.cat_model.specs.Moves.{needs_contents, needs_head, needs_log, needs_new_name, needs_other_than_default, step_assign, step_create, step_delete, with_references}
 use Rattle.cat_model.specs.Records.{added, commit_bytes, content_bytes, with_commit, with_content, with_contents}
 use Rattle.cat_model.specs.Refusing.{◌>>=◌, Outcome, Tested, named, needs_kind, needs_room, needs_source_kind, perhaps_named, pointed}

@@ -2,17 +2,17 @@
 use Rattle.std.proofs.Common.{◌≡◌, ◌≢◌, ℕ, ◌+◌, ◌<◌, ◌≤◌, List, [], ◌∷◌, ◌++◌, length, take, refl, sym, ap, ◌∙◌, subst, arith, length-append, le_refl}
 use Rattle.std.proofs.lemmas.List.{append_assoc, append-nil, take-append-le}
 use Rattle.std.proofs.lemmas.Option.{same_Some}
-use Rattle.std.proofs.Math.Seq.{take-append_seam, take-length}
+use Rattle.std.proofs.Math.Seq.{take-length}
 use Rattle.sha2.specs.Sha256.{sha256}
 use Rattle.cat_names.specs.declared.hash.Hash.{Hash}
 use Rattle.cat_builds.specs.BuildLaws.{commit_opened}
-use Rattle.cat_builds.specs.Builds.{HasHead, IsBuilt, IsMadeAt, branch_of, command_of}
+use Rattle.cat_builds.specs.Builds.{HasHead, IsBuilt, IsMadeAt, command_of}
 use Rattle.cat_builds.specs.declared.building.Built.{Built}
 use Rattle.cat_builds.specs.declared.building.Work.{Work}
 use Rattle.cat_builds.specs.declared.building.Work.TheVariants as works
 use Rattle.cat_builds.specs.declared.call.Call.{Call}
 use Rattle.cat_builds.specs.declared.call.Call.TheVariants as calls
-use Rattle.cat_checks.specs.Histories.{IsLegalFrom, begun, book_after, book_at}
+use Rattle.cat_checks.specs.Histories.{IsLegalFrom, begun, book_at}
 use Rattle.cat_checks.specs.HistoryLaws.{book_more, books_later, legal_front, place_is}
 use Rattle.cat_desk.specs.Log.{Follows, Others}
 use Rattle.cat_desk.specs.Pass.{DeskId}
@@ -21,7 +21,7 @@ use Rattle.cat_model.specs.declared.log_entry.LogEntry.{LogEntry}
 use Rattle.cat_model.specs.declared.reference.Reference.{Reference}
 use Rattle.cat_model.specs.Book.{Book}
 use Rattle.cat_model.specs.Later.{IsLater}
-use Rattle.cat_model.specs.State.{State, reference_of}
+use Rattle.cat_model.specs.State.{State}
 use Rattle.cat_plans.specs.OpenedLaws.{merge_opened, transplant_opened}
 use Rattle.cat_work.specs.Answers.{AreHeadsAt, Climbs, IsHeadAt, Rises, first_place}
 use Rattle.cat_work.specs.Passes.{state_of}

@@ -1,13 +1,12 @@
 -- Calls for which no draft was opened.
-use Rattle.std.proofs.Common.{◌≡◌, ◌<◌, ◌≤◌, ◌⊎◌, inl, inr, ℕ, ◌+◌, List, [], ◌∷◌, ◌++◌, Option, Some, None, Result, Ok, Err, Bool, true, false, refl, sym, ap, subst, ◌∙◌, arith, le_refl, length}
+use Rattle.std.proofs.Common.{◌≡◌, ◌<◌, ◌≤◌, ◌⊎◌, inl, inr, ℕ, ◌+◌, ◌++◌, Option, Some, None, Result, Ok, Err, Bool, true, refl, sym, ap, subst, ◌∙◌, arith, le_refl, length}
 use Rattle.sha2.specs.Sha256.{sha256}
 use Rattle.cat_core.specs.Drafts.{NotOpened, may_open}
-use Rattle.cat_core.specs.Stored.{IsUp, Stored, log_of}
+use Rattle.cat_core.specs.Stored.{IsUp, Stored}
 use Rattle.cat_desk.specs.Log.{Follows}
 use Rattle.cat_desk.specs.Pass.{DeskId, known, left_by, mark_of, number_of, seen}
 use Rattle.cat_desk.specs.declared.pass.Pass.{Pass}
 use Rattle.cat_model.specs.declared.command.Command.{Command}
-use Rattle.cat_model.specs.declared.limits.Quantity.TheVariants.{Drafts}
 use Rattle.cat_model.specs.declared.refusal.Refusal.{Refusal}
 use Rattle.cat_model.specs.declared.refusal.Refusal.TheVariants as refusals
 use Rattle.cat_model.specs.declared.refusal.Refused.{Refused}
@@ -21,7 +20,7 @@ use Rattle.cat_model.specs.State.{State}
 use Rattle.cat_model.specs.Step.{opening, opens_draft}
 use Rattle.cat_model.specs.TurnLaws.{grows_self, nothing_stays}
 use Rattle.cat_core.specs.Stored as stored
-use Rattle.cat_work.specs.Answers.{Answers, AnswersAlone, Causes, IsAt, IsDraftAbove, IsRuledOut, KnowsAt, Knows, RefusesAlone}
+use Rattle.cat_work.specs.Answers.{Causes, IsAt, IsDraftAbove, IsRuledOut, KnowsAt, Knows, RefusesAlone}
 use Rattle.cat_work.specs.Passes.{IsAlone, book_of, state_of}
 use Rattle.cat_work.specs.Turns.{BeginsNone, Comes, Turned, out_of_memory}
 use Rattle.cat_work.proofs.Openings as openings

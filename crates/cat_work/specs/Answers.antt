@@ -1,5 +1,5 @@
 -- What a call on a pass answers.
-use Rattle.std.specs.Prelude.{◌≡◌, ◌≢◌, ◌⊎◌, ◌<◌, ◌≤◌, ℕ, ◌+◌, List, [], ◌∷◌, ◌++◌, length, take, Option, Some, None, Result, Ok, Err, Bool, true, false, nat_lt}
+use Rattle.std.specs.Prelude.{◌≡◌, ◌≢◌, ◌⊎◌, ◌<◌, ◌≤◌, ℕ, ◌+◌, List, [], ◌∷◌, ◌++◌, length, take, Option, Some, None, Result, Ok, Err, Bool, true, false}
 use Rattle.sha2.specs.Sha256.{sha256}
 use Rattle.cat_names.specs.declared.hash.Hash.{Hash}
 use Rattle.cat_builds.specs.Builds.{HasHead}
@@ -19,7 +19,6 @@ use Rattle.cat_model.specs.declared.reply.Reply.{Reply}
 use Rattle.cat_model.specs.declared.reply.Told.{Told}
 use Rattle.cat_model.specs.Book.{Book, IsCalled, IsGivenUp}
 use Rattle.cat_model.specs.Calls.{Called, entry_made}
-use Rattle.cat_model.specs.Drafts.{Opening}
 use Rattle.cat_model.specs.Mark.{FailedAppend, Mark}
 use Rattle.cat_model.specs.Refusing.{Outcome}
 use Rattle.cat_model.specs.State.{State}

@@ -1,5 +1,5 @@
 -- Passes over a store: the book that a pass stands at, and when calls may be made on it.
-use Rattle.std.specs.Prelude.{◌≡◌, ℕ, ◌+◌, List, reverse}
+use Rattle.std.specs.Prelude.{◌≡◌, ◌+◌, List, reverse}
 use Rattle.cat_checks.specs.Histories.{IsLegalFrom, book_at}
 use Rattle.cat_desk.specs.Pass.{DeskId, IsFree, left_by, mark_of, seen, spare_of, stands_for}
 use Rattle.cat_desk.specs.declared.pass.Pass.{Pass}

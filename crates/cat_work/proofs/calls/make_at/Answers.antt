@@ -1,6 +1,6 @@
-use Rattle.std.proofs.Common.{rules, ◌≡◌, ◌≤◌, ℕ, refl, sym, ap, subst, ◌∙◌, length}
+use Rattle.std.proofs.Common.{rules, ◌≡◌, ℕ, refl, subst, ◌∙◌, length}
 use Rattle.cat_desk.specs.Pass.{known, seen}
-use Rattle.cat_work.specs.Turns.{EndsLast, Going}
+use Rattle.cat_work.specs.Turns.{Going}
 use Rattle.cat_work.proofs.Endings.{begins, comes_early, comes_late, goes_on}
 use Rattle.cat_work.proofs.Unopened.{begins_none, knows_all, known_on}
 use Rattle.cat_work.proofs.calls.make_at.Goals as goal

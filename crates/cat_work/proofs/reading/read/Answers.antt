@@ -1,6 +1,5 @@
-use Rattle.std.proofs.Common.{◌≡◌, refl, sym, ap, subst, ◌∙◌}
+use Rattle.std.proofs.Common.{refl, sym, ap, subst, ◌∙◌}
 use Rattle.sha2.specs.Sha256.{sha256}
-use Rattle.cat_desk.specs.Pass.{mark_of}
 use Rattle.cat_model.specs.Book.{Book, Reads}
 use Rattle.cat_model.specs.Mark.{Mark}
 use Rattle.cat_model.specs.TurnLaws.{grows_self}

@@ -1,4 +1,4 @@
-use Rattle.std.proofs.Common.{◌≡◌, ◌∙◌}
+use Rattle.std.proofs.Common.{◌∙◌}
 use Rattle.cat_work.specs.Turns.{Turned}
 use Rattle.cat_work.proofs.Turning.{opened_in, refused_in, turned}
 use Rattle.cat_work.proofs.turns.open.Goals as goal
