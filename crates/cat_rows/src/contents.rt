@@ -5,8 +5,8 @@ use crate::content_texts::{
     COMMITTED_NAMESPACE, COMMITTED_TABLE, COMMITTED_VIEW, GET_DELTA, GET_NAMESPACE, GET_TABLE,
     GET_VIEW, READ_DELTA, READ_NAMESPACE, READ_TABLE, READ_VIEW,
 };
+use crate::playing::ends;
 use cat_cli::Status;
-use cat_runs::runs::{script, wrote};
 use std::test::Fail;
 
 #[test]
@@ -31,8 +31,6 @@ fn a_content_of_each_type_is_committed_and_read_back(rt: HostRuntime) -> Result<
         READ_DELTA,
         READ_NAMESPACE,
     ];
-    let ran = script(&rt, rt.alloc(), &requests, 4096)?;
-    assert_eq!(rt; ran.status, Status::Done);
-    assert!(rt; wrote(&ran, &replies));
+    assert!(rt; ends(&rt, rt.alloc(), &requests, 4096, Status::Done, &replies)?);
     Ok(())
 }

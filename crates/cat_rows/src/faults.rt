@@ -1,8 +1,9 @@
 //! Calls of source and sink that fail.
 
+use crate::playing::stops;
 use crate::texts::{COMMIT_T1, GET_CONFIG, GET_T1};
 use cat_cli::Status;
-use cat_runs::runs::{Input, run_words};
+use cat_runs::runs::Input;
 use std::test::Fail;
 
 #[test]
@@ -14,8 +15,10 @@ fn each_failing_read_is_a_read_fault(rt: HostRuntime) -> Result<(), Fail> {
             failing_reads: &[call],
             failing_writes: &[],
         };
-        let ran = run_words(&rt, rt.alloc(), &["nessie", "script", "a.journal"], &input)?;
-        assert_eq!(rt; ran.status, Status::ReadFault, "call {call}");
+        assert!(rt;
+            stops(&rt, rt.alloc(), &input, Status::ReadFault)?,
+            "call {call}"
+        );
     }
     Ok(())
 }
@@ -29,8 +32,10 @@ fn each_failing_write_is_a_write_fault(rt: HostRuntime) -> Result<(), Fail> {
             failing_reads: &[],
             failing_writes: &[call],
         };
-        let ran = run_words(&rt, rt.alloc(), &["nessie", "script", "a.journal"], &input)?;
-        assert_eq!(rt; ran.status, Status::WriteFault, "call {call}");
+        assert!(rt;
+            stops(&rt, rt.alloc(), &input, Status::WriteFault)?,
+            "call {call}"
+        );
     }
     Ok(())
 }

@@ -1,8 +1,8 @@
 //! Requests by HEAD.
 
+use crate::playing::ends;
 use crate::texts::{BAD_HEAD, CONFIG, GET_CONFIG};
 use cat_cli::Status;
-use cat_runs::runs::{script, wrote};
 use std::test::Fail;
 
 // `GET` is the method of the route, and no reply to HEAD has a body or its length
@@ -47,9 +47,17 @@ fn a_reply_to_head_has_neither_a_body_nor_its_length(rt: HostRuntime) -> Result<
         ("HEAD /api/v2/config/ HTTP/1.1\r\n\r\n", UNKNOWN),
     ];
     for (request, reply) in table {
-        let ran = script(&rt, rt.alloc(), &[request, GET_CONFIG], 1)?;
-        assert_eq!(rt; ran.status, Status::Done, "{request}");
-        assert!(rt; wrote(&ran, &[reply, CONFIG]), "{request}");
+        assert!(rt;
+            ends(
+                &rt,
+                rt.alloc(),
+                &[request, GET_CONFIG],
+                1,
+                Status::Done,
+                &[reply, CONFIG]
+            )?,
+            "{request}"
+        );
     }
     Ok(())
 }
@@ -57,9 +65,16 @@ fn a_reply_to_head_has_neither_a_body_nor_its_length(rt: HostRuntime) -> Result<
 #[test]
 fn a_last_request_by_head_has_its_reply(rt: HostRuntime) -> Result<(), Fail> {
     let last = "HEAD / HTTP/1.1\r\nConnection: close\r\n\r\n";
-    let ran = script(&rt, rt.alloc(), &[last, GET_CONFIG], 1)?;
-    assert_eq!(rt; ran.status, Status::Done);
-    assert!(rt; wrote(&ran, &[LAST_UNKNOWN]));
+    assert!(rt;
+        ends(
+            &rt,
+            rt.alloc(),
+            &[last, GET_CONFIG],
+            1,
+            Status::Done,
+            &[LAST_UNKNOWN]
+        )?
+    );
     Ok(())
 }
 
@@ -71,9 +86,7 @@ fn methods_have_capitals(rt: HostRuntime) -> Result<(), Fail> {
         "head /api/v2/config HTTP/1.1\r\n\r\n",
         "get /api/v2/config HTTP/1.1\r\n\r\n",
     ] {
-        let ran = script(&rt, rt.alloc(), &[request], 1)?;
-        assert_eq!(rt; ran.status, Status::Done);
-        assert!(rt; wrote(&ran, &[not_get]));
+        assert!(rt; ends(&rt, rt.alloc(), &[request], 1, Status::Done, &[not_get])?);
     }
     Ok(())
 }
@@ -87,9 +100,10 @@ fn bytes_that_are_no_request_are_told_so_whatever_their_method(
         "HEAD /api/v2/config HTTP/1.1\r\nContent-Length: 2\r\n\r\n{",
         "HEAD /api/v2/config",
     ] {
-        let ran = script(&rt, rt.alloc(), &[request], 1)?;
-        assert_eq!(rt; ran.status, Status::Cut, "{request}");
-        assert!(rt; wrote(&ran, &[BAD_HEAD]), "{request}");
+        assert!(rt;
+            ends(&rt, rt.alloc(), &[request], 1, Status::Cut, &[BAD_HEAD])?,
+            "{request}"
+        );
     }
     Ok(())
 }

@@ -13,6 +13,8 @@ mod first_path;
 #[cfg(test)]
 mod heads;
 #[cfg(test)]
+mod playing;
+#[cfg(test)]
 mod refusals;
 #[cfg(test)]
 mod targets;

@@ -1,12 +1,13 @@
 //! Requests that are refused.
 
+use crate::playing::ends;
 use crate::texts::{
     ABSENT, BAD_HEAD, BAD_PATH, ENCODING, GET_CONFIG, NO_REFERENCE, NO_ROUTE, TOO_LARGE, TREE,
     WRONG_METHOD,
 };
 use cat_cli::Status;
 use cat_runs::commits::BAD_BODY;
-use cat_runs::runs::{script, wrote};
+use cat_runs::runs::script;
 use std::test::Fail;
 
 #[test]
@@ -41,9 +42,17 @@ fn each_refusal_has_its_reply_and_the_session_goes_on(rt: HostRuntime) -> Result
         ),
     ];
     for (request, reply) in table {
-        let ran = script(&rt, rt.alloc(), &[request, request], 1)?;
-        assert_eq!(rt; ran.status, Status::Done, "{request}");
-        assert!(rt; wrote(&ran, &[reply, reply]), "{request}");
+        assert!(rt;
+            ends(
+                &rt,
+                rt.alloc(),
+                &[request, request],
+                1,
+                Status::Done,
+                &[reply, reply]
+            )?,
+            "{request}"
+        );
     }
     Ok(())
 }
@@ -71,9 +80,10 @@ fn what_is_no_request_ends_the_session(rt: HostRuntime) -> Result<(), Fail> {
         ),
     ];
     for (request, reply) in table {
-        let ran = script(&rt, rt.alloc(), &[request], 1)?;
-        assert_eq!(rt; ran.status, Status::Cut, "{request}");
-        assert!(rt; wrote(&ran, &[reply]), "{request}");
+        assert!(rt;
+            ends(&rt, rt.alloc(), &[request], 1, Status::Cut, &[reply])?,
+            "{request}"
+        );
     }
     Ok(())
 }

@@ -1,8 +1,8 @@
 //! Paths and queries of targets.
 
+use crate::playing::ends;
 use crate::texts::{ABSENT, BAD_PATH, COMMITTED, CONFIG, NO_REFERENCE, NO_ROUTE, TREE};
 use cat_cli::Status;
-use cat_runs::runs::{script, wrote};
 use std::test::Fail;
 
 #[test]
@@ -22,9 +22,10 @@ fn a_query_has_no_effect(rt: HostRuntime) -> Result<(), Fail> {
         ("GET /api/v2/config%3Fa=1 HTTP/1.1\r\n\r\n", NO_ROUTE),
     ];
     for (request, reply) in table {
-        let ran = script(&rt, rt.alloc(), &[request], 64)?;
-        assert_eq!(rt; ran.status, Status::Done, "{request}");
-        assert!(rt; wrote(&ran, &[reply]), "{request}");
+        assert!(rt;
+            ends(&rt, rt.alloc(), &[request], 64, Status::Done, &[reply])?,
+            "{request}"
+        );
     }
     Ok(())
 }
@@ -49,9 +50,17 @@ fn the_segments_of_a_route_stand_as_they_are(rt: HostRuntime) -> Result<(), Fail
         "http://c/api/v2/config",
     ] {
         let request = format!(in rt.alloc(); "GET {path} HTTP/1.1\r\n\r\n")?;
-        let ran = script(&rt, rt.alloc(), &[request.as_str()], 64)?;
-        assert_eq!(rt; ran.status, Status::Done, "{path}");
-        assert!(rt; wrote(&ran, &[NO_ROUTE]), "{path}");
+        assert!(rt;
+            ends(
+                &rt,
+                rt.alloc(),
+                &[request.as_str()],
+                64,
+                Status::Done,
+                &[NO_ROUTE]
+            )?,
+            "{path}"
+        );
     }
     Ok(())
 }
@@ -85,9 +94,17 @@ fn escapes_stand_for_bytes_and_others_for_themselves(rt: HostRuntime) -> Result<
     ];
     for (path, reply) in table {
         let request = format!(in rt.alloc(); "GET {path} HTTP/1.1\r\n\r\n")?;
-        let ran = script(&rt, rt.alloc(), &[request.as_str()], 64)?;
-        assert_eq!(rt; ran.status, Status::Done, "{path}");
-        assert!(rt; wrote(&ran, &[reply]), "{path}");
+        assert!(rt;
+            ends(
+                &rt,
+                rt.alloc(),
+                &[request.as_str()],
+                64,
+                Status::Done,
+                &[reply]
+            )?,
+            "{path}"
+        );
     }
     Ok(())
 }

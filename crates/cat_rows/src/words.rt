@@ -2,7 +2,10 @@
 
 use cat_cli::Status;
 use cat_runs::runs::{Input, empty_disk, run_on, run_words};
+use std::alloc::{AllocError, Global};
+use std::sync::Wait;
 use std::test::Fail;
+use std::thread::Threads;
 
 const NOTHING: Input<'static> = Input {
     pieces: &[],
@@ -10,6 +13,43 @@ const NOTHING: Input<'static> = Input {
     failing_reads: &[],
     failing_writes: &[],
 };
+
+/// Whether these words are told the usage.
+fn is_usage<R: Threads + Wait + Sync>(
+    rt: &R,
+    alloc: Global,
+    words: &[&str],
+) -> Result<bool, AllocError> {
+    let ran = run_words(rt, alloc, words, &NOTHING)?;
+    Ok(
+        ran.status == Status::Usage
+            && ran.status.code() == 1
+            && ran.sink.bytes() == b"nessie: usage\n".as_slice(),
+    )
+}
+
+/// Whether a run with these words is done and writes just this line.
+fn is_told<R: Threads + Wait + Sync>(
+    rt: &R,
+    alloc: Global,
+    words: &[&str],
+    line: &str,
+) -> Result<bool, AllocError> {
+    let ran = run_words(rt, alloc, words, &NOTHING)?;
+    Ok(ran.status == Status::Done && ran.sink.bytes() == line.as_bytes())
+}
+
+/// Whether a run with these words on an empty disk of this name is done and writes nothing.
+fn is_silent<R: Threads + Wait + Sync>(
+    rt: &R,
+    alloc: Global,
+    name: &str,
+    words: &[&str],
+) -> Result<bool, AllocError> {
+    let mut disks = empty_disk(alloc, name)?;
+    let ran = run_on(rt, alloc, words, &NOTHING, &mut disks)?;
+    Ok(ran.status == Status::Done && ran.sink.bytes().is_empty())
+}
 
 #[test]
 fn other_words_are_told_the_usage(rt: HostRuntime) -> Result<(), Fail> {
@@ -87,10 +127,7 @@ fn other_words_are_told_the_usage(rt: HostRuntime) -> Result<(), Fail> {
         ],
     ];
     for words in table {
-        let ran = run_words(&rt, rt.alloc(), words, &NOTHING)?;
-        assert_eq!(rt; ran.status, Status::Usage, "{words:?}");
-        assert_eq!(rt; ran.status.code(), 1);
-        assert!(rt; ran.sink.bytes() == b"nessie: usage\n".as_slice());
+        assert!(rt; is_usage(&rt, rt.alloc(), words)?, "{words:?}");
     }
     Ok(())
 }
@@ -114,9 +151,7 @@ fn options_stand_in_any_order_and_form(rt: HostRuntime) -> Result<(), Fail> {
     let line =
         "commits 10 keys 10 contents 10 place 10 head e2657d4ca29ef18bdd065b7deed3ff85b8da59e600e0a3bb21e053a32361ad58\n";
     for words in table {
-        let ran = run_words(&rt, rt.alloc(), words, &NOTHING)?;
-        assert_eq!(rt; ran.status, Status::Done, "{words:?}");
-        assert!(rt; ran.sink.bytes() == line.as_bytes());
+        assert!(rt; is_told(&rt, rt.alloc(), words, line)?, "{words:?}");
     }
     Ok(())
 }
@@ -130,10 +165,7 @@ fn a_journal_may_have_any_name(rt: HostRuntime) -> Result<(), Fail> {
         ("-a", &["nessie", "script", "--", "-a"]),
     ];
     for (name, words) in table {
-        let mut disks = empty_disk(rt.alloc(), name)?;
-        let ran = run_on(&rt, rt.alloc(), words, &NOTHING, &mut disks)?;
-        assert_eq!(rt; ran.status, Status::Done, "{words:?}");
-        assert!(rt; ran.sink.bytes().is_empty());
+        assert!(rt; is_silent(&rt, rt.alloc(), name, words)?, "{words:?}");
     }
     Ok(())
 }

@@ -7,12 +7,13 @@ use cat_desk::{Desk, Pass};
 use cat_keeper::MemKeeper;
 use cat_model::limits::Limits;
 use cat_model::refusal::{Reason, Refusal, Refused};
-use cat_model::reply::{Merged, Reply, Told};
+use cat_model::reply::{Reply, Told};
 use cat_names::hash::Hash;
 use cat_runs::commits::{commit, new_table};
 use cat_runs::stores::tell;
 use cat_work::hold;
 use std::alloc::{AllocError, Global};
+use std::process::Abort;
 use std::sync::Wait;
 use std::test::Fail;
 
@@ -22,6 +23,24 @@ const CREATE_DEV: &str =
 
 /// The head of `main` after the commit of `other` and a hundred commits that were applied.
 const HEAD: &str = "0409f51da022ed9032c090eda9bc3321d6117f501ae14d8663e115a6257aef38";
+
+/// The request to commit a table whose location is its key.
+fn commit_request(alloc: Global, branch: &str, key: &str) -> Result<String, AllocError> {
+    let quoted = format!(in alloc; "\"{key}\"")?;
+    let operation = new_table(alloc, quoted.as_str(), key)?;
+    commit(alloc, branch, operation.as_str())
+}
+
+/// The head that a commit left.
+fn head_of(told: &Result<Told, Refused>) -> Option<Hash> {
+    match told {
+        Ok(told) => match &told.reply {
+            Reply::Committed(committed) => Some(committed.target.head),
+            _ => None,
+        },
+        Err(_) => None,
+    }
+}
 
 /// Commits a table whose location is its key, and gives the branch's new head.
 fn commit_key<R: Wait>(
@@ -35,17 +54,33 @@ fn commit_key<R: Wait>(
     requires { IsReady desk.now pass.old }
     ensures { IsReady desk.now pass.new }
 {
-    let quoted = format!(in alloc; "\"{key}\"")?;
-    let operation = new_table(alloc, quoted.as_str(), key)?;
-    let request = commit(alloc, branch, operation.as_str())?;
-    match tell(rt, alloc, desk, pass, request.as_str())? {
-        Ok(
-            Told {
-                reply: Reply::Committed(committed),
-                ..
-            },
-        ) => Ok(committed.target.head),
-        _ => Err(Fail::from("no commit")),
+    let request = commit_request(alloc, branch, key)?;
+    let told = tell(rt, alloc, desk, pass, request.as_str())?;
+    let head = head_of(&told);
+    drop(told);
+    match head {
+        Some(head) => Ok(head),
+        None => Err(Fail::from("no commit")),
+    }
+}
+
+/// Makes the branch `dev`.
+fn create_dev<R: Wait>(
+    rt: &R,
+    alloc: Global,
+    desk: &Desk<Store<MemKeeper>>,
+    pass: &mut Pass,
+) -> Result<(), Fail>
+    requires { IsReady desk.now pass.old }
+    ensures { IsReady desk.now pass.new }
+{
+    let told = tell(rt, alloc, desk, pass, CREATE_DEV)?;
+    let is_made = told.is_ok();
+    drop(told);
+    if is_made {
+        Ok(())
+    } else {
+        Err(Fail::from("no branch"))
     }
 }
 
@@ -60,9 +95,7 @@ fn prepare<R: Wait>(
     requires { IsReady desk.now pass.old }
     ensures { IsReady desk.now pass.new }
 {
-    if tell(rt, alloc, desk, pass, CREATE_DEV)?.is_err() {
-        return Err(Fail::from("no branch"));
-    }
+    create_dev(rt, alloc, desk, pass)?;
     let _ = commit_key(rt, alloc, desk, pass, "main", "other")?;
     let mut hashes = Vec::new(alloc);
     'commits: for n in 0..101 {
@@ -88,57 +121,105 @@ fn transplant(alloc: Global, hashes: &[Hash], count: usize) -> Result<String, Al
     )
 }
 
-/// What a transplant did, where it wasn't refused.
-fn merged(told: Result<Told, Refused>) -> Result<Merged, Fail> {
+/// Whether a call was refused as a body without a reading.
+fn is_bad_body(told: &Result<Told, Refused>) -> bool {
     match told {
-        Ok(
-            Told {
-                reply: Reply::Merged(merged),
-                ..
-            },
-        ) => Ok(merged),
-        _ => Err(Fail::from("no transplant")),
+        Ok(_) => false,
+        Err(refused) => match &refused.why {
+            Refusal::BadRequest(Reason::BadBody) => refused.place.is_none(),
+            _ => false,
+        },
     }
 }
 
-/// What is told of a transplant of a hundred and one commits, and then of a hundred.
+/// Whether a hundred commits were applied.
+fn is_applied(told: &Result<Told, Refused>) -> bool {
+    match told {
+        Ok(told) => match &told.reply {
+            Reply::Merged(merged) => {
+                merged.was_applied
+                    && merged.details.len() == 100
+                    && Some(merged.target.head) == Hash::parse(HEAD)
+            }
+            _ => false,
+        },
+        Err(_) => false,
+    }
+}
+
+/// Whether a transplant of a hundred and one commits is refused.
+fn more_is_refused<R: Wait>(
+    rt: &R,
+    alloc: Global,
+    desk: &Desk<Store<MemKeeper>>,
+    pass: &mut Pass,
+    hashes: &[Hash],
+) -> Result<bool, Fail>
+    requires { IsReady desk.now pass.old }
+    ensures { IsReady desk.now pass.new }
+{
+    let request = transplant(alloc, hashes, 101)?;
+    let told = tell(rt, alloc, desk, pass, request.as_str())?;
+    let is_refused = is_bad_body(&told);
+    drop(told);
+    Ok(is_refused)
+}
+
+/// Whether a transplant of a hundred commits is made.
+fn most_is_applied<R: Wait>(
+    rt: &R,
+    alloc: Global,
+    desk: &Desk<Store<MemKeeper>>,
+    pass: &mut Pass,
+    hashes: &[Hash],
+) -> Result<bool, Fail>
+    requires { IsReady desk.now pass.old }
+    ensures { IsReady desk.now pass.new }
+{
+    let request = transplant(alloc, hashes, 100)?;
+    let told = tell(rt, alloc, desk, pass, request.as_str())?;
+    let was_applied = is_applied(&told);
+    drop(told);
+    Ok(was_applied)
+}
+
+/// Whether a transplant of a hundred and one commits is refused, and then one of a hundred made.
 fn transplants<R: Wait>(
     rt: &R,
     alloc: Global,
     desk: &Desk<Store<MemKeeper>>,
     pass: &mut Pass,
-) -> Result<(Result<Told, Refused>, Result<Told, Refused>), Fail>
+) -> Result<(bool, bool), Fail>
     requires { IsReady desk.now pass.old }
 {
     let hashes = prepare(rt, alloc, desk, pass)?;
-    let more = transplant(alloc, &hashes, 101)?;
-    let most = transplant(alloc, &hashes, 100)?;
-    let first = tell(rt, alloc, desk, pass, more.as_str())?;
-    let second = tell(rt, alloc, desk, pass, most.as_str())?;
-    Ok((first, second))
+    let is_refused = more_is_refused(rt, alloc, desk, pass, &hashes)?;
+    let was_applied = most_is_applied(rt, alloc, desk, pass, &hashes)?;
+    Ok((is_refused, was_applied))
+}
+
+/// A desk over an empty catalogue whose log is in memory, and its pass.
+fn desk_of<R: Abort>(rt: &R, alloc: Global) -> (Desk<Store<MemKeeper>>, Pass)
+    ensures { IsReady result.0 result.1 }
+{
+    let keeper = MemKeeper::new(alloc, Vec::new(alloc));
+    let Ok(store) = Store::new(alloc, keeper, Limits::program()) else {
+        panic!(rt; "there is memory");
+    };
+    match hold(alloc, store) {
+        Ok((desk, pass)) => (desk, pass),
+        Err(_) => panic!(rt; "there is memory"),
+    }
 }
 
 #[test]
 fn a_transplant_takes_a_hundred_commits_and_no_more(rt: HostRuntime) -> Result<(), Fail> {
     let alloc = rt.alloc();
-    let keeper = MemKeeper::new(alloc, Vec::new(alloc));
-    let Ok(store) = Store::new(alloc, keeper, Limits::program()) else {
-        return Err(Fail::from("memory"));
-    };
-    let Ok((desk, mut pass)) = hold(alloc, store) else {
-        return Err(Fail::from("memory"));
-    };
+    let (desk, mut pass) = desk_of(&rt, alloc);
     let told = transplants(&rt, alloc, &desk, &mut pass);
     desk.give_up(pass);
-    let (more, most) = told?;
-    let too_long = Refused {
-        place: None,
-        why: Refusal::BadRequest(Reason::BadBody),
-    };
-    assert!(rt; more == Err(too_long));
-    let merged = merged(most)?;
-    assert!(rt; merged.was_applied);
-    assert_eq!(rt; merged.details.len(), 100);
-    assert!(rt; Some(merged.target.head) == Hash::parse(HEAD));
+    let (is_refused, was_applied) = told?;
+    assert!(rt; is_refused);
+    assert!(rt; was_applied);
     Ok(())
 }

@@ -1,8 +1,8 @@
 //! What `check` tells of the bytes of a journal.
 
-use crate::journals::{NEW, ONE, bytes, disk, disks, run_on};
+use crate::journals::{NEW, ONE, bytes, checks, journal};
 use cat_cli::Status;
-use std::alloc::Global;
+use std::alloc::{AllocError, Global};
 use std::sync::Wait;
 use std::test::Fail;
 use std::thread::Threads;
@@ -17,22 +17,19 @@ const OF_ONE: &[u8] =
 fn tells<R: Threads + Wait + Sync>(
     rt: &R,
     alloc: Global,
-    journal: &[u8],
+    bytes: &[u8],
     status: Status,
     line: &[u8],
-) -> Result<bool, Fail> {
-    let mut disks = disks(alloc, disk(alloc, journal, &[])?)?;
-    let ran = run_on(rt, alloc, "check", &mut disks, &[], 1, &[])?;
-    Ok(ran.status == status && ran.sink.bytes() == line)
+) -> Result<bool, AllocError> {
+    let mut disks = journal(alloc, bytes, &[])?;
+    checks(rt, alloc, &mut disks, &[], status, line)
 }
 
 #[test]
 fn an_empty_file_becomes_a_journal(rt: HostRuntime) -> Result<(), Fail> {
     let alloc = rt.alloc();
-    let mut disks = disks(alloc, disk(alloc, &[], &[])?)?;
-    let ran = run_on(&rt, alloc, "check", &mut disks, &[], 1, &[])?;
-    assert_eq!(rt; ran.status, Status::Done);
-    assert!(rt; ran.sink.bytes() == EMPTY);
+    let mut disks = journal(alloc, &[], &[])?;
+    assert!(rt; checks(&rt, alloc, &mut disks, &[], Status::Done, EMPTY)?);
     assert!(rt; bytes(&disks) == NEW.as_slice());
     assert!(rt; tells(&rt, alloc, &NEW, Status::Done, EMPTY)?);
     Ok(())

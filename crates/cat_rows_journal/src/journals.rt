@@ -41,6 +41,12 @@ pub fn disks(alloc: Global, disk: MemoryDisk) -> Result<MemoryDisks, AllocError>
     MemoryDisks::new(alloc).with(alloc, PATH, disk)
 }
 
+/// Disks with a journal of these bytes, of which the calls with these numbers fail.
+pub fn journal(alloc: Global, bytes: &[u8], failing: &[u64]) -> Result<MemoryDisks, AllocError> {
+    let disk = disk(alloc, bytes, failing)?;
+    disks(alloc, disk)
+}
+
 /// The bytes of the journal.
 pub fn bytes(disks: &MemoryDisks) -> &[u8] {
     match disks.at(PATH) {
@@ -81,4 +87,42 @@ pub fn run_on<R: Threads + Wait + Sync, O: Disks>(
         &mut NoListener::new(),
     );
     Ok(Ran { status, sink })
+}
+
+/// Whether `check`, where the writes with these numbers fail, ends so and writes just this line.
+pub fn checks<R: Threads + Wait + Sync, O: Disks>(
+    rt: &R,
+    alloc: Global,
+    disks: &mut O,
+    failing_writes: &[u64],
+    status: Status,
+    line: &[u8],
+) -> Result<bool, AllocError> {
+    let ran = run_on(rt, alloc, "check", disks, &[], 1, failing_writes)?;
+    Ok(ran.status == status && ran.sink.bytes() == line)
+}
+
+/// Whether `script` on these requests ends so and writes just these replies.
+pub fn plays<R: Threads + Wait + Sync, O: Disks>(
+    rt: &R,
+    alloc: Global,
+    disks: &mut O,
+    requests: &[&str],
+    status: Status,
+    replies: &[u8],
+) -> Result<bool, AllocError> {
+    let ran = run_on(rt, alloc, "script", disks, requests, 1, &[])?;
+    Ok(ran.status == status && ran.sink.bytes() == replies)
+}
+
+/// Whether `script` on these requests is done, and its replies end so.
+pub fn ends_with<R: Threads + Wait + Sync, O: Disks>(
+    rt: &R,
+    alloc: Global,
+    disks: &mut O,
+    requests: &[&str],
+    ending: &[u8],
+) -> Result<bool, AllocError> {
+    let ran = run_on(rt, alloc, "script", disks, requests, 1, &[])?;
+    Ok(ran.status == Status::Done && ran.sink.bytes().ends_with(ending))
 }

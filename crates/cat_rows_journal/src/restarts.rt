@@ -1,8 +1,13 @@
 //! Sessions that are stopped and begun again.
 
-use crate::journals::{COMMIT_T1, ONE, bytes, disk, disks, run_on};
+ghost use Rattle.std.specs.Prelude.{◌<◌};
+
+use crate::journals::{COMMIT_T1, ONE, bytes, checks, ends_with, journal, run_on};
 use cat_cli::Status;
+use std::alloc::{AllocError, Global};
+use std::sync::Wait;
 use std::test::Fail;
+use std::thread::Threads;
 
 // Each kind of change, accepted, and then what is read. The first ten take a moment each.
 const REQUESTS: [&str; 13] = [
@@ -28,34 +33,59 @@ const TOLD: &[u8] =
 #[test]
 fn a_commit_leaves_a_journal_of_194_bytes(rt: HostRuntime) -> Result<(), Fail> {
     let alloc = rt.alloc();
-    let mut disks = disks(alloc, disk(alloc, &[], &[])?)?;
-    let ran = run_on(&rt, alloc, "script", &mut disks, &[COMMIT_T1], 1, &[])?;
-    assert_eq!(rt; ran.status, Status::Done);
+    let mut disks = journal(alloc, &[], &[])?;
+    assert!(rt; ends_with(&rt, alloc, &mut disks, &[COMMIT_T1], b"")?);
     assert!(rt; bytes(&disks) == ONE.as_slice());
     Ok(())
+}
+
+/// Whether two texts together are a third.
+fn is_joined(whole: &[u8], first: &[u8], second: &[u8]) -> bool {
+    match whole.strip_prefix(first) {
+        Some(rest) => rest == second,
+        None => false,
+    }
+}
+
+/// Whether a session, and another after it that begins at this second, are done, and together write
+/// these replies and leave this journal.
+fn goes_on<R: Threads + Wait + Sync>(
+    rt: &R,
+    alloc: Global,
+    before: &[&str],
+    after: &[&str],
+    second: u64,
+    wanted: (&[u8], &[u8]),
+) -> Result<bool, AllocError>
+    requires { second < 1000 }
+{
+    let mut disks = journal(alloc, &[], &[])?;
+    let stopped = run_on(rt, alloc, "script", &mut disks, before, 1, &[])?;
+    let begun = run_on(rt, alloc, "script", &mut disks, after, second, &[])?;
+    Ok(
+        stopped.status == Status::Done
+            && begun.status == Status::Done
+            && is_joined(wanted.0, stopped.sink.bytes(), begun.sink.bytes())
+            && bytes(&disks) == wanted.1,
+    )
 }
 
 #[test]
 fn a_session_goes_on_where_another_has_stopped(rt: HostRuntime) -> Result<(), Fail> {
     let alloc = rt.alloc();
-    let mut whole = disks(alloc, disk(alloc, &[], &[])?)?;
+    let mut whole = journal(alloc, &[], &[])?;
     let one = run_on(&rt, alloc, "script", &mut whole, &REQUESTS, 1, &[])?;
-    assert_eq!(rt; one.status, Status::Done);
-    let told = run_on(&rt, alloc, "check", &mut whole, &[], 1, &[])?;
-    assert!(rt; told.sink.bytes() == TOLD);
+    assert!(rt; one.status == Status::Done);
+    assert!(rt; checks(&rt, alloc, &mut whole, &[], Status::Done, TOLD)?);
     for first in 0..14 {
         let (before, after) = REQUESTS.split_at(first);
         let moments = if first < 10 { first as u64 } else { 10 };
-        let mut disks = disks(alloc, disk(alloc, &[], &[])?)?;
-        let stopped = run_on(&rt, alloc, "script", &mut disks, before, 1, &[])?;
-        let begun = run_on(&rt, alloc, "script", &mut disks, after, 1 + moments, &[])?;
-        assert_eq!(rt; stopped.status, Status::Done, "{first}");
-        assert_eq!(rt; begun.status, Status::Done, "{first}");
-        let Some(rest) = one.sink.bytes().strip_prefix(stopped.sink.bytes()) else {
-            return Err(Fail::from("other replies"));
-        };
-        assert!(rt; rest == begun.sink.bytes(), "{first}");
-        assert!(rt; bytes(&disks) == bytes(&whole), "{first}");
+        let second = 1 + moments;
+        let wanted = (one.sink.bytes(), bytes(&whole));
+        assert!(rt;
+            goes_on(&rt, alloc, before, after, second, wanted)?,
+            "{first}"
+        );
     }
     Ok(())
 }

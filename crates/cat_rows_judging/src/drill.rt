@@ -2,7 +2,27 @@
 
 use cat_cli::Status;
 use cat_runs::runs::{Input, run_words};
+use std::alloc::{AllocError, Global};
+use std::sync::Wait;
 use std::test::Fail;
+use std::thread::Threads;
+
+/// Whether a run with these words is done and writes just this line.
+fn tells<R: Threads + Wait + Sync>(
+    rt: &R,
+    alloc: Global,
+    words: &[&str],
+    line: &str,
+) -> Result<bool, AllocError> {
+    let input = Input {
+        pieces: &[],
+        piece: 1,
+        failing_reads: &[],
+        failing_writes: &[],
+    };
+    let ran = run_words(rt, alloc, words, &input)?;
+    Ok(ran.status == Status::Done && ran.sink.bytes() == line.as_bytes())
+}
 
 #[test]
 fn a_drill_tells_the_numbers_of_its_last_state(rt: HostRuntime) -> Result<(), Fail> {
@@ -43,17 +63,9 @@ fn a_drill_tells_the_numbers_of_its_last_state(rt: HostRuntime) -> Result<(), Fa
             "commits 1000 keys 575 contents 915 place 1000 head 1e35a81c94a4ba1974c3c389683112acbbaf5194e4eeb0afe44610251d709627\n",
         ),
     ];
-    let input = Input {
-        pieces: &[],
-        piece: 1,
-        failing_reads: &[],
-        failing_writes: &[],
-    };
     for (seed, commits, line) in table {
         let words = ["nessie", "drill", "--seed", seed, "--commits", commits];
-        let ran = run_words(&rt, rt.alloc(), &words, &input)?;
-        assert_eq!(rt; ran.status, Status::Done);
-        assert!(rt; ran.sink.bytes() == line.as_bytes(), "{seed} {commits}");
+        assert!(rt; tells(&rt, rt.alloc(), &words, line)?, "{seed} {commits}");
     }
     Ok(())
 }
