@@ -1,4 +1,4 @@
-ghost use Rattle.std.specs.Prelude.{◌≡◌, ◌≤◌, [], IfOk};
+ghost use Rattle.std.specs.Prelude.{◌≡◌, ◌≢◌, ◌≤◌, [], IfOk};
 ghost use Rattle.std.specs.Io.KnownBytes.{IsAtEnd};
 ghost use Rattle.cat_io.specs.Causes.{Rose};
 ghost use Rattle.cat_http.specs.Reading.{IncomingOf};
@@ -94,6 +94,7 @@ pub fn read_request<S: Source>(source: &mut S, buffer: &mut Buffer) -> Incoming
     ensures ends { result ≡ Incoming.End → IsAtEnd (S.left source.new) }
     ensures fault { result ≡ Incoming.ReadFault → Rose (S.faults source.old) (S.faults source.new) }
     ensures later { S.faults source.old ≤ S.faults source.new }
+    ensures stays { result ≢ Incoming.ReadFault → S.faults source.new ≡ S.faults source.old }
 {
     let unread = buffer.end - buffer.start;
     buffer

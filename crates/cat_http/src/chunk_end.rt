@@ -32,6 +32,7 @@ pub fn read_chunk_end<S: Source>(
     ensures is { EndIs result bytes.new at end.new limit (S.left source.new) }
     ensures fault { result ≡ EndRead.Fault → Rose (S.faults source.old) (S.faults source.new) }
     ensures later { S.faults source.old ≤ S.faults source.new }
+    ensures stays { result ≢ EndRead.Fault → S.faults source.new ≡ S.faults source.old }
     ensures front { take end.old bytes.new ≡ take end.old bytes.old }
     ensures stream { KeepsStream (S.left source.old) (S.left source.new) (take end.old bytes.old) (take end.new bytes.new) }
 {

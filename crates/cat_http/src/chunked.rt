@@ -1,4 +1,4 @@
-ghost use Rattle.std.specs.Prelude.{◌≡◌, ◌+◌, ◌<◌, ◌≤◌, length, take, drop, slice_range};
+ghost use Rattle.std.specs.Prelude.{◌≡◌, ◌≢◌, ◌+◌, ◌<◌, ◌≤◌, length, take, drop, slice_range};
 ghost use Rattle.cat_io.specs.Causes.{Rose};
 ghost use Rattle.cat_http.specs.ChunkedRead.{AnswerOf, IfWhole};
 
@@ -36,6 +36,7 @@ pub fn read_chunks<S: Source>(
     ensures answer { AnswerOf result (S.left source.old) (S.left source.new) (slice_range bytes.old start end.old) bytes.new start end.new }
     ensures fault { result ≡ ChunkedRead.Fault → Rose (S.faults source.old) (S.faults source.new) }
     ensures later { S.faults source.old ≤ S.faults source.new }
+    ensures stays { result ≢ ChunkedRead.Fault → S.faults source.new ≡ S.faults source.old }
 {
     let limit = start + RAW_LIMIT;
     let mut kept = 0;

@@ -1,4 +1,4 @@
-ghost use Rattle.std.specs.Prelude.{◌≡◌, ◌<◌, ◌≤◌, length, take};
+ghost use Rattle.std.specs.Prelude.{◌≡◌, ◌≢◌, ◌<◌, ◌≤◌, length, take};
 ghost use Rattle.cat_io.specs.Causes.{Rose};
 ghost use Rattle.std.specs.Io.KnownBytes.{IsAtEnd};
 ghost use Rattle.cat_http.specs.Streams.{KeepsStream};
@@ -22,6 +22,7 @@ pub fn fill<S: Source>(source: &mut S, bytes: &mut [u8], end: &mut usize) -> Fil
     ensures ends { result ≡ Filled.End → IsAtEnd (S.left source.new) × (end.new ≡ end.old) }
     ensures fault { result ≡ Filled.Fault → Rose (S.faults source.old) (S.faults source.new) }
     ensures later { S.faults source.old ≤ S.faults source.new }
+    ensures stays { result ≢ Filled.Fault → S.faults source.new ≡ S.faults source.old }
     ensures front { take end.old bytes.new ≡ take end.old bytes.old }
     ensures stream { KeepsStream (S.left source.old) (S.left source.new) (take end.old bytes.old) (take end.new bytes.new) }
 {
@@ -50,6 +51,7 @@ pub fn read_until<S: Source>(
     ensures ends { result ≡ Filled.End → IsAtEnd (S.left source.new) × (end.new < need) }
     ensures fault { result ≡ Filled.Fault → Rose (S.faults source.old) (S.faults source.new) }
     ensures later { S.faults source.old ≤ S.faults source.new }
+    ensures stays { result ≢ Filled.Fault → S.faults source.new ≡ S.faults source.old }
     ensures front { take end.old bytes.new ≡ take end.old bytes.old }
     ensures stream { KeepsStream (S.left source.old) (S.left source.new) (take end.old bytes.old) (take end.new bytes.new) }
 {
@@ -78,6 +80,7 @@ pub fn fill_line<S: Source>(
     ensures ends { result ≡ Filled.End → IsAtEnd (S.left source.new) × (end.new ≡ end.old) }
     ensures fault { result ≡ Filled.Fault → Rose (S.faults source.old) (S.faults source.new) }
     ensures later { S.faults source.old ≤ S.faults source.new }
+    ensures stays { result ≢ Filled.Fault → S.faults source.new ≡ S.faults source.old }
     ensures front { take end.old bytes.new ≡ take end.old bytes.old }
     ensures stream { KeepsStream (S.left source.old) (S.left source.new) (take end.old bytes.old) (take end.new bytes.new) }
 {

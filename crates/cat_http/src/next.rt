@@ -1,4 +1,4 @@
-ghost use Rattle.std.specs.Prelude.{◌≡◌, ◌<◌, ◌≤◌, length, take};
+ghost use Rattle.std.specs.Prelude.{◌≡◌, ◌≢◌, ◌<◌, ◌≤◌, length, take};
 ghost use Rattle.std.specs.Io.KnownBytes.{IsAtEnd};
 ghost use Rattle.cat_io.specs.Causes.{Rose};
 ghost use Rattle.cat_http.specs.Outcome.{OutcomeFits, OutcomeOf};
@@ -40,6 +40,7 @@ pub fn read_next<S: Source>(
     ensures ends { result ≡ Outcome.End → IsAtEnd (S.left source.new) }
     ensures fault { result ≡ Outcome.Fault → Rose (S.faults source.old) (S.faults source.new) }
     ensures later { S.faults source.old ≤ S.faults source.new }
+    ensures stays { result ≢ Outcome.Fault → S.faults source.new ≡ S.faults source.old }
 {
     let head = match read_head(source, bytes, headers, end) {
         HeadRead::Found(head) => head,

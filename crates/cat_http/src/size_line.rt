@@ -1,4 +1,4 @@
-ghost use Rattle.std.specs.Prelude.{◌≡◌, ◌<◌, ◌≤◌, length, take};
+ghost use Rattle.std.specs.Prelude.{◌≡◌, ◌≢◌, ◌<◌, ◌≤◌, length, take};
 ghost use Rattle.cat_io.specs.Causes.{Rose};
 ghost use Rattle.cat_http.specs.Streams.{KeepsStream};
 ghost use Rattle.cat_http.specs.ChunkedRead.{SizeIs};
@@ -35,6 +35,7 @@ pub fn read_size_line<S: Source>(
     ensures is { SizeIs result bytes.new at end.new limit (S.left source.new) }
     ensures fault { result ≡ SizeRead.Fault → Rose (S.faults source.old) (S.faults source.new) }
     ensures later { S.faults source.old ≤ S.faults source.new }
+    ensures stays { result ≢ SizeRead.Fault → S.faults source.new ≡ S.faults source.old }
     ensures front { take end.old bytes.new ≡ take end.old bytes.old }
     ensures stream { KeepsStream (S.left source.old) (S.left source.new) (take end.old bytes.old) (take end.new bytes.new) }
 {

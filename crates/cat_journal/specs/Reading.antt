@@ -37,13 +37,13 @@ IsFaultOf bytes NoMemory = Unit {0}
 IsFaultOf bytes (Version n) = recovered bytes ≡ Err (Version n)
 IsFaultOf bytes (Damaged o) = recovered bytes ≡ Err (Damaged o)
 
--- `Fault` comes only where the count rose
+-- `Fault` has raised the count of faults, which stays at each other answer
 abbrev pub HasOpenCause : {T : Type 0} → ℕ → ℕ → Result T OpenFault → Type 0
-HasOpenCause before now (Ok x) = before ≤ now
+HasOpenCause before now (Ok x) = now ≡ before
 HasOpenCause before now (Err Fault) = (before ≤ now) × Rose before now
-HasOpenCause before now (Err NoMemory) = before ≤ now
-HasOpenCause before now (Err (Version n)) = before ≤ now
-HasOpenCause before now (Err (Damaged o)) = before ≤ now
+HasOpenCause before now (Err NoMemory) = now ≡ before
+HasOpenCause before now (Err (Version n)) = now ≡ before
+HasOpenCause before now (Err (Damaged o)) = now ≡ before
 
 -- the bytes were opened, and stand for these gates
 pub record IsOpened (before after gates : List ℕ) (gate : ℕ) : Type 0 where

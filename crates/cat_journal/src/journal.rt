@@ -1,5 +1,5 @@
 //! A keeper on a disk.
-ghost use Rattle.std.specs.Prelude.{ℕ, List, [], ◌∷◌, ◌++◌, None, Some, ◌≡◌, ◌<◌, ◌≤◌, ◌+◌, ◌^◌, length, vec_capacity, Ok, IfOk, IfErr, IfSome, MatchResult};
+ghost use Rattle.std.specs.Prelude.{ℕ, List, [], ◌∷◌, ◌++◌, None, Some, ◌≡◌, ◌≢◌, ◌<◌, ◌≤◌, ◌+◌, ◌^◌, length, vec_capacity, Ok, IfOk, IfErr, IfSome, MatchResult};
 ghost use Rattle.std.proofs.Props.{props};
 ghost use Rattle.cat_io.specs.Causes.{Rose};
 ghost use Rattle.cat_io.specs.Crashes.{Told, Only};
@@ -69,6 +69,9 @@ impl<D: Disk + Send> Journal<D> {
         ensures cause { MatchResult result
             (λ j. D.faults disk ≤ ⟦<Journal<D> as Keeper>⟧.faults j)
             (λ e. (D.faults disk ≤ D.faults e.0) × (e.1 ≡ OpenFault.Fault → Rose (D.faults disk) (D.faults e.0))) }
+        ensures stays { MatchResult result
+            (λ j. ⟦<Journal<D> as Keeper>⟧.faults j ≡ D.faults disk)
+            (λ e. e.1 ≢ OpenFault.Fault → D.faults e.0 ≡ D.faults disk) }
     {
         match load(alloc, &mut disk) {
             Ok((gates, end)) => Ok(Journal {

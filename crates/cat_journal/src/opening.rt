@@ -18,7 +18,7 @@ const NEW: [u8; 17] = *b"NESSIECJ\0\0\0\x01\0\0\0\0\0";
 
 /// What the first 16 bytes say, whatever stands behind them.
 fn check_head(head: &[u8]) -> Result<(), OpenFault>
-    ensures cause { (before now : ℕ) → before ≤ now → HasOpenCause before now result }
+    ensures cause { (count : ℕ) → HasOpenCause count count result }
     ensures found { length head.now ≡ 16 → (rest : List ℕ) → 0 < length rest → MatchResult result (λ _. head.now ≡ header) (IsFaultOf (head.now ++ rest)) }
 {
     if head.len() < 16 {

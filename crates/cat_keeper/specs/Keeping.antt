@@ -4,12 +4,12 @@ use Rattle.cat_io.specs.Causes.{Rose}
 use Rattle.cat_keeper.specs.declared.fault.KeepFault.{KeepFault}
 use Rattle.cat_keeper.specs.declared.fault.KeepFault.TheVariants.{Fault, Down, NoMemory}
 
--- the count of faults doesn't fall, and `Fault` has raised it
+-- `Fault` has raised the count of faults, which stays at each other answer
 abbrev pub HasKeepCause : {T : Type 0} → ℕ → ℕ → Result T KeepFault → Type 0
-HasKeepCause before now (Ok x) = before ≤ now
+HasKeepCause before now (Ok x) = now ≡ before
 HasKeepCause before now (Err Fault) = (before ≤ now) × Rose before now
-HasKeepCause before now (Err (Down c)) = before ≤ now
-HasKeepCause before now (Err NoMemory) = before ≤ now
+HasKeepCause before now (Err (Down c)) = now ≡ before
+HasKeepCause before now (Err NoMemory) = now ≡ before
 
 -- an image recovers to the payloads, or to these and one more
 abbrev pub WithOrWithout : List (List ℕ) → List ℕ → Option (List (List ℕ)) → Type 0

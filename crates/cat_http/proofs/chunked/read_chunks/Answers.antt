@@ -153,7 +153,7 @@ chunks-preserved g c = record {
       (front_kept c.args.bytes.now c.read_size_line.new.bytes c.read_chunk_end.new.bytes c.args.start c.read_size_line.new.end
       (omega (arith, c.chunks.invariant.order, c.chunks.invariant.before, c.in-Found.ensures.grows)) c.in-Whole.ensures.front
       (front_kept c.args.bytes.now c.chunks.bytes c.read_size_line.new.bytes c.args.start c.chunks.end (omega (arith, c.chunks.invariant.order, c.chunks.invariant.before)) c.in-Found.ensures.front c.chunks.invariant.front));
-  later = omega (arith, c.in-Found.ensures.later, c.in-Whole.ensures.later, c.chunks.invariant.later);
+  faults = grind (arith, c.in-Found.ensures.stays, c.in-Whole.ensures.stays, c.chunks.invariant.faults);
   stream = stands_moved _ _ _ c.read_chunk_end.new.bytes c.args.start c.chunks.kept c.chunks.at c.read_chunk_end.new.end (c.args.start + 2097152) refl
       c.chunks.invariant.order (omega (arith, c.chunks.invariant.before, c.in-Found.ensures.grows, c.in-Whole.ensures.grows)) c.in-Whole.ensures.within c.chunks.invariant.small c.chunks.invariant.limit
       (stands_again _ _ _ _ _ c.chunks.bytes c.read_size_line.new.bytes c.read_chunk_end.new.bytes c.args.start c.chunks.kept c.chunks.at c.chunks.end c.read_size_line.new.end c.read_chunk_end.new.end

@@ -12,7 +12,7 @@ invariant-chunks g l = record {
   limit : l.at ≤ l.limit;
   small : l.kept ≤ 1048576;
   front : take l.start l.bytes ≡ take l.start l.fn.bytes;
-  later : g.S.Source.faults l.fn.source ≤ g.S.Source.faults l.source;
+  faults : g.S.Source.faults l.source ≡ g.S.Source.faults l.fn.source;
   stream : StandsBehindOf (g.S.Source.left l.fn.source) (g.S.Source.left l.source) (slice_range l.fn.bytes l.start l.fn.end) (slice_range l.bytes l.start (l.start + l.kept)) (slice_range l.bytes l.at l.end) (l.at - l.start);
 }
 

@@ -9,7 +9,7 @@ invariant-reads g l = record {
   grows : l.fn.end ≤ l.end;
   first : l.first ≡ l.fn.end;
   some : l.end ≤ l.limit;
-  later : g.S.Source.faults l.fn.source ≤ g.S.Source.faults l.source;
+  faults : g.S.Source.faults l.source ≡ g.S.Source.faults l.fn.source;
   front : take l.fn.end l.bytes ≡ take l.fn.end l.fn.bytes;
   stream : KeepsStream (g.S.Source.left l.fn.source) (g.S.Source.left l.source) (take l.fn.end l.fn.bytes) (take l.end l.bytes);
 }

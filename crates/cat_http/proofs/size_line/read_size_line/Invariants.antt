@@ -7,7 +7,7 @@ invariant-reads g l = record {
   within : l.end ≤ length l.bytes;
   len : length l.bytes ≡ length l.fn.bytes;
   grows : l.fn.end ≤ l.end;
-  later : g.S.Source.faults l.fn.source ≤ g.S.Source.faults l.source;
+  faults : g.S.Source.faults l.source ≡ g.S.Source.faults l.fn.source;
   front : take l.fn.end l.bytes ≡ take l.fn.end l.fn.bytes;
   stream : KeepsStream (g.S.Source.left l.fn.source) (g.S.Source.left l.source) (take l.fn.end l.fn.bytes) (take l.end l.bytes);
 }

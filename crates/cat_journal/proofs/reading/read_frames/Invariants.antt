@@ -1,4 +1,4 @@
-use Rattle.std.proofs.Common.{◌<◌, ◌≤◌, ◌-◌, ◌+◌, ℕ, List, length}
+use Rattle.std.proofs.Common.{◌≡◌, ◌<◌, ◌≤◌, ◌-◌, ◌+◌, ℕ, List, length}
 use Rattle.std.specs.Prelude.{IfSome}
 use Rattle.cat_journal.specs.Frames.{max_entries}
 use Rattle.cat_journal.specs.Held.{IsHeld}
@@ -11,7 +11,7 @@ invariant-frames g l = record {
   reads : OnlyReads g.D.Disk.told g.D.Disk.may_leave g.D.Disk.moment g.D.Disk.left_since l.fn.disk l.disk;
   inside : l.end < l.len;
   few : length l.gates.items ≤ max_entries;
-  faults : g.D.Disk.faults l.fn.disk ≤ g.D.Disk.faults l.disk;
+  faults : g.D.Disk.faults l.disk ≡ g.D.Disk.faults l.fn.disk;
 }
 
 abbrev pub decreases-frames : goal.decreases-frames

@@ -20,7 +20,7 @@ pub returns-in-Ok-clause-keeps : goal.returns-in-Ok-clause-keeps
 returns-in-Ok-clause-keeps g c =
     appended_ok g.K.Keeper.told g.K.Keeper.kept g.K.Keeper.down g.K.Keeper.in_flight g.K.Keeper.faults g.K.Keeper.moment g.K.Keeper.left_since g.K.Keeper.may_leave (g.met.K.Keeper g.world.𝓛 g.world.𝓜 g.world.𝓡 ((λ s x. x), (λ x. x), (λ x. x), λ x. x)).safe (g.met.K.Keeper g.world.𝓛 g.world.𝓜 g.world.𝓡 ((λ s x. x), (λ x. x), (λ x. x), λ x. x)).only_now c.args.keeper.now c.reserve.new.self c.append.new.self c.args.entry.now c.in_ok-bytes.bytes c.requires.up
     (record { payloads = c.in_ok-reserve.ensures.told; number = c.in_ok-reserve.ensures.kept; fallen = c.in_ok-reserve.ensures.down; flies = c.in_ok-reserve.ensures.in_flight; later = omega (arith, c.in_ok-reserve.ensures.faults); crash = c.in_ok-reserve.ensures.time })
-    c.in_ok-bytes.ensures.spelled (rw c.as_slice-payload.ensures at c.in-Ok.ensures.added) c.in-Ok.ensures.kept c.in-Ok.ensures.up c.in-Ok.ensures.cause (rw c.as_slice-payload.ensures at c.in-Ok.ensures.any_moment (c.in_ok-reserve.ensures.down ∙ c.requires.up))
+    c.in_ok-bytes.ensures.spelled (rw c.as_slice-payload.ensures at c.in-Ok.ensures.added) c.in-Ok.ensures.kept c.in-Ok.ensures.up (omega (arith, c.in-Ok.ensures.cause)) (rw c.as_slice-payload.ensures at c.in-Ok.ensures.any_moment (c.in_ok-reserve.ensures.down ∙ c.requires.up))
 
 pub returns-in-Err-Fault-clause-keeps : goal.returns-in-Err-Fault-clause-keeps
 returns-in-Err-Fault-clause-keeps g c =
