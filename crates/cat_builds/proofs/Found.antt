@@ -26,7 +26,7 @@ use Rattle.cat_builds.specs.declared.call.Call.TheVariants as calls
 use Rattle.cat_builds.specs.declared.given.Given.{Given}
 use Rattle.cat_builds.specs.BuildLaws.{commit_opened}
 use Rattle.cat_builds.specs.Builds.{IsGiven, IsGivenBy, branch_of, command_of}
-use Rattle.cat_builds.proofs.Ids.{still_distinct}
+use Rattle.cat_builds.specs.KeyLaws.{still_distinct}
 
 -- the branch of a call that passes is there
 pub opened_named : (state : State) (call : Call) → opening sha256 state (command_of call) ≡ Ok tt → (branch : Reference) × (reference_of state.references (branch_of (command_of call)) ≡ Some branch)

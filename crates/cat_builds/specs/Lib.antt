@@ -1,3 +1,4 @@
 pub mod Views
 pub mod Builds
 pub mod BuildLaws
+pub mod KeyLaws

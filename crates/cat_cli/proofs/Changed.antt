@@ -76,7 +76,7 @@ called k s m command after told at w p =
     let c = call_on sha256 1 s.book command (k s.readings) in
     let draft = call_draft sha256 1 s.book.state s.book.draft command (k s.readings) in
     let spares : must_be_told told ≡ false → Spares c s.book.state =
-    spared c s.book.state told p.said (call_says sha256 1 s.book.state s.book.draft command (k s.readings)) (call_spares sha256 1 s.book.state s.book.draft command (k s.readings)) in
+    spared c s.book.state told p.said (call_says 1 s.book.state s.book.draft command (k s.readings)) (call_spares sha256 1 s.book.state s.book.draft command (k s.readings)) in
     record {
       comes = at_fallen k s None m _ _ at (inl (inl (ap (request sha256 1 k (session_of s)) (sym w)), record { book = p.book; readings = refl }, refl));
       said = p.said;

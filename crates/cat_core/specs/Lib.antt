@@ -4,3 +4,4 @@ pub mod Made
 pub mod Kept
 pub mod Counted
 pub mod Opening
+pub mod HeadLaws

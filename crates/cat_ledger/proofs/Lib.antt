@@ -1,5 +1,4 @@
 pub mod Asked
-pub mod Distinct
 pub mod Steps
 pub mod Accepts
 pub mod Plain

@@ -29,7 +29,7 @@ use Rattle.cat_ledger.specs.declared.logging.Turn.{Turn}
 use Rattle.cat_ledger.specs.declared.preparing.Prepared.{Prepared}
 use Rattle.cat_model.specs.Walks.{listed}
 use Rattle.cat_ledger.specs.Putting.{IsPrepared}
-use Rattle.cat_ledger.proofs.Distinct.{Both}
+use Rattle.cat_builds.specs.KeyLaws.{Both}
 use Rattle.cat_ledger.proofs.Steps.{AreGiven}
 
 -- the hash of each entry that an operation sets passes

@@ -30,7 +30,7 @@ use Rattle.cat_ledger.specs.declared.logging.Turn.{Turn}
 use Rattle.cat_ledger.specs.declared.preparing.Prepared.{Prepared}
 use Rattle.cat_ledger.specs.Putting.{IsMade, IsPrepared, add_step}
 use Rattle.cat_state.specs.GivingLaws.{fails_on}
-use Rattle.cat_ledger.proofs.Distinct.{Both}
+use Rattle.cat_builds.specs.KeyLaws.{Both}
 
 -- the operations and contents with the ids that the draft gives
 pub record AreGiven (draft : ℕ) (c : CommitRequest) (ops : List Op) (contents : List Content) : Type 0 where

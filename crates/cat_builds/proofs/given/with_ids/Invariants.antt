@@ -2,7 +2,7 @@ use Rattle.std.proofs.Common.{◌≡◌, ◌++◌, drop, map, filter_map}
 use Rattle.sha2.specs.Sha256.{sha256}
 use Rattle.cat_model.specs.Commits.{given_from, with_their_contents}
 use Rattle.cat_model.specs.State.{content_hash}
-use Rattle.cat_builds.proofs.Ids.{Both}
+use Rattle.cat_builds.specs.KeyLaws.{Both}
 use Rattle.cat_builds.proofs.given.with_ids.Given as goal
 
 abbrev pub invariant-loop-index : goal.invariant-loop-index

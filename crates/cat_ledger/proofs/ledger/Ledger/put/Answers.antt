@@ -3,7 +3,7 @@ use Rattle.std.proofs.lemmas.Result.{err_from_is_err_and}
 use Rattle.cat_model.specs.Commits.{or_conflicts}
 use Rattle.cat_builds.specs.BuildLaws.{judged_upon}
 use Rattle.cat_state.specs.declared.failure.Failure.TheVariants.{Refused}
-use Rattle.cat_ledger.proofs.Distinct.{still_distinct}
+use Rattle.cat_builds.specs.KeyLaws.{still_distinct}
 use Rattle.cat_ledger.proofs.Puts.{map_held}
 use Rattle.cat_ledger.proofs.Steps.{given_is, logged_is, made_of, map_is_after, room_is, step_added, step_conflicts, step_no_room}
 use Rattle.cat_ledger.proofs.ledger.Ledger.put.Goals as goal

@@ -1,4 +1,4 @@
--- The keys of operations that are given their ids.
+-- Operations that are given their ids keep their keys.
 use Rattle.std.proofs.Common.{◌≡◌, ℕ, ◌+◌, List, [], ◌∷◌, map, Option, Some, None, Bool, true, ◌&&◌, not, refl, sym, ap, ◌∙◌}
 use Rattle.std.specs.List.{list_any}
 use Rattle.sha2.specs.Sha256.{sha256}
@@ -13,7 +13,9 @@ use Rattle.cat_model.specs.Distinct.{are_distinct}
 use Rattle.cat_model.specs.Judge.{op_key}
 use Rattle.cat_model.specs.Same.{same_key}
 use Rattle.cat_model.specs.State.{fresh_id}
+use Rattle.cat_model.specs.Walks.{left_after, their_own}
 
+-- an operation with the content that is given with it
 abbrev pub Both : Type 0
 Both = Op × Option Content
 
@@ -32,10 +34,7 @@ given_keys draft i (x ∷ xs) = ap (λ (k : Key). k ∷ keys (given_from sha256 
 
 own_keys : (ops : List Op) (contents : List Content) → keys (with_their_contents ops contents) ≡ map op_key ops
 own_keys [] contents = refl
-own_keys (Put key entry fresh ∷ ops) [] = ap (λ (l : List Key). key ∷ l) (own_keys ops [])
-own_keys (Put key entry fresh ∷ ops) (c ∷ contents) = ap (λ (l : List Key). key ∷ l) (own_keys ops contents)
-own_keys (Delete key ∷ ops) contents = ap (λ (l : List Key). key ∷ l) (own_keys ops contents)
-own_keys (Unchanged key ∷ ops) contents = ap (λ (l : List Key). key ∷ l) (own_keys ops contents)
+own_keys (op ∷ ops) contents = ap keys (their_own op ops contents) ∙ ap (λ (l : List Key). op_key op ∷ l) (own_keys ops (left_after op contents))
 
 abbrev differ : List Key → Bool
 differ [] = true
