@@ -4,7 +4,8 @@ use Rattle.sha2.specs.Sha256.{sha256}
 use Rattle.cat_names.specs.declared.hash.Hash.{Hash}
 use Rattle.cat_builds.specs.Builds.{HasHead}
 use Rattle.cat_desk.specs.Log.{Follows}
-use Rattle.cat_desk.specs.Pass.{DeskId, known, seen}
+use Rattle.cat_io.specs.Clocks.{Ticks}
+use Rattle.cat_desk.specs.Pass.{DeskId, known, mark_of, number_of, seen}
 use Rattle.cat_desk.specs.declared.pass.Pass.{Pass}
 use Rattle.cat_ledger.specs.Kept.{spelling}
 use Rattle.cat_ledger.specs.Making.{IsNotKept}
@@ -17,13 +18,13 @@ use Rattle.cat_model.specs.declared.refusal.Refusal.TheVariants as refusals
 use Rattle.cat_model.specs.declared.refusal.Refused.{Refused}
 use Rattle.cat_model.specs.declared.reply.Reply.{Reply}
 use Rattle.cat_model.specs.declared.reply.Told.{Told}
-use Rattle.cat_model.specs.Book.{Book, IsCalled, IsGivenUp}
+use Rattle.cat_model.specs.Book.{Book, IsCalled, IsGivenUp, call_on}
 use Rattle.cat_model.specs.Calls.{Called, entry_made}
 use Rattle.cat_model.specs.Mark.{FailedAppend, Mark}
 use Rattle.cat_model.specs.Refusing.{Outcome}
 use Rattle.cat_model.specs.State.{State}
 use Rattle.cat_model.specs.Step.{Turn, logged_command, opening, opens_draft, step}
-use Rattle.cat_work.specs.Passes.{state_of}
+use Rattle.cat_work.specs.Passes.{IsAlone, book_of, state_of}
 
 -- ---- steps at a moment
 
@@ -234,3 +235,12 @@ RefusesAlone n called b b' f f' refused why = IsCalled called b b' (Err refused)
 abbrev pub AnswersAlone : ℕ → Called → Book → Book → Option FailedAppend → Option FailedAppend → Result Told Refused → Type 0
 AnswersAlone n called b b' f f' (Ok told) = IsCalled called b b' (Ok told) × (f ≡ None) × (f' ≡ None)
 AnswersAlone n called b b' f f' (Err refused) = RefusesAlone n called b b' f f' refused refused.why
+
+-- ---- a call
+
+-- what a call on a pass answers, at the moment of one reading of the clock and in so many attempts, whatever others do; and what on the only pass of its desk
+abbrev pub AnswersTo : DeskId → Command → ℕ → Option (ℕ → ℕ) → Option (ℕ → ℕ) → Pass → Pass → Result Told Refused → Type 0
+AnswersTo desk command attempts ahead ahead' p q result =
+    (moment : ℕ) × Ticks ahead ahead' moment
+    × Answers desk (number_of p) command moment attempts (known p) (mark_of p) (mark_of q) (seen p) (seen q) result
+    × (IsAlone p → AnswersAlone (number_of p) (call_on sha256 (number_of p) (book_of desk p) command moment) (book_of desk p) (book_of desk q) (mark_of p).fault (mark_of q).fault result)

@@ -1,15 +1,13 @@
 //! Calls that change the catalogue, on a pass.
-ghost use Rattle.std.specs.Prelude.{ℕ, ◌≡◌, ◌≤◌, true, false, IsTrue};
+ghost use Rattle.std.specs.Prelude.{◌≡◌, ◌≤◌, true, IsTrue};
 ghost use Rattle.sha2.specs.Sha256.{sha256};
 ghost use Rattle.cat_checks.specs.Histories.{IsLegalFrom};
-ghost use Rattle.cat_desk.specs.Pass.{Keeps, known, mark_of, number_of, seen};
-ghost use Rattle.cat_io.specs.Clocks.{Ticks};
-ghost use Rattle.cat_model.specs.Book.{call_on};
+ghost use Rattle.cat_desk.specs.Pass.{Keeps, mark_of, seen};
 ghost use Rattle.cat_model.specs.Mark.{Grows};
 ghost use Rattle.cat_model.specs.Step.{opens_draft};
 ghost use Rattle.cat_model.specs.WellMade.{is_well_made};
-ghost use Rattle.cat_work.specs.Answers.{Answers, AnswersAlone, Knows};
-ghost use Rattle.cat_work.specs.Passes.{IsAlone, IsReady, book_of};
+ghost use Rattle.cat_work.specs.Answers.{AnswersTo, Knows};
+ghost use Rattle.cat_work.specs.Passes.{IsReady};
 ghost use Rattle.cat_work.specs.Turns.{Comes, IsCommit, IsMerge, IsTransplant};
 
 use crate::attempts::{attempt, begin};
@@ -84,8 +82,7 @@ fn make<R: Wait, K: Keeper, G: Gate, C: Clock>(
     ensures gate { G.ready gate.new × (G.desks gate.new ≡ G.desks gate.old) }
     ensures known { Knows pass.old pass.new result }
     ensures grows { Grows (mark_of pass.old) (mark_of pass.new) }
-    ensures answers { (moment : ℕ) × Ticks (C.ahead clock.old) (C.ahead clock.new) moment × Answers desk.now (number_of pass.old) command.now moment attempts (known pass.old) (mark_of pass.old) (mark_of pass.new) (seen pass.old) (seen pass.new) result
-        × (IsAlone pass.old → AnswersAlone (number_of pass.old) (call_on sha256 (number_of pass.old) (book_of desk.now pass.old) command.now moment) (book_of desk.now pass.old) (book_of desk.now pass.new) (mark_of pass.old).fault (mark_of pass.new).fault result) }
+    ensures answers { AnswersTo desk.now command.now attempts (C.ahead clock.old) (C.ahead clock.new) pass.old pass.new result }
 {
     let moment = Moment::from_micros(clock.now());
     make_at(rt, alloc, desk, pass, gate, attempts, moment, command)
@@ -112,8 +109,7 @@ pub fn commit<R: Wait, K: Keeper, G: Gate, C: Clock>(
     ensures gate { G.ready gate.new × (G.desks gate.new ≡ G.desks gate.old) }
     ensures known { Knows pass.old pass.new result }
     ensures grows { Grows (mark_of pass.old) (mark_of pass.new) }
-    ensures answers { (moment : ℕ) × Ticks (C.ahead clock.old) (C.ahead clock.new) moment × Answers desk.now (number_of pass.old) command.now moment attempts (known pass.old) (mark_of pass.old) (mark_of pass.new) (seen pass.old) (seen pass.new) result
-        × (IsAlone pass.old → AnswersAlone (number_of pass.old) (call_on sha256 (number_of pass.old) (book_of desk.now pass.old) command.now moment) (book_of desk.now pass.old) (book_of desk.now pass.new) (mark_of pass.old).fault (mark_of pass.new).fault result) }
+    ensures answers { AnswersTo desk.now command.now attempts (C.ahead clock.old) (C.ahead clock.new) pass.old pass.new result }
 {
     make(rt, alloc, desk, pass, gate, clock, attempts, command)
 }
@@ -139,8 +135,7 @@ pub fn merge<R: Wait, K: Keeper, G: Gate, C: Clock>(
     ensures gate { G.ready gate.new × (G.desks gate.new ≡ G.desks gate.old) }
     ensures known { Knows pass.old pass.new result }
     ensures grows { Grows (mark_of pass.old) (mark_of pass.new) }
-    ensures answers { (moment : ℕ) × Ticks (C.ahead clock.old) (C.ahead clock.new) moment × Answers desk.now (number_of pass.old) command.now moment attempts (known pass.old) (mark_of pass.old) (mark_of pass.new) (seen pass.old) (seen pass.new) result
-        × (IsAlone pass.old → AnswersAlone (number_of pass.old) (call_on sha256 (number_of pass.old) (book_of desk.now pass.old) command.now moment) (book_of desk.now pass.old) (book_of desk.now pass.new) (mark_of pass.old).fault (mark_of pass.new).fault result) }
+    ensures answers { AnswersTo desk.now command.now attempts (C.ahead clock.old) (C.ahead clock.new) pass.old pass.new result }
 {
     make(rt, alloc, desk, pass, gate, clock, attempts, command)
 }
@@ -166,8 +161,7 @@ pub fn transplant<R: Wait, K: Keeper, G: Gate, C: Clock>(
     ensures gate { G.ready gate.new × (G.desks gate.new ≡ G.desks gate.old) }
     ensures known { Knows pass.old pass.new result }
     ensures grows { Grows (mark_of pass.old) (mark_of pass.new) }
-    ensures answers { (moment : ℕ) × Ticks (C.ahead clock.old) (C.ahead clock.new) moment × Answers desk.now (number_of pass.old) command.now moment attempts (known pass.old) (mark_of pass.old) (mark_of pass.new) (seen pass.old) (seen pass.new) result
-        × (IsAlone pass.old → AnswersAlone (number_of pass.old) (call_on sha256 (number_of pass.old) (book_of desk.now pass.old) command.now moment) (book_of desk.now pass.old) (book_of desk.now pass.new) (mark_of pass.old).fault (mark_of pass.new).fault result) }
+    ensures answers { AnswersTo desk.now command.now attempts (C.ahead clock.old) (C.ahead clock.new) pass.old pass.new result }
 {
     make(rt, alloc, desk, pass, gate, clock, attempts, command)
 }
@@ -193,8 +187,7 @@ pub fn call<R: Wait, K: Keeper, G: Gate, C: Clock>(
     ensures gate { G.ready gate.new × (G.desks gate.new ≡ G.desks gate.old) }
     ensures known { Knows pass.old pass.new result }
     ensures grows { Grows (mark_of pass.old) (mark_of pass.new) }
-    ensures answers { (moment : ℕ) × Ticks (C.ahead clock.old) (C.ahead clock.new) moment × Answers desk.now (number_of pass.old) command.now moment attempts (known pass.old) (mark_of pass.old) (mark_of pass.new) (seen pass.old) (seen pass.new) result
-        × (IsAlone pass.old → AnswersAlone (number_of pass.old) (call_on sha256 (number_of pass.old) (book_of desk.now pass.old) command.now moment) (book_of desk.now pass.old) (book_of desk.now pass.new) (mark_of pass.old).fault (mark_of pass.new).fault result) }
+    ensures answers { AnswersTo desk.now command.now attempts (C.ahead clock.old) (C.ahead clock.new) pass.old pass.new result }
 {
     match command {
         Command::Create(_) | Command::Assign(_) | Command::Delete(_) => {
