@@ -1,16 +1,19 @@
 -- Laws of histories: logs that go on, what stays, what grows, and drafts that are new.
-use Rattle.std.proofs.Common.{◌≡◌, ℕ, ◌+◌, ◌<◌, ◌≤◌, max, List, [], ◌∷◌, ◌++◌, reverse, length, true, false, not, nat_eq, refl, sym, ap, ◌∙◌, append_assoc, ne_eqb, arith}
+use Rattle.std.proofs.Common.{◌≡◌, ℕ, ◌+◌, ◌<◌, ◌≤◌, max, List, [], ◌∷◌, ◌++◌, reverse, length, codes, true, false, not, nat_eq, refl, sym, ap, ◌∙◌, append_assoc, ne_eqb, arith}
 use Rattle.std.specs.List.{list_any}
 use Rattle.std.proofs.Math.Nat.{le-max_left, le-max_right}
 use Rattle.std.proofs.lemmas.Bool.{or_right}
 use Rattle.std.proofs.lemmas.Grind.{reverse_onto}
+use Rattle.cat_model.specs.declared.limits.Limits.{Limits}
 use Rattle.cat_model.specs.declared.log_entry.LogEntry.{LogEntry}
+use Rattle.cat_model.specs.declared.reference.Kind.TheVariants.{Branch}
 use Rattle.cat_model.specs.Book.{Book}
 use Rattle.cat_model.specs.Later.{IsLater}
-use Rattle.cat_model.specs.State.{Digest}
+use Rattle.cat_model.specs.State.{Digest, first_state, no_ancestor}
 use Rattle.cat_checks.specs.Histories.{AreLegal, after_entry, book_after}
-use Rattle.cat_checks.specs.LeadingLaws.{legal_place, replayed_later, replayed_limits}
+use Rattle.cat_checks.specs.LeadingLaws.{legal_place, replayed_later, replayed_limits, replayed_upholds}
 use Rattle.cat_checks.specs.Legal.{draft_is_new}
+use Rattle.cat_checks.specs.Upheld.{Upholds}
 pub use Rattle.cat_checks.specs.LeadingLaws.{later_on, later_self, step_later}
 
 -- ---- logs that go on
@@ -59,6 +62,14 @@ entry_later digest b e = replayed_later digest b e
 pub books_later : (digest : Digest) (b : Book) (xs : List LogEntry) → IsLater b.state (book_after digest b xs).state
 books_later digest b [] = later_self b.state
 books_later digest b (x ∷ xs) = later_on b.state (after_entry digest b x).state (book_after digest b (x ∷ xs)).state (entry_later digest b x) (books_later digest (after_entry digest b x) xs)
+
+-- so is what a state upholds, from the first one on
+pub first_upholds : (digest : Digest) (limits : Limits) → Upholds digest (first_state digest limits)
+first_upholds digest limits = record { main = (record { name = codes "main"; kind = Branch; head = no_ancestor digest }, refl, refl); commits = tt; contents = tt }
+
+pub books_uphold : (digest : Digest) (b : Book) (xs : List LogEntry) → Upholds digest b.state → Upholds digest (book_after digest b xs).state
+books_uphold digest b [] upheld = upheld
+books_uphold digest b (x ∷ xs) upheld = books_uphold digest (after_entry digest b x) xs (replayed_upholds digest b x upheld)
 
 -- ---- drafts
 

@@ -1,4 +1,4 @@
--- Where steps lead: to the state itself, or to the next place, where all that was there is still there.
+-- Where steps lead: to the state itself, or to the next place, where all that was there is still there, and what a state upholds is upheld.
 use Rattle.std.proofs.Common.{◌≡◌, ℕ, ◌+◌, ◌<◌, ◌⊎◌, inl, inr, ⊎_elim, List, [], ◌∷◌, ◌++◌, length, map, filter_map, Option, Some, None, Result, Ok, Err, Bool, true, false, not, ◌||◌, nat_lt, if◌then◌else◌, refl, sym, ap, ◌∙◌, subst, append_assoc, ltb-true, arith}
 use Rattle.std.specs.List.{list_any}
 use Rattle.std.specs.Str.{bytes_eq}
@@ -18,6 +18,7 @@ use Rattle.cat_model.specs.declared.content.Content.{Content}
 use Rattle.cat_model.specs.declared.limits.Quantity.TheVariants as quantities
 use Rattle.cat_model.specs.declared.log_entry.LogEntry.{LogEntry}
 use Rattle.cat_model.specs.declared.op.Op.{Op}
+use Rattle.cat_model.specs.declared.reference.Kind.TheVariants.{Branch}
 use Rattle.cat_model.specs.declared.reference.Reference.{Reference}
 use Rattle.cat_model.specs.declared.refusal.Refusal.{Refusal}
 use Rattle.cat_model.specs.declared.refusal.Refusal.TheVariants.{Collision, Conflicts}
@@ -39,6 +40,8 @@ use Rattle.cat_model.specs.State.{Digest, State, commit_hash, content_hash}
 use Rattle.cat_model.specs.Step.{Turn, opening, step}
 use Rattle.cat_model.specs.Transplants.{step_transplant, transplant_opening, transplant_planned}
 use Rattle.cat_checks.specs.Legal.{draft_after, is_just, is_legal, replayed_by, replayed_call, turn_of}
+use Rattle.cat_checks.specs.MainLaws.{commit_branch, main_assigned, main_moved, main_with, main_without, merge_branch, passed, transplant_branch}
+use Rattle.cat_checks.specs.Upheld.{HasMain, Upholds}
 
 -- ---- states that grew
 
@@ -55,194 +58,221 @@ pub later_on : (a b c : State) → IsLater a b → IsLater b c → IsLater a c
 later_on a b c p q = record { commits = adds_on a.commits b.commits c.commits p.commits q.commits; present = adds_on a.present b.present c.present p.present q.present }
 
 -- commits and contents were added, and nothing else was changed
-record Grows (a b : State) : Type 0 where
+record Grows (digest : Digest) (a b : State) : Type 0 where
   place : b.place ≡ a.place
   limits : b.limits ≡ a.limits
   later : IsLater a b
+  upholds : Upholds digest a → Upholds digest b
 
-grows_self : (a : State) → Grows a a
-grows_self a = record { place = refl; limits = refl; later = later_self a }
+grows_self : (digest : Digest) (a : State) → Grows digest a a
+grows_self digest a = record { place = refl; limits = refl; later = later_self a; upholds = λ u. u }
 
-grows_on : (a b c : State) → Grows a b → Grows b c → Grows a c
-grows_on a b c p q = record { place = q.place ∙ p.place; limits = q.limits ∙ p.limits; later = later_on a b c p.later q.later }
+grows_on : (digest : Digest) (a b c : State) → Grows digest a b → Grows digest b c → Grows digest a c
+grows_on digest a b c p q = record { place = q.place ∙ p.place; limits = q.limits ∙ p.limits; later = later_on a b c p.later q.later; upholds = λ u. q.upholds (p.upholds u) }
 
--- the next place, the same limits, and nothing taken away
-pub record Follows (a b : State) : Type 0 where
+-- the next place, the same limits, nothing taken away, and what is upheld still so
+pub record Follows (digest : Digest) (a b : State) : Type 0 where
   pub place : b.place ≡ a.place + 1
   pub limits : b.limits ≡ a.limits
   pub later : IsLater a b
+  pub upholds : Upholds digest a → Upholds digest b
 
 -- a state and the one that a call leaves
-abbrev pub Leads : State → State → Type 0
-Leads a b = (b ≡ a) ⊎ Follows a b
+abbrev pub Leads : Digest → State → State → Type 0
+Leads digest a b = (b ≡ a) ⊎ Follows digest a b
 
 -- ---- adding commits and contents
 
-abbrev GrowsOn : State → Result State Refusal → Type 0
-GrowsOn a (Ok b) = Grows a b
-GrowsOn a (Err why) = Unit {0}
+abbrev GrowsOn : Digest → State → Result State Refusal → Type 0
+GrowsOn digest a (Ok b) = Grows digest a b
+GrowsOn digest a (Err why) = Unit {0}
 
-grows_bind : (a : State) (r : Result State Refusal) (f : State → Result State Refusal) → GrowsOn a r → ((b : State) → Grows a b → GrowsOn a (f b)) → GrowsOn a (r >>= f)
-grows_bind a (Ok b) f g h = h b g
-grows_bind a (Err why) f g h = tt
+grows_bind : (digest : Digest) (a : State) (r : Result State Refusal) (f : State → Result State Refusal) → GrowsOn digest a r → ((b : State) → Grows digest a b → GrowsOn digest a (f b)) → GrowsOn digest a (r >>= f)
+grows_bind digest a (Ok b) f g h = h b g
+grows_bind digest a (Err why) f g h = tt
 
-kept_grows : (a : State) (b : Bool) (why : Refusal) → GrowsOn a (if b then Ok a else Err why)
-kept_grows a true why = grows_self a
-kept_grows a false why = tt
+kept_grows : (digest : Digest) (a : State) (b : Bool) (why : Refusal) → GrowsOn digest a (if b then Ok a else Err why)
+kept_grows digest a true why = grows_self digest a
+kept_grows digest a false why = tt
 
-added_grows : (a more : State) (hash : Hash) (kept : Option (List ℕ)) (bytes : List ℕ) → Grows a more → GrowsOn a (added a more hash kept bytes)
-added_grows a more hash None bytes g = g
-added_grows a more hash (Some kept) bytes g = kept_grows a (bytes_eq kept bytes) (Collision hash kept bytes)
+added_grows : (digest : Digest) (a more : State) (hash : Hash) (kept : Option (List ℕ)) (bytes : List ℕ) → Grows digest a more → GrowsOn digest a (added a more hash kept bytes)
+added_grows digest a more hash None bytes g = g
+added_grows digest a more hash (Some kept) bytes g = kept_grows digest a (bytes_eq kept bytes) (Collision hash kept bytes)
 
-commit_grows : (digest : Digest) (a : State) (c : Commit) → GrowsOn a (with_commit digest a c)
+commit_grows : (digest : Digest) (a : State) (c : Commit) → GrowsOn digest a (with_commit digest a c)
 unfolding with_commit
 commit_grows digest a c =
     let hash = commit_hash digest c in
-    added_grows a (record a { commits = (hash, c) ∷ a.commits }) hash (commit_bytes digest a hash) ((commit_code).spell c)
-    (record { place = refl; limits = refl; later = record { commits = ((hash, c) ∷ [], refl); present = adds_self a.present } })
+    added_grows digest a (record a { commits = (hash, c) ∷ a.commits }) hash (commit_bytes digest a hash) ((commit_code).spell c)
+    (record {
+      place = refl;
+      limits = refl;
+      later = record { commits = ((hash, c) ∷ [], refl); present = adds_self a.present };
+      upholds = λ u. record { main = u.main; commits = (refl, u.commits); contents = u.contents };
+    })
 
-content_grows : (digest : Digest) (a : State) (c : Content) → GrowsOn a (with_content digest a c)
+content_grows : (digest : Digest) (a : State) (c : Content) → GrowsOn digest a (with_content digest a c)
 unfolding with_content
 content_grows digest a c =
     let hash = content_hash digest c in
-    added_grows a (record a { present = (hash, c) ∷ a.present }) hash (content_bytes a hash) ((content_code).spell c)
-    (record { place = refl; limits = refl; later = record { commits = adds_self a.commits; present = ((hash, c) ∷ [], refl) } })
+    added_grows digest a (record a { present = (hash, c) ∷ a.present }) hash (content_bytes a hash) ((content_code).spell c)
+    (record {
+      place = refl;
+      limits = refl;
+      later = record { commits = adds_self a.commits; present = ((hash, c) ∷ [], refl) };
+      upholds = λ u. record { main = u.main; commits = u.commits; contents = (refl, u.contents) };
+    })
 
 -- what grew from a state that grew, grew
-grew : (a b : State) (r : Result State Refusal) → Grows a b → GrowsOn b r → GrowsOn a r
-grew a b (Ok c) g h = grows_on a b c g h
-grew a b (Err why) g h = tt
+grew : (digest : Digest) (a b : State) (r : Result State Refusal) → Grows digest a b → GrowsOn digest b r → GrowsOn digest a r
+grew digest a b (Ok c) g h = grows_on digest a b c g h
+grew digest a b (Err why) g h = tt
 
-contents_grow : (digest : Digest) (a : State) (contents : List Content) → GrowsOn a (with_contents digest a contents)
-contents_grow digest a [] = grows_self a
-contents_grow digest a (c ∷ contents) = grows_bind a (with_content digest a c) _ (content_grows digest a c) (λ b g. grew a b (with_contents digest b contents) g (contents_grow digest b contents))
+contents_grow : (digest : Digest) (a : State) (contents : List Content) → GrowsOn digest a (with_contents digest a contents)
+contents_grow digest a [] = grows_self digest a
+contents_grow digest a (c ∷ contents) = grows_bind digest a (with_content digest a c) _ (content_grows digest a c) (λ b g. grew digest a b (with_contents digest b contents) g (contents_grow digest b contents))
 
-abbrev HeadGrows : State → Result (Hash × State) Refusal → Type 0
-HeadGrows a (Ok x) = Grows a x.1
-HeadGrows a (Err why) = Unit {0}
+abbrev HeadGrows : Digest → State → Result (Hash × State) Refusal → Type 0
+HeadGrows digest a (Ok x) = Grows digest a x.1
+HeadGrows digest a (Err why) = Unit {0}
 
-head_bind : (a : State) (r : Result State Refusal) (f : State → Result (Hash × State) Refusal) → GrowsOn a r → ((b : State) → Grows a b → HeadGrows a (f b)) → HeadGrows a (r >>= f)
-head_bind a (Ok b) f g h = h b g
-head_bind a (Err why) f g h = tt
+head_bind : (digest : Digest) (a : State) (r : Result State Refusal) (f : State → Result (Hash × State) Refusal) → GrowsOn digest a r → ((b : State) → Grows digest a b → HeadGrows digest a (f b)) → HeadGrows digest a (r >>= f)
+head_bind digest a (Ok b) f g h = h b g
+head_bind digest a (Err why) f g h = tt
 
-head_grew : (a b : State) (r : Result (Hash × State) Refusal) → Grows a b → HeadGrows b r → HeadGrows a r
-head_grew a b (Ok x) g h = grows_on a b x.1 g h
-head_grew a b (Err why) g h = tt
+head_grew : (digest : Digest) (a b : State) (r : Result (Hash × State) Refusal) → Grows digest a b → HeadGrows digest b r → HeadGrows digest a r
+head_grew digest a b (Ok x) g h = grows_on digest a b x.1 g h
+head_grew digest a b (Err why) g h = tt
 
-plans_grow : (digest : Digest) (moment : ℕ) (a : State) (head : Hash) (ps : List Planned) → HeadGrows a (with_planned digest moment a head ps)
-plans_grow digest moment a head [] = grows_self a
+plans_grow : (digest : Digest) (moment : ℕ) (a : State) (head : Hash) (ps : List Planned) → HeadGrows digest a (with_planned digest moment a head ps)
+plans_grow digest moment a head [] = grows_self digest a
 plans_grow digest moment a head (p ∷ ps) =
     let commit : Commit = planned_commit a.commits head moment p in
-    head_bind a (with_commit digest a commit) _ (commit_grows digest a commit) (λ b g. head_grew a b (with_planned digest moment b (commit_hash digest commit) ps) g (plans_grow digest moment b (commit_hash digest commit) ps))
+    head_bind digest a (with_commit digest a commit) _ (commit_grows digest a commit) (λ b g. head_grew digest a b (with_planned digest moment b (commit_hash digest commit) ps) g (plans_grow digest moment b (commit_hash digest commit) ps))
 
 -- ---- steps
 
-abbrev LeadsOn : State → Outcome → Type 0
-LeadsOn a (Ok x) = Leads a x.0
-LeadsOn a (Err why) = Unit {0}
+abbrev LeadsOn : Digest → State → Outcome → Type 0
+LeadsOn digest a (Ok x) = Leads digest a x.0
+LeadsOn digest a (Err why) = Unit {0}
 
-leads_bind : {A : Type 0} (a : State) (r : Result A Refusal) (f : A → Outcome) → ((x : A) → LeadsOn a (f x)) → LeadsOn a (r >>= f)
-leads_bind a (Ok x) f h = h x
-leads_bind a (Err why) f h = tt
+leads_bind : {A : Type 0} (digest : Digest) (a : State) (r : Result A Refusal) (f : A → Outcome) → ((x : A) → LeadsOn digest a (f x)) → LeadsOn digest a (r >>= f)
+leads_bind digest a (Ok x) f h = h x
+leads_bind digest a (Err why) f h = tt
 
-more_bind : (a : State) (r : Result State Refusal) (f : State → Outcome) → GrowsOn a r → ((b : State) → Grows a b → LeadsOn a (f b)) → LeadsOn a (r >>= f)
-more_bind a (Ok b) f g h = h b g
-more_bind a (Err why) f g h = tt
+-- the same, where it is known what the test found
+found_bind : {A : Type 0} (digest : Digest) (a : State) (r : Result A Refusal) (f : A → Outcome) → ((x : A) → r ≡ Ok x → LeadsOn digest a (f x)) → LeadsOn digest a (r >>= f)
+found_bind digest a (Ok x) f h = h x refl
+found_bind digest a (Err why) f h = tt
 
-made_bind : (a : State) (r : Result (Hash × State) Refusal) (f : Hash × State → Outcome) → HeadGrows a r → ((x : Hash × State) → Grows a x.1 → LeadsOn a (f x)) → LeadsOn a (r >>= f)
-made_bind a (Ok x) f g h = h x g
-made_bind a (Err why) f g h = tt
+more_bind : (digest : Digest) (a : State) (r : Result State Refusal) (f : State → Outcome) → GrowsOn digest a r → ((b : State) → Grows digest a b → LeadsOn digest a (f b)) → LeadsOn digest a (r >>= f)
+more_bind digest a (Ok b) f g h = h b g
+more_bind digest a (Err why) f g h = tt
+
+made_bind : (digest : Digest) (a : State) (r : Result (Hash × State) Refusal) (f : Hash × State → Outcome) → HeadGrows digest a r → ((x : Hash × State) → Grows digest a x.1 → LeadsOn digest a (f x)) → LeadsOn digest a (r >>= f)
+made_bind digest a (Ok x) f g h = h x g
+made_bind digest a (Err why) f g h = tt
 
 -- one entry more, and other references
-next : (a b : State) (references : List Reference) → Grows a b → Leads a (record b { place = b.place + 1; references = references })
-next a b references g = inr (record { place = ap (λ (n : ℕ). n + 1) g.place; limits = g.limits; later = record { commits = g.later.commits; present = g.later.present } })
+next : (digest : Digest) (a b : State) (references : List Reference) → Grows digest a b → (HasMain b.references → HasMain references) → Leads digest a (record b { place = b.place + 1; references = references })
+next digest a b references g main = inr (record {
+  place = ap (λ (n : ℕ). n + 1) g.place;
+  limits = g.limits;
+  later = record { commits = g.later.commits; present = g.later.present };
+  upholds = λ u. let v = g.upholds u in record { main = main v.main; commits = v.commits; contents = v.contents };
+})
 
-create_leads : (digest : Digest) (a : State) (c : Create) → LeadsOn a (step_create digest a c)
+not_true : (b : Bool) → not b ≡ true → b ≡ false
+not_true true e = absurd cc
+not_true false e = refl
+
+create_leads : (digest : Digest) (a : State) (c : Create) → LeadsOn digest a (step_create digest a c)
 unfolding step_create
 create_leads digest a c =
-    leads_bind a (perhaps_named a c.source.name) _ (λ source.
-    leads_bind a (needs_source_kind c.source_kind source) _ (λ u.
-    leads_bind a (pointed digest a source c.source.hash) _ (λ hash.
-    leads_bind a (needs_new_name a c.name) _ (λ u.
-    leads_bind a (needs_room (length a.references) a.limits.references quantities.References) _ (λ u.
-    leads_bind a (needs_log a) _ (λ u.
-    leads_bind a (needs_contents a hash) _ (λ u. next a a _ (grows_self a))))))))
+    leads_bind digest a (perhaps_named a c.source.name) _ (λ source.
+    leads_bind digest a (needs_source_kind c.source_kind source) _ (λ u.
+    leads_bind digest a (pointed digest a source c.source.hash) _ (λ hash.
+    found_bind digest a (needs_new_name a c.name) _ (λ new fresh.
+    leads_bind digest a (needs_room (length a.references) a.limits.references quantities.References) _ (λ u.
+    leads_bind digest a (needs_log a) _ (λ u.
+    leads_bind digest a (needs_contents a hash) _ (λ u. next digest a a _ (grows_self digest a) (main_with a.references _ (passed _ _ new fresh)))))))))
 
-assign_leads : (digest : Digest) (a : State) (c : Assign) → LeadsOn a (step_assign digest a c)
+assign_leads : (digest : Digest) (a : State) (c : Assign) → LeadsOn digest a (step_assign digest a c)
 unfolding step_assign
 assign_leads digest a c =
-    leads_bind a (named a c.name) _ (λ reference.
-    leads_bind a (perhaps_named a c.source.name) _ (λ source.
-    leads_bind a (needs_kind c.kind reference) _ (λ u.
-    leads_bind a (needs_source_kind c.source_kind source) _ (λ u.
-    leads_bind a (pointed digest a source c.source.hash) _ (λ hash.
-    leads_bind a (needs_log a) _ (λ u.
-    leads_bind a (needs_head c.expected reference.head) _ (λ u.
-    leads_bind a (needs_contents a hash) _ (λ u. next a a _ (grows_self a)))))))))
+    found_bind digest a (named a c.name) _ (λ reference is.
+    leads_bind digest a (perhaps_named a c.source.name) _ (λ source.
+    leads_bind digest a (needs_kind c.kind reference) _ (λ u.
+    leads_bind digest a (needs_source_kind c.source_kind source) _ (λ u.
+    leads_bind digest a (pointed digest a source c.source.hash) _ (λ hash.
+    leads_bind digest a (needs_log a) _ (λ u.
+    leads_bind digest a (needs_head c.expected reference.head) _ (λ u.
+    leads_bind digest a (needs_contents a hash) _ (λ u. next digest a a _ (grows_self digest a) (main_assigned a c.name reference _ is refl refl)))))))))
 
-delete_leads : (a : State) (c : Delete) → LeadsOn a (step_delete a c)
+delete_leads : (digest : Digest) (a : State) (c : Delete) → LeadsOn digest a (step_delete a c)
 unfolding step_delete
-delete_leads a c =
-    leads_bind a (named a c.name) _ (λ reference.
-    leads_bind a (needs_other_than_default c.name) _ (λ u.
-    leads_bind a (needs_kind c.kind reference) _ (λ u.
-    leads_bind a (needs_log a) _ (λ u.
-    leads_bind a (needs_head c.expected reference.head) _ (λ u. next a a _ (grows_self a))))))
+delete_leads digest a c =
+    leads_bind digest a (named a c.name) _ (λ reference.
+    found_bind digest a (needs_other_than_default c.name) _ (λ other test.
+    leads_bind digest a (needs_kind c.kind reference) _ (λ u.
+    leads_bind digest a (needs_log a) _ (λ u.
+    leads_bind digest a (needs_head c.expected reference.head) _ (λ u. next digest a a _ (grows_self digest a) (main_without a.references c.name (not_true _ (passed _ _ other test))))))))
 
-commit_leads : (digest : Digest) (a : State) (c : CommitRequest) (draft moment : ℕ) → LeadsOn a (step_commit digest a c draft moment)
+commit_leads : (digest : Digest) (a : State) (c : CommitRequest) (draft moment : ℕ) → LeadsOn digest a (step_commit digest a c draft moment)
 unfolding step_commit
 commit_leads digest a c draft moment =
-    leads_bind a (commit_opening digest a c) _ (λ (branch, expected).
+    found_bind digest a (commit_opening digest a c) _ (λ (branch, expected) opened.
     let contents : List Content = filter_map (λ (x : Op × Option Content). x.1) (given_ops digest draft c) in
     let ops : List Op = map (λ (x : Op × Option Content). x.0) (given_ops digest draft c) in
     let commit : Commit = request_commit a branch.head moment c ops in
-    leads_bind a (needs_commit_room a (entries a.commits branch.head) (puts ops)) _ (λ u.
-    leads_bind a (or_conflicts (judge (entries a.commits expected) (entries a.commits branch.head) ops)) _ (λ u.
-    more_bind a (with_contents digest a contents) _ (contents_grow digest a contents) (λ held g.
-    more_bind a (with_commit digest held commit) _ (grew a held (with_commit digest held commit) g (commit_grows digest held commit)) (λ more grown. next a more _ grown)))))
+    leads_bind digest a (needs_commit_room a (entries a.commits branch.head) (puts ops)) _ (λ u.
+    leads_bind digest a (or_conflicts (judge (entries a.commits expected) (entries a.commits branch.head) ops)) _ (λ u.
+    more_bind digest a (with_contents digest a contents) _ (contents_grow digest a contents) (λ held g.
+    more_bind digest a (with_commit digest held commit) _ (grew digest a held (with_commit digest held commit) g (commit_grows digest held commit)) (λ more grown. next digest a more _ grown (main_moved more.references _ (λ same. commit_branch digest a c (branch, expected) opened)))))))
 
-choice_leads : (a : State) (b : Bool) (x y : State × Reply) → Leads a x.0 → Leads a y.0 → Leads a (if b then x else y).0
-choice_leads a true x y p q = p
-choice_leads a false x y p q = q
+choice_leads : (digest : Digest) (a : State) (b : Bool) (x y : State × Reply) → Leads digest a x.0 → Leads digest a y.0 → Leads digest a (if b then x else y).0
+choice_leads digest a true x y p q = p
+choice_leads digest a false x y p q = q
 
-applied_leads : (a : State) (ancestor : Option Hash) (branch : Reference) (ps : List Planned) (made : Hash × State) (tried : Bool) → Grows a made.1 → Leads a (applied a ancestor branch ps made tried).0
-applied_leads a ancestor branch ps made tried g = choice_leads a (tried || not (list_any (λ p. has_changes p.plan.ops) ps)) _ _ (inl refl) (next a made.1 _ g)
+applied_leads : (digest : Digest) (a : State) (ancestor : Option Hash) (branch : Reference) (ps : List Planned) (made : Hash × State) (tried : Bool) → branch.kind ≡ Branch → Grows digest a made.1 → Leads digest a (applied a ancestor branch ps made tried).0
+applied_leads digest a ancestor branch ps made tried kind g =
+    choice_leads digest a (tried || not (list_any (λ p. has_changes p.plan.ops) ps)) _ _ (inl refl) (next digest a made.1 _ g (main_moved made.1.references _ (λ same. kind)))
 
-plans_lead : (digest : Digest) (a : State) (ancestor : Option Hash) (branch : Reference) (ps : List Planned) (tried : Bool) (opened moment : ℕ) → LeadsOn a (step_applied digest a ancestor branch ps tried opened moment)
+plans_lead : (digest : Digest) (a : State) (ancestor : Option Hash) (branch : Reference) (ps : List Planned) (tried : Bool) (opened moment : ℕ) → branch.kind ≡ Branch → LeadsOn digest a (step_applied digest a ancestor branch ps tried opened moment)
 unfolding step_applied
-plans_lead digest a ancestor branch ps tried opened moment =
-    leads_bind a (needs_set_contents a ps opened) _ (λ u.
-    made_bind a (with_planned digest moment a branch.head (commits_made ps)) _ (plans_grow digest moment a branch.head (commits_made ps)) (λ made g. applied_leads a ancestor branch ps made tried g))
+plans_lead digest a ancestor branch ps tried opened moment kind =
+    leads_bind digest a (needs_set_contents a ps opened) _ (λ u.
+    made_bind digest a (with_planned digest moment a branch.head (commits_made ps)) _ (plans_grow digest moment a branch.head (commits_made ps)) (λ made g. applied_leads digest a ancestor branch ps made tried kind g))
 
-clash_leads : (a : State) (b : Bool) (reply : Reply) (why : Refusal) → LeadsOn a (if b then Ok (a, reply) else Err why)
-clash_leads a true reply why = inl refl
-clash_leads a false reply why = tt
+clash_leads : (digest : Digest) (a : State) (b : Bool) (reply : Reply) (why : Refusal) → LeadsOn digest a (if b then Ok (a, reply) else Err why)
+clash_leads digest a true reply why = inl refl
+clash_leads digest a false reply why = tt
 
-unless_leads : (digest : Digest) (a : State) (ancestor : Option Hash) (branch : Reference) (ps : List Planned) (asked : Asked) (opened moment : ℕ) (conflicts : List Conflict) → LeadsOn a (step_unless_conflicts digest a ancestor branch ps asked opened moment conflicts)
-unless_leads digest a ancestor branch ps asked opened moment [] = plans_lead digest a ancestor branch ps asked.dry_run opened moment
-unless_leads digest a ancestor branch ps asked opened moment (x ∷ conflicts) = clash_leads a asked.conflicts_as_result _ (Conflicts (x ∷ conflicts))
+unless_leads : (digest : Digest) (a : State) (ancestor : Option Hash) (branch : Reference) (ps : List Planned) (asked : Asked) (opened moment : ℕ) (conflicts : List Conflict) → branch.kind ≡ Branch → LeadsOn digest a (step_unless_conflicts digest a ancestor branch ps asked opened moment conflicts)
+unless_leads digest a ancestor branch ps asked opened moment [] kind = plans_lead digest a ancestor branch ps asked.dry_run opened moment kind
+unless_leads digest a ancestor branch ps asked opened moment (x ∷ conflicts) kind = clash_leads digest a asked.conflicts_as_result _ (Conflicts (x ∷ conflicts))
 
-planned_leads : (digest : Digest) (a : State) (ancestor : Option Hash) (branch : Reference) (ps : List Planned) (asked : Asked) (opened moment : ℕ) → LeadsOn a (step_planned digest a ancestor branch ps asked opened moment)
-planned_leads digest a ancestor branch ps asked opened moment =
-    leads_bind a (needs_planned_room a (entries a.commits branch.head) ps) _ (λ u. unless_leads digest a ancestor branch ps asked opened moment (all_conflicts ps))
+planned_leads : (digest : Digest) (a : State) (ancestor : Option Hash) (branch : Reference) (ps : List Planned) (asked : Asked) (opened moment : ℕ) → branch.kind ≡ Branch → LeadsOn digest a (step_planned digest a ancestor branch ps asked opened moment)
+planned_leads digest a ancestor branch ps asked opened moment kind =
+    leads_bind digest a (needs_planned_room a (entries a.commits branch.head) ps) _ (λ u. unless_leads digest a ancestor branch ps asked opened moment (all_conflicts ps) kind)
 
-merge_leads : (digest : Digest) (a : State) (m : Merge) (opened moment : ℕ) → LeadsOn a (step_merge digest a m opened moment)
+merge_leads : (digest : Digest) (a : State) (m : Merge) (opened moment : ℕ) → LeadsOn digest a (step_merge digest a m opened moment)
 unfolding step_merge
 merge_leads digest a m opened moment =
-    leads_bind a (merge_opening digest a m) _ (λ (branch, source).
+    found_bind digest a (merge_opening digest a m) _ (λ (branch, source) is.
     let ancestor = base a.commits source branch.head in
-    planned_leads digest a (Some ancestor) branch (merge_planned a m ancestor source branch.head ∷ []) (record { dry_run = m.dry_run; conflicts_as_result = m.conflicts_as_result }) opened moment)
+    planned_leads digest a (Some ancestor) branch (merge_planned a m ancestor source branch.head ∷ []) (record { dry_run = m.dry_run; conflicts_as_result = m.conflicts_as_result }) opened moment (merge_branch digest a m (branch, source) is))
 
-transplant_leads : (digest : Digest) (a : State) (t : Transplant) (opened moment : ℕ) → LeadsOn a (step_transplant digest a t opened moment)
+transplant_leads : (digest : Digest) (a : State) (t : Transplant) (opened moment : ℕ) → LeadsOn digest a (step_transplant digest a t opened moment)
 unfolding step_transplant
 transplant_leads digest a t opened moment =
-    leads_bind a (transplant_opening digest a t) _ (λ branch.
-    planned_leads digest a None branch (transplant_planned a t branch.head) (record { dry_run = t.dry_run; conflicts_as_result = t.conflicts_as_result }) opened moment)
+    found_bind digest a (transplant_opening digest a t) _ (λ branch is.
+    planned_leads digest a None branch (transplant_planned a t branch.head) (record { dry_run = t.dry_run; conflicts_as_result = t.conflicts_as_result }) opened moment (transplant_branch digest a t branch is))
 
-step_leads : (digest : Digest) (a : State) (command : Command) (turn : Turn) → LeadsOn a (step digest a command turn)
+step_leads : (digest : Digest) (a : State) (command : Command) (turn : Turn) → LeadsOn digest a (step digest a command turn)
 step_leads digest a (commands.Create c) turn = create_leads digest a c
 step_leads digest a (commands.Assign c) turn = assign_leads digest a c
-step_leads digest a (commands.Delete c) turn = delete_leads a c
+step_leads digest a (commands.Delete c) turn = delete_leads digest a c
 step_leads digest a (commands.Commit c) turn = commit_leads digest a c turn.draft turn.moment
 step_leads digest a (commands.Merge m) turn = merge_leads digest a m turn.opened turn.moment
 step_leads digest a (commands.Transplant t) turn = transplant_leads digest a t turn.opened turn.moment
@@ -250,34 +280,34 @@ step_leads digest a (commands.Transplant t) turn = transplant_leads digest a t t
 -- ---- what a step comes to
 
 -- the state itself, or one that follows it
-pub led_to : (digest : Digest) (state : State) (command : Command) (turn : Turn) (after : State) (reply : Reply) → step digest state command turn ≡ Ok (after, reply) → Leads state after
-led_to digest state command turn after reply e = subst (LeadsOn state) e (step_leads digest state command turn)
+pub led_to : (digest : Digest) (state : State) (command : Command) (turn : Turn) (after : State) (reply : Reply) → step digest state command turn ≡ Ok (after, reply) → Leads digest state after
+led_to digest state command turn after reply e = subst (LeadsOn digest state) e (step_leads digest state command turn)
 
-lead_later : (a b : State) → Leads a b → IsLater a b
-lead_later a b leads = ⊎_elim (λ (same : b ≡ a). subst (IsLater a) (sym same) (later_self a)) (λ (follows : Follows a b). follows.later) leads
+lead_later : (digest : Digest) (a b : State) → Leads digest a b → IsLater a b
+lead_later digest a b leads = ⊎_elim (λ (same : b ≡ a). subst (IsLater a) (sym same) (later_self a)) (λ (follows : Follows digest a b). follows.later) leads
 
 -- nothing is taken away by a step
 pub step_later : (digest : Digest) (state : State) (command : Command) (turn : Turn) (after : State) (reply : Reply) → step digest state command turn ≡ Ok (after, reply) → IsLater state after
-step_later digest state command turn after reply e = lead_later state after (led_to digest state command turn after reply e)
+step_later digest state command turn after reply e = lead_later digest state after (led_to digest state command turn after reply e)
 
 -- a state whose place rose follows
-risen : (a b : State) → Leads a b → nat_lt a.place b.place ≡ true → Follows a b
-risen a b (inl same) rose =
+risen : (digest : Digest) (a b : State) → Leads digest a b → nat_lt a.place b.place ≡ true → Follows digest a b
+risen digest a b (inl same) rose =
     let up : a.place < b.place = ltb-true a.place b.place rose in
     let stays : b.place ≡ a.place = ap (λ (s : State). s.place) same in
     absurd (omega arith)
-risen a b (inr follows) rose = follows
+risen digest a b (inr follows) rose = follows
 
 -- the place of an accepted step is the next one
 pub logged_place : (digest : Digest) (state : State) (command : Command) (turn : Turn) (after : State) (reply : Reply) → step digest state command turn ≡ Ok (after, reply) → nat_lt state.place after.place ≡ true → after.place ≡ state.place + 1
-logged_place digest state command turn after reply e rose = (risen state after (led_to digest state command turn after reply e) rose).place
+logged_place digest state command turn after reply e rose = (risen digest state after (led_to digest state command turn after reply e) rose).place
 
 -- ---- what the call of an entry comes to
 
 -- its state is led to, and where it logs just this entry, it follows
 record Comes (digest : Digest) (a : State) (entry : LogEntry) (c : Called) : Type 0 where
-  leads : Leads a c.state
-  follows : is_just digest entry c.logged ≡ true → Follows a c.state
+  leads : Leads digest a c.state
+  follows : is_just digest entry c.logged ≡ true → Follows digest a c.state
 
 nothing_comes : (digest : Digest) (a : State) (entry : LogEntry) (c : Called) → c.state ≡ a → c.logged ≡ [] → Comes digest a entry c
 nothing_comes digest a entry c same none = record {
@@ -289,10 +319,10 @@ choice_comes : (digest : Digest) (a : State) (entry : LogEntry) (b : Bool) (x y 
 choice_comes digest a entry true x y p q = p refl
 choice_comes digest a entry false x y p q = q
 
-outcome_comes : (digest : Digest) (a : State) (entry : LogEntry) (draft : ℕ) (command : Command) (turn : Turn) (outcome : Outcome) → LeadsOn a outcome → Comes digest a entry (stepped digest 0 a draft command turn outcome)
+outcome_comes : (digest : Digest) (a : State) (entry : LogEntry) (draft : ℕ) (command : Command) (turn : Turn) (outcome : Outcome) → LeadsOn digest a outcome → Comes digest a entry (stepped digest 0 a draft command turn outcome)
 outcome_comes digest a entry draft command turn (Err why) leads = nothing_comes digest a entry _ refl refl
 outcome_comes digest a entry draft command turn (Ok (after, reply)) leads =
-    choice_comes digest a entry (nat_lt a.place after.place) _ _ (λ rose. record { leads = leads; follows = λ _. risen a after leads rose }) (nothing_comes digest a entry _ refl refl)
+    choice_comes digest a entry (nat_lt a.place after.place) _ _ (λ rose. record { leads = leads; follows = λ _. risen digest a after leads rose }) (nothing_comes digest a entry _ refl refl)
 
 tested_comes : (digest : Digest) (book : Book) (entry : LogEntry) (tested : Tested) → Comes digest book.state entry (replayed_by digest book entry tested)
 tested_comes digest book entry (Err why) = nothing_comes digest book.state entry _ refl refl
@@ -304,15 +334,20 @@ unfolding replayed_call
 call_comes digest book entry = tested_comes digest book entry (opening digest book.state entry.command)
 
 -- whether or not the entry is legal
-pub replayed_leads : (digest : Digest) (book : Book) (entry : LogEntry) → Leads book.state (replayed_call digest book entry).state
+pub replayed_leads : (digest : Digest) (book : Book) (entry : LogEntry) → Leads digest book.state (replayed_call digest book entry).state
 replayed_leads digest book entry = (call_comes digest book entry).leads
 
 pub replayed_later : (digest : Digest) (book : Book) (entry : LogEntry) → IsLater book.state (replayed_call digest book entry).state
-replayed_later digest book entry = lead_later book.state (replayed_call digest book entry).state (replayed_leads digest book entry)
+replayed_later digest book entry = lead_later digest book.state (replayed_call digest book entry).state (replayed_leads digest book entry)
+
+pub replayed_upholds : (digest : Digest) (book : Book) (entry : LogEntry) → Upholds digest book.state → Upholds digest (replayed_call digest book entry).state
+replayed_upholds digest book entry upheld =
+    ⊎_elim (λ (same : (replayed_call digest book entry).state ≡ book.state). subst (Upholds digest) (sym same) upheld)
+    (λ (follows : Follows digest book.state (replayed_call digest book entry).state). follows.upholds upheld) (replayed_leads digest book entry)
 
 pub replayed_limits : (digest : Digest) (book : Book) (entry : LogEntry) → (replayed_call digest book entry).state.limits ≡ book.state.limits
 replayed_limits digest book entry =
-    ⊎_elim (λ (same : (replayed_call digest book entry).state ≡ book.state). ap (λ (s : State). s.limits) same) (λ (follows : Follows book.state (replayed_call digest book entry).state). follows.limits) (replayed_leads digest book entry)
+    ⊎_elim (λ (same : (replayed_call digest book entry).state ≡ book.state). ap (λ (s : State). s.limits) same) (λ (follows : Follows digest book.state (replayed_call digest book entry).state). follows.limits) (replayed_leads digest book entry)
 
 -- the call of a legal entry logs just this entry
 just_logged : (digest : Digest) (book : Book) (entry : LogEntry) → is_legal digest book entry ≡ true → is_just digest entry (replayed_call digest book entry).logged ≡ true

@@ -5,3 +5,5 @@ pub mod GivenLaws
 pub mod LeadingLaws
 pub mod AcceptedLaws
 pub mod HistoryLaws
+pub mod Upheld
+pub mod MainLaws

@@ -1,13 +1,14 @@
 -- Books that their logs lead to: what a call brings leads them on.
-use Rattle.std.proofs.Common.{◌≡◌, ◌≤◌, ◌<◌, ℕ, ◌+◌, max, List, [], ◌∷◌, ◌++◌, reverse, Some, Ok, Err, Bool, true, false, not, ◌&&◌, if◌then◌else◌, nat_eq, nat_lt, refl, sym, ap, ◌∙◌, subst, arith, ne_eqb}
+use Rattle.std.proofs.Common.{◌≡◌, ◌≤◌, ◌<◌, ℕ, max, List, [], ◌∷◌, ◌++◌, reverse, Some, Ok, Err, Bool, true, false, not, ◌&&◌, if◌then◌else◌, nat_eq, nat_lt, refl, sym, ap, ◌∙◌, subst, arith, ne_eqb}
 use Rattle.std.proofs.lemmas.List.{append-nil, reverse-append, reverse-reverse}
 use Rattle.std.proofs.Math.Nat.{le-max_left, le-max_right}
 use Rattle.cat_codes.specs.ListLaws.{and_true}
 use Rattle.sha2.specs.Sha256.{sha256}
 use Rattle.cat_checks.specs.AcceptedLaws.{accepted_is_legal}
 use Rattle.cat_checks.specs.Histories.{AreLegal, IsLegalFrom, begun, book_after, book_at}
-use Rattle.cat_checks.specs.HistoryLaws.{AreAtMost, at_most_more, book_more, legal_more, limits_stay, log_is}
+use Rattle.cat_checks.specs.HistoryLaws.{AreAtMost, at_most_more, book_more, books_uphold, first_upholds, legal_more, limits_stay, log_is}
 use Rattle.cat_checks.specs.Legal.{draft_after, draft_is_new, has_its_draft, is_just, is_legal, replayed_by, replayed_call, turn_of}
+use Rattle.cat_checks.specs.Upheld.{Upholds}
 use Rattle.cat_model.specs.declared.command.Command.{Command}
 use Rattle.cat_model.specs.declared.limits.Limits.{Limits}
 use Rattle.cat_model.specs.declared.log_entry.LogEntry.{LogEntry}
@@ -273,3 +274,10 @@ reopened_on limits faults book e is legal =
     let n : max book.draft e.draft ≡ (replayed_call sha256 book e).draft = sym r.1 in
     reopened_by limits faults e.draft book is (replayed_call sha256 book e).logged (replayed_call sha256 book e).state (replayed_call sha256 book e).draft
     (subst (λ (m : ℕ). book.draft ≤ m) n (le-max_left book.draft e.draft)) (subst (λ (m : ℕ). e.draft ≤ m) n (le-max_right book.draft e.draft)) r.0
+
+-- ---- what its state upholds
+
+pub state_upholds : (book : Book) (faults : ℕ) (left_open : List OpenDraft) → IsSound book faults left_open → Upholds sha256 book.state
+state_upholds book faults left_open sound =
+    subst (Upholds sha256) sound.led
+    (books_uphold sha256 (begun (record { state = first_state sha256 book.state.limits; draft = 0; faults = faults })) (reverse book.log) (first_upholds sha256 book.state.limits))

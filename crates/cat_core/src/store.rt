@@ -4,6 +4,7 @@ ghost use Rattle.std.specs.Prelude.{ℕ, ◌≡◌, ◌≤◌, [], Some, None, l
 ghost use Rattle.std.specs.Option.{option_map};
 ghost use Rattle.sha2.specs.Sha256.{sha256};
 ghost use Rattle.cat_checks.specs.Histories.{IsLegalFrom, book_at};
+ghost use Rattle.cat_checks.specs.Upheld.{Upholds};
 ghost use Rattle.cat_model.specs.Book.{Reads, first_book};
 ghost use Rattle.cat_model.specs.Chain.{entries};
 ghost use Rattle.cat_model.specs.Drafts.{nothing_open};
@@ -170,10 +171,12 @@ impl<K: Keeper> Store<K> {
         self.ledger.map_is_well_formed(hash)
     }
 
-    /// What holds of the log: each entry is legal where it stands, and it leads to the state.
+    /// What holds of the log: each entry is legal where it stands, and it leads to the state, in
+    /// which `main` is a branch, and each commit and each content stands under its hash.
     pub fn history(&self)
         ensures legal { IsLegalFrom (opened_of self.now) (log_of self.now) }
         ensures led { (book_at (opened_of self.now) (log_of self.now)).state ≡ self.now.book.state }
+        ensures upheld { Upholds sha256 self.now.book.state }
         ensures draft { self.now.mark.draft ≡ self.now.book.draft }
     {
         let _ = &self.fallen;
