@@ -1,15 +1,18 @@
 -- The turn of a request that is answered.
-use Rattle.std.proofs.Common.{◌≡◌, ℕ, ◌==◌, List, ◌++◌, ◌||◌, true, Option, Result, refl, sym, ◌∙◌, ap, inr}
+use Rattle.std.proofs.Common.{◌≡◌, ℕ, ◌==◌, List, ◌++◌, take, ◌||◌, true, false, Option, Some, Result, refl, sym, ◌∙◌, ap, subst, inl, inr}
 use Rattle.cat_model.specs.declared.refusal.Refused.{Refused}
 use Rattle.cat_model.specs.declared.reply.Told.{Told}
+use Rattle.std.specs.Io.KnownBytes.{Appends}
 use Rattle.cat_http.specs.Message.{Message}
+use Rattle.cat_http.specs.Writing.{AppendsFront}
 use Rattle.cat_desk.specs.Pass.{DeskId}
 use Rattle.cat_desk.specs.declared.pass.Pass.{Pass}
 use Rattle.cat_cli.specs.declared.ending.Session.TheVariants as ends
 use Rattle.cat_cli.specs.Replies.{is_head, must_be_told, said_bytes}
 use Rattle.cat_cli.specs.Sessions.{Readings, Point, Turn, Answered, IsAt, asks_to_close}
-use Rattle.cat_cli.specs.Answers.{SaysTo, RepliesTo, IsAsked, LeavesAt}
+use Rattle.cat_cli.specs.Answers.{SaysTo, RepliesTo, IsAsked, IsAnswered, LeavesAt}
 use Rattle.cat_cli.proofs.Points.{Tells, tells, turn_of, answered_by}
+use Rattle.cat_cli.proofs.Told.{appended}
 
 module _ (desk : DeskId) where
   -- the turn whose reply is these bytes
@@ -37,6 +40,54 @@ module _ (desk : DeskId) where
           pass_at = said.3;
         },
       )
+
+  -- what the sink holds after the reply, or a front of it
+  module _ (k : Readings) (c : Point) (left : ℕ) (m : Message) (rest bytes : List ℕ) (pass pass' : Pass) (ahead ahead' : Option Readings) (held held' : Option (List ℕ)) (told : Result Told Refused)
+      (asked : IsAsked desk k c left m rest pass ahead held) (says : SaysTo desk m pass ahead told pass' ahead') (replies : RepliesTo (asks_to_close m || left == 0) (is_head m) told bytes) where
+    -- the request doesn't ask for the end
+    pub goes_on : asks_to_close m ≡ false → Appends held held' bytes → (t : Turn) × IsAnswered desk k c left rest t pass' ahead' held'
+    goes_on asks written =
+        let t = made k c left m rest bytes pass pass' ahead ahead' held told asked says replies in (
+          t.0,
+          record {
+            answered = t.1.answered;
+            goes_on = subst (λ (n : Message). asks_to_close n ≡ false) (sym t.1.message_is) asks;
+            left_is = t.1.left_is;
+            bytes_are = t.1.bytes_are;
+            pass_at = t.1.pass_at;
+            held_is = appended held held' c.written bytes asked.held_is written ∙ ap Some (sym t.1.written_is);
+          },
+        )
+
+    -- it does
+    pub closed : asks_to_close m ≡ true → Appends held held' bytes → LeavesAt desk k c ends.Closed pass' ahead' held'
+    closed asks written =
+        let t = made k c left m rest bytes pass pass' ahead ahead' held told asked says replies in (
+          c.written ++ bytes,
+          appended held held' c.written bytes asked.held_is written,
+          t.0.after.standing,
+          inr (
+            t.0,
+            record {
+              answered = t.1.answered;
+              asks = subst (λ (n : Message). asks_to_close n ≡ true) (sym t.1.message_is) asks;
+              all = sym t.1.written_is;
+              leaves = refl;
+            },
+          ),
+          t.1.pass_at,
+        )
+
+    -- a write failed
+    pub cut : AppendsFront held held' bytes → LeavesAt desk k c ends.WriteFault pass' ahead' held'
+    cut front =
+        let t = made k c left m rest bytes pass pass' ahead ahead' held told asked says replies in (
+          c.written ++ take front.0 bytes,
+          appended held held' c.written (take front.0 bytes) asked.held_is front.1,
+          t.0.after.standing,
+          (bytes, inl (t.0, t.1.answered, t.1.written_is, refl), front.0, refl),
+          t.1.pass_at,
+        )
 
   -- a request was answered by what must be told, and no memory is left for its text
   pub untold : (k : Readings) (c : Point) (left : ℕ) (m : Message) (rest : List ℕ) (pass pass' : Pass) (ahead ahead' : Option Readings) (held : Option (List ℕ)) (told : Result Told Refused)

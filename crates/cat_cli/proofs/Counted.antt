@@ -15,9 +15,9 @@ use Rattle.cat_cli.proofs.Opened.{begins_at, disk_rose, disk_stays, left_at, unr
 use Rattle.cat_cli.proofs.Told.{some_is, not_none}
 
 stands_both : (told after : Option (List ℕ)) (payloads : List (List ℕ)) → IfSome told (λ bytes. recovered bytes ≡ Ok payloads) → IfSome after (λ bytes. recovered bytes ≡ Ok payloads) → StandsFor told after
-stands_both None after payloads a b before now e f some = absurd (not_none before e)
-stands_both (Some x) None payloads a b before now e f some = absurd (not_none now f)
-stands_both (Some x) (Some y) payloads a b before now e f some = ap recovered (sym (some_is y now f)) ∙ b ∙ sym a ∙ ap recovered (some_is x before e)
+stands_both None after payloads a b before now e f = absurd (not_none before e)
+stands_both (Some x) None payloads a b before now e f = absurd (not_none now f)
+stands_both (Some x) (Some y) payloads a b before now e f = inl (ap recovered (sym (some_is y now f)) ∙ b ∙ sym a ∙ ap recovered (some_is x before e))
 
 module _ {D K : Type 0} (told : D → Option (List ℕ)) (faults : D → ℕ) (down : K → Option ℕ) (in_flight : K → Option (List ℕ)) (kept_faults : K → ℕ)
     (place mid place' : Option (Option D)) (count : ℕ) (store : Stored K) (held after : Option (List ℕ)) (before now : ℕ)
@@ -93,6 +93,6 @@ module _ {D K : Type 0} (told : D → Option (List ℕ)) (faults : D → ℕ) (d
     checks_none w status is told e = let x = tells_none w status is told e in (x.0, x.1, inr x.2)
 
     -- where it ran out before a session on the catalogue began
-    pub says_none : (clock : Readings) (to_come : Option Readings) (b w : List ℕ) (status : Status) → status ≡ statuses.NoMemory → TellsKnown no_memory_line held after before now → to_come ≡ Some clock → held ≡ Some w
-        → (h : List ℕ) × (after ≡ Some h) × Says (others ⊎ DiskRose faults place place') (DiskStays faults place place') clock to_come b (seen w h) status
-    says_none clock to_come b w status is told still e = let x = tells_none w status is told e in (x.0, x.1, inr (x.2, still))
+    pub says_none : (to : ℕ → Type 0) (clock : Readings) (to_come : Option Readings) (b w : List ℕ) (status : Status) → status ≡ statuses.NoMemory → TellsKnown no_memory_line held after before now → to_come ≡ Some clock → held ≡ Some w
+        → (h : List ℕ) × (after ≡ Some h) × Says (others ⊎ DiskRose faults place place') to (DiskStays faults place place') clock to_come b (seen w h) status
+    says_none to clock to_come b w status is told still e = let x = tells_none w status is told e in (x.0, x.1, inr (x.2, still))

@@ -1,7 +1,6 @@
 -- What a session on a pass leaves of the store that its desk held.
-use Rattle.std.proofs.Common.{◌≡◌, ℕ, List, Option, Some, None, refl, sym, ◌∙◌, ap}
+use Rattle.std.proofs.Common.{◌≡◌, ℕ, List, Option, Some, None, refl, sym, ◌∙◌, ap, subst}
 use Rattle.std.specs.Prelude.{option_map}
-use Rattle.cat_io.specs.Causes.{Rose}
 use Rattle.cat_model.specs.Book.{Book}
 use Rattle.cat_model.specs.Mark.{FailedAppend, Mark}
 use Rattle.cat_model.specs.Turns.{Opened}
@@ -39,11 +38,14 @@ payloads f fallen is = sym (payloads_failed f) ∙ ap (option_map (λ (x : ℕ �
 not_none : (count : ℕ) → ◌≡◌ {A = Option ℕ} None (Some count) → ⊥
 not_none count e = cc
 
--- where the mark has a fault, the count of faults rose
-pub rose : (down : Option ℕ) (fault : Option FailedAppend) (before now : ℕ) → down ≡ option_map (λ (x : FailedAppend). x.count) fault → ((x : FailedAppend) → fault ≡ Some x → Rose before now)
-    → (count : ℕ) → down ≡ Some count → Rose before now
-rose down None before now is rises count fell = absurd (not_none count (sym is ∙ fell))
-rose down (Some x) before now is rises count fell = rises x refl
+some_is : (a b : ℕ) → ◌≡◌ {A = Option ℕ} (Some a) (Some b) → a ≡ b
+some_is a b e = cc
+
+-- what is so of the count of the mark's fault is so of the count at which the keeper is down
+pub fallen_at : (P : ℕ → Type 0) (down : Option ℕ) (fault : Option FailedAppend) → down ≡ option_map (λ (x : FailedAppend). x.count) fault → ((x : FailedAppend) → fault ≡ Some x → P x.count)
+    → (count : ℕ) → down ≡ Some count → P count
+fallen_at P down None is holds count fell = absurd (not_none count (sym is ∙ fell))
+fallen_at P down (Some x) is holds count fell = subst P (some_is x.count count (sym is ∙ fell)) (holds x refl)
 
 -- the count of faults at which the store was opened is as it was
 pub began_on : {K : Type 0} (old new : Stored K) (opened : Opened) → opened ≡ opened_of old → opened_of new ≡ opened → new.began ≡ old.began

@@ -12,7 +12,7 @@ use Rattle.cat_ledger.specs.Kept.{spelling, spellings}
 use Rattle.cat_core.specs.Opening.{IsIllegalAt, IsLedTo}
 use Rattle.cat_journal.specs.declared.fault.OpenFault.{OpenFault}
 use Rattle.cat_journal.specs.declared.fault.OpenFault.TheVariants as faults
-use Rattle.cat_journal.specs.Frames.{recovered}
+use Rattle.cat_journal.specs.Frames.{new_journal, recovered}
 use Rattle.cat_journal.specs.Held.{outcome, outcome_of}
 use Rattle.cat_journal.specs.Reading.{IsFaultOf}
 use Rattle.cat_keeper.specs.Keeping.{WithOrWithout}
@@ -23,7 +23,7 @@ use Rattle.cat_cli.specs.declared.status.Status.{Status}
 use Rattle.cat_cli.specs.declared.status.Status.TheVariants as statuses
 use Rattle.cat_cli.specs.declared.unopened.Unopened.{Unopened}
 use Rattle.cat_cli.specs.declared.unopened.Unopened.TheVariants as whys
-use Rattle.cat_cli.specs.Journals.{Begins, DiskRose, DiskStays, Holds, IsBack, StandsFor, Stays, told_at}
+use Rattle.cat_cli.specs.Journals.{Begins, DiskRose, DiskRoseTo, DiskStays, Holds, IsBack, StandsFor, Stays, told_at}
 use Rattle.cat_cli.specs.Opening.{FaultKnown, FaultTold, IsReason, IsStored, Refused, RefusedKnown, by_journal, by_store}
 use Rattle.cat_cli.specs.Runs.{Refuses, RefusesSo, Seen}
 use Rattle.cat_cli.specs.Sessions.{Fallen}
@@ -33,6 +33,9 @@ use Rattle.cat_cli.proofs.Told.{some_is, not_none}
 
 pub rose_later : (a b c : ℕ) → a ≤ b → Rose b c → Rose a c
 rose_later a b c le rose = omega (arith, le, rose)
+
+pub rose_on : (a b c : ℕ) → Rose a b → b ≤ c → Rose a c
+rose_on a b c rose le = omega (arith, rose, le)
 
 -- a count that neither fell nor rose is as it was
 pub unraised : (before now : ℕ) → before ≤ now → (Rose before now → ⊥) → Stays before now
@@ -57,21 +60,24 @@ recovers_back (Some l) (Some bytes) payloads t are = t ∙ ap (λ (x : List (Lis
 -- what was opened and given back stands for what it did
 pub stands_through : (told : Option (List ℕ)) (ps : Option (List (List ℕ))) (after : Option (List ℕ)) → Told told ps (λ bytes l. recovered bytes ≡ Ok l) → Told ps after (λ l bytes. recovered bytes ≡ Ok l)
     → StandsFor told after
-stands_through None ps after a b before now e f some = absurd (not_none before e)
-stands_through (Some x) None after a b before now e f some = absurd a
-stands_through (Some x) (Some l) None a b before now e f some = absurd b
-stands_through (Some x) (Some l) (Some y) a b before now e f some = ap recovered (sym (some_is y now f)) ∙ b ∙ sym a ∙ ap recovered (some_is x before e)
+stands_through None ps after a b before now e f = absurd (not_none before e)
+stands_through (Some x) None after a b before now e f = absurd a
+stands_through (Some x) (Some l) None a b before now e f = absurd b
+stands_through (Some x) (Some l) (Some y) a b before now e f = inl (ap recovered (sym (some_is y now f)) ∙ b ∙ sym a ∙ ap recovered (some_is x before e))
 
--- and so does what wasn't written
-pub stands_unwritten : (told after : Option (List ℕ)) (P : Type 0) → IfSome told (λ bytes. 0 < length bytes → P) → (P → Told told after (λ a b. b ≡ a)) → StandsFor told after
-stands_unwritten None after P h same before now e f some = absurd (not_none before e)
-stands_unwritten (Some x) None P h same before now e f some = absurd (not_none now f)
-stands_unwritten (Some x) (Some y) P h same before now e f some =
-    let is : y ≡ x = same (h (subst (λ (l : List ℕ). 0 < length l) (sym (some_is x before e)) some)) in
-    ap recovered (sym (some_is y now f) ∙ is ∙ some_is x before e)
+-- and so does what wasn't written, or had no bytes
+pub stands_unwritten : (told after : Option (List ℕ)) (P : Type 0) → IfSome told (λ bytes. 0 < length bytes → P) → (P → Told told after (λ a b. b ≡ a))
+    → Told told after (λ a b. a ≡ [] → length b ≤ length new_journal) → StandsFor told after
+stands_unwritten None after P h same few before now e f = absurd (not_none before e)
+stands_unwritten (Some x) None P h same few before now e f = absurd (not_none now f)
+stands_unwritten (Some []) (Some y) P h same few before now e f =
+    inr (sym (some_is [] before e), subst (λ (l : List ℕ). length l ≤ length new_journal) (some_is y now f) (few refl))
+stands_unwritten (Some (x ∷ xs)) (Some y) P h same few before now e f =
+    let is : y ≡ x ∷ xs = same (h (omega arith)) in
+    inl (ap recovered (sym (some_is y now f) ∙ is ∙ some_is (x ∷ xs) before e))
 
 pub stands_untouched : (told : Option (List ℕ)) → StandsFor told told
-stands_untouched told before now e f some = ap recovered (some_is now before (sym f ∙ e))
+stands_untouched told before now e f = inl (ap recovered (some_is now before (sym f ∙ e)))
 
 -- ---- why a journal isn't opened
 
@@ -204,9 +210,9 @@ module _ {D : Type 0} (told : D → Option (List ℕ)) where
   reason_at (Some (Some d)) disk why is r = subst (λ (p : Option D). IsReason (told_at told (Some p)) why) (sym is) r
 
   pub stands_at : (place : Option (Option D)) (disk again : D) → IfSome place (λ p. p ≡ Some disk) → StandsFor (told disk) (told again) → StandsFor (told_at told place) (told_at told (stood again (taken place)))
-  stands_at None disk again is s before now e f some = absurd (not_none before e)
-  stands_at (Some None) disk again is s before now e f some = absurd (none_stands disk is)
-  stands_at (Some (Some d)) disk again is s before now e f some = subst (λ (p : Option D). StandsFor (told_at told (Some p)) (told again)) (sym is) s before now e f some
+  stands_at None disk again is s before now e f = absurd (not_none before e)
+  stands_at (Some None) disk again is s before now e f = absurd (none_stands disk is)
+  stands_at (Some (Some d)) disk again is s before now e f = subst (λ (p : Option D). StandsFor (told_at told (Some p)) (told again)) (sym is) s before now e f
 
   pub begins_at : (place : Option (Option D)) (disk : D) (payloads : List (List ℕ)) (book : Book) → IfSome place (λ p. p ≡ Some disk) → Begins (told disk) payloads book → Begins (told_at told place) payloads book
   begins_at None disk payloads book is b = record { recovers = tt; led = b.led }
@@ -238,6 +244,10 @@ module _ {D : Type 0} where
 
   pub disk_rose : (faults : D → ℕ) (place : Option (Option D)) (disk again : D) → IfSome place (λ p. p ≡ Some disk) → Rose (faults disk) (faults again) → DiskRose faults place (stood again (taken place))
   disk_rose faults place disk again is rose = record { opened = disk; again = again; was = is; is = is_there place again; rose = rose }
+
+  pub disk_rose_to : (faults : D → ℕ) (place : Option (Option D)) (disk again : D) (count : ℕ) → IfSome place (λ p. p ≡ Some disk) → Rose (faults disk) count → count ≤ faults again
+      → DiskRoseTo faults place (stood again (taken place)) count
+  disk_rose_to faults place disk again count is rose most = record { opened = disk; again = again; was = is; is = is_there place again; rose = rose; most = most }
 
   pub disk_stays : (faults : D → ℕ) (place : Option (Option D)) (disk again : D) → IfSome place (λ p. p ≡ Some disk) → Stays (faults disk) (faults again) → DiskStays faults place (stood again (taken place))
   disk_stays faults None disk again is stays = tt

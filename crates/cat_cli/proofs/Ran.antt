@@ -11,13 +11,13 @@ use Rattle.cat_cli.specs.declared.ending.Session.{Session as End}
 use Rattle.cat_cli.specs.declared.ending.Session.TheVariants as ends
 use Rattle.cat_cli.specs.declared.status.Status.{Status}
 use Rattle.cat_cli.specs.declared.status.Status.TheVariants as statuses
-use Rattle.cat_cli.specs.Journals.{DiskRose, DiskStays, Holds, Stays, told_at}
+use Rattle.cat_cli.specs.Journals.{DiskRose, DiskRoseTo, DiskStays, Holds, Stays, told_at}
 use Rattle.cat_cli.specs.Opening.{HoldsLog, IsOpened, IsClosed, status_of}
-use Rattle.cat_cli.specs.Runs.{Answers, Ran, RanWell, Says, Seen, start}
+use Rattle.cat_cli.specs.Runs.{Answers, Ran, RanWell, Says, Seen, start, tells_all}
 use Rattle.cat_cli.specs.Sessions.{Readings, Fallen}
 use Rattle.cat_cli.specs.SessionLaws.{log_grows}
 use Rattle.cat_cli.specs.Stores.{RunsKnown}
-use Rattle.cat_cli.proofs.Opened.{begins_at, disk_rose, disk_stays, left_at, rose_later, unraised}
+use Rattle.cat_cli.proofs.Opened.{begins_at, disk_rose, disk_rose_to, disk_stays, left_at, rose_later, rose_on, unraised}
 
 -- the entries of a log that grew
 log_of : (payloads : List (List ℕ)) (before after news : List LogEntry) → payloads ≡ spellings (reverse before) → after ≡ news ++ before → spellings (reverse after) ≡ payloads ++ spellings (reverse news)
@@ -28,11 +28,11 @@ log_of payloads before after news is grew =
     ∙ ap (λ (l : List (List ℕ)). l ++ spellings (reverse news)) (sym is)
 
 -- by how it ended, and whether the disk failed
-module _ (fell stays : Type 0) (clock : Readings) (to_come : Option Readings) (bytes : List ℕ) (s : Seen) where
-  ran_well : (end : End) (ran : Ran fell clock to_come bytes s end) → (ran.last.fallen ≡ None) × stays → RanWell fell stays clock to_come bytes s end
+module _ (to : ℕ → Type 0) (stays : Type 0) (clock : Readings) (to_come : Option Readings) (bytes : List ℕ) (s : Seen) where
+  ran_well : (end : End) (ran : Ran to clock to_come bytes s end) → (ran.last.fallen ≡ None) × stays → RanWell to stays clock to_come bytes s end
   ran_well end ran (none, same) = (ran, none, same)
 
-  pub answers : (end : End) (rose : Bool) (ran : Ran fell clock to_come bytes s end) → (rose ≡ false → (ran.last.fallen ≡ None) × stays) → Answers fell stays clock to_come bytes s (status_of end rose)
+  pub answers : (end : End) (rose : Bool) (ran : Ran to clock to_come bytes s end) → (rose ≡ false → (ran.last.fallen ≡ None) × stays) → Answers to stays clock to_come bytes s (status_of end rose)
   answers ends.NoMemory rose ran well = ran
   answers ends.WriteFault rose ran well = ran
   answers ends.ReadFault rose ran well = ran
@@ -81,6 +81,12 @@ disk_failed ends.Capped false e = cc
 disk_failed ends.BadHead false e = cc
 disk_failed ends.TooLarge false e = cc
 
+-- a session in which a write failed doesn't tell all
+pub not_all : (end : End) (rose : Bool) (status : Status) → status ≡ status_of end rose → tells_all status ≡ true → end ≡ ends.WriteFault → ⊥
+not_all end rose status is all e =
+    let no : false ≡ true = subst (λ (st : Status). tells_all st ≡ true) (is ∙ ap (λ (x : End). status_of x rose) e) all in
+    absurd cc
+
 pub not_usage : (end : End) (rose : Bool) → status_of end rose ≡ statuses.Usage → ⊥
 not_usage ends.NoMemory rose e = cc
 not_usage ends.WriteFault rose e = cc
@@ -99,8 +105,8 @@ none_fell : (down : Option ℕ) (fallen : Option Fallen) → down ≡ option_map
 none_fell down None is up = refl
 none_fell down (Some f) is up = absurd (up f.count is)
 
--- and where one did, so did the disk
-one_fell : (P : Type 0) (down : Option ℕ) (fallen : Option Fallen) → down ≡ option_map (λ (f : Fallen). f.count) fallen → ((c : ℕ) → down ≡ Some c → P) → IfSome fallen (λ _. P)
+-- and where one did, the disk's count rose so
+one_fell : (P : ℕ → Type 0) (down : Option ℕ) (fallen : Option Fallen) → down ≡ option_map (λ (f : Fallen). f.count) fallen → ((c : ℕ) → down ≡ Some c → P c) → IfSome fallen (λ f. P f.count)
 one_fell P down None is rose = tt
 one_fell P down (Some f) is rose = rose f.count is
 
@@ -119,6 +125,13 @@ module _ {D K : Type 0} (told : D → Option (List ℕ)) (faults : D → ℕ) (d
       subst (λ (n : ℕ). Rose n (faults closed.disk)) opened.counted (subst (λ (n : ℕ). Rose count n) (sym closed.counted) rose) in
       subst (λ (q : Option (Option D)). DiskRose faults place q) (sym there) (disk_rose faults place opened.disk closed.disk opened.was by_disk)
 
+  -- and its count rose to that one
+  failed_to : (c : ℕ) → Rose count c → c ≤ kept_faults new.keeper → DiskRoseTo faults place place' c
+  failed_to c rose most =
+      let by_disk : Rose (faults opened.disk) c = subst (λ (n : ℕ). Rose n c) opened.counted rose in
+      let at_most : c ≤ faults closed.disk = subst (λ (n : ℕ). c ≤ n) (sym closed.counted) most in
+      subst (λ (q : Option (Option D)). DiskRoseTo faults place q c) (sym there) (disk_rose_to faults place opened.disk closed.disk c opened.was by_disk at_most)
+
   -- or didn't
   stayed : count ≤ kept_faults new.keeper → (Rose count (kept_faults new.keeper) → ⊥) → DiskStays faults place place'
   stayed later stays =
@@ -131,9 +144,9 @@ module _ {D K : Type 0} (told : D → Option (List ℕ)) (faults : D → ℕ) (d
   seen w h = record { written = w; held = h; before = before; now = now; journal = told_at told place; left = told_at told place' }
 
   -- how it went, where a failed append has raised its disk's count
-  pub ran : (others : Type 0) (clock : Readings) (b w : List ℕ) → ((c : ℕ) → down new.keeper ≡ Some c → Rose count (kept_faults new.keeper)) → ahead ≡ Some clock → bytes ≡ Some b → held ≡ Some w
-      → (h : List ℕ) × (after ≡ Some h) × (r : Ran (others ⊎ DiskRose faults place place') clock ahead' b (seen w h) end) × (down new.keeper ≡ option_map (λ (f : Fallen). f.count) r.last.fallen)
-  ran others clock b w raised a e f =
+  pub ran : (clock : Readings) (b w : List ℕ) → ((c : ℕ) → down new.keeper ≡ Some c → Rose count c × (c ≤ kept_faults new.keeper)) → ahead ≡ Some clock → bytes ≡ Some b → held ≡ Some w
+      → (h : List ℕ) × (after ≡ Some h) × (r : Ran (DiskRoseTo faults place place') clock ahead' b (seen w h) end) × (down new.keeper ≡ option_map (λ (f : Fallen). f.count) r.last.fallen)
+  ran clock b w raised a e f =
       let x = session clock b w a e f in
       let grew = log_grows clock (start old.book b w) end x.0 x.2 x.3 in
       let holds : IfSome (told closed.disk) (Holds (spellings (reverse new.book.log)) x.2.fallen) = closed.has x.2.fallen x.4.down_is x.4.flies in
@@ -153,7 +166,7 @@ module _ {D K : Type 0} (told : D → Option (List ℕ)) (faults : D → ℕ) (d
               subst (λ (q : Option (Option D)). IfSome (told_at told q) (Holds (opened.stored.payloads ++ spellings (reverse grew.0)) x.2.fallen)) (sym there)
               (left_at told place closed.disk (Holds (opened.stored.payloads ++ spellings (reverse grew.0)) x.2.fallen)
               (subst (λ (l : List (List ℕ)). IfSome (told closed.disk) (Holds l x.2.fallen)) log holds));
-          cause = one_fell (others ⊎ DiskRose faults place place') (down new.keeper) x.2.fallen x.4.down_is (λ c is. inr (failed (raised c is)));
+          cause = one_fell (DiskRoseTo faults place place') (down new.keeper) x.2.fallen x.4.down_is (λ c is. let r = raised c is in failed_to c r.0 r.1);
           reads_on = x.5;
         },
         x.4.down_is,
@@ -161,16 +174,15 @@ module _ {D K : Type 0} (told : D → Option (List ℕ)) (faults : D → ℕ) (d
 
   -- and what it says, by the status
   pub says : (others : Type 0) (clock : Readings) (b w : List ℕ) (rose : Bool) (status : Status) → status ≡ status_of end rose
-      → old.began ≡ kept_faults old.keeper → old.began ≤ kept_faults new.keeper → ((c : ℕ) → down new.keeper ≡ Some c → Rose old.began (kept_faults new.keeper))
+      → old.began ≡ kept_faults old.keeper → old.began ≤ kept_faults new.keeper → ((c : ℕ) → down new.keeper ≡ Some c → Rose old.began c × (c ≤ kept_faults new.keeper))
       → (rose ≡ false → Rose count (kept_faults new.keeper) → ⊥)
-      → ahead ≡ Some clock → bytes ≡ Some b → held ≡ Some w → (h : List ℕ) × (after ≡ Some h) × Says (others ⊎ DiskRose faults place place') (DiskStays faults place place') clock ahead' b (seen w h) status
+      → ahead ≡ Some clock → bytes ≡ Some b → held ≡ Some w → (h : List ℕ) × (after ≡ Some h) × Says (others ⊎ DiskRose faults place place') (DiskRoseTo faults place place') (DiskStays faults place place') clock ahead' b (seen w h) status
   says others clock b w rose status is began later rises stays a e f =
-      let raised : (c : ℕ) → down new.keeper ≡ Some c → Rose count (kept_faults new.keeper) =
-      λ c down_at. rose_later count (kept_faults old.keeper) (kept_faults new.keeper) opened.stored.later (subst (λ (n : ℕ). Rose n (kept_faults new.keeper)) began (rises c down_at)) in
-      let x = ran others clock b w raised a e f in
+      let raised : (c : ℕ) → down new.keeper ≡ Some c → Rose count c × (c ≤ kept_faults new.keeper) =
+      λ c down_at. let r = rises c down_at in (rose_later count (kept_faults old.keeper) c opened.stored.later (subst (λ (n : ℕ). Rose n c) began r.0), r.1) in
+      let x = ran clock b w raised a e f in
       let kept : count ≤ kept_faults new.keeper = omega (arith, opened.stored.later, subst (λ (n : ℕ). n ≤ kept_faults new.keeper) began later) in
       let well : rose ≡ false → (x.2.last.fallen ≡ None) × DiskStays faults place place' =
-      λ still. (none_fell (down new.keeper) x.2.last.fallen x.3 (λ c down_at. stays still (raised c down_at)), stayed kept (stays still)) in
-      let fell : Type 0 = others ⊎ DiskRose faults place place' in
+      λ still. (none_fell (down new.keeper) x.2.last.fallen x.3 (λ c down_at. let r = raised c down_at in stays still (rose_on count c (kept_faults new.keeper) r.0 r.1)), stayed kept (stays still)) in
       let staying : Type 0 = DiskStays faults place place' in
-      (x.0, x.1, inl (subst (λ (st : Status). Answers fell staying clock ahead' b (seen w x.0) st) (sym is) (answers fell staying clock ahead' b (seen w x.0) end rose x.2 well)))
+      (x.0, x.1, inl (subst (λ (st : Status). Answers (DiskRoseTo faults place place') staying clock ahead' b (seen w x.0) st) (sym is) (answers (DiskRoseTo faults place place') staying clock ahead' b (seen w x.0) end rose x.2 well)))

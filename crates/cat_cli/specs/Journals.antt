@@ -1,11 +1,11 @@
 -- The journal that a run opens: what its disk tells, and what that stands for.
-use Rattle.std.specs.Prelude.{ℕ, ◌<◌, ◌-◌, ◌^◌, ◌≡◌, ◌⊎◌, List, [], ◌∷◌, ◌++◌, length, Option, Some, None, IfSome, Ok, Err}
+use Rattle.std.specs.Prelude.{ℕ, ◌<◌, ◌≤◌, ◌-◌, ◌^◌, ◌≡◌, ◌⊎◌, List, [], ◌∷◌, ◌++◌, length, Option, Some, None, IfSome, Ok, Err}
 use Rattle.sha2.specs.Sha256.{sha256}
 use Rattle.cat_io.specs.Causes.{Rose}
 use Rattle.cat_checks.specs.Legal.{replayed}
 use Rattle.cat_ledger.specs.Kept.{spelling}
 use Rattle.cat_journal.specs.declared.fault.OpenFault.TheVariants as faults
-use Rattle.cat_journal.specs.Frames.{recovered}
+use Rattle.cat_journal.specs.Frames.{new_journal, recovered}
 use Rattle.cat_model.specs.Book.{Book, first_book}
 use Rattle.cat_model.specs.Limits.{program_limits}
 use Rattle.cat_cli.specs.declared.unopened.Unopened.{Unopened}
@@ -33,6 +33,15 @@ pub record DiskRose {D : Type 0} (faults : D → ℕ) (before after : Option (Op
   pub was : IfSome before (λ place. place ≡ Some opened)
   pub is : IfSome after (λ place. place ≡ Some again)
   pub rose : Rose (faults opened) (faults again)
+
+-- and between, it rose to this count, and maybe further
+pub record DiskRoseTo {D : Type 0} (faults : D → ℕ) (before after : Option (Option D)) (count : ℕ) : Type 0 where
+  pub opened : D
+  pub again : D
+  pub was : IfSome before (λ place. place ≡ Some opened)
+  pub is : IfSome after (λ place. place ≡ Some again)
+  pub rose : Rose (faults opened) count
+  pub most : count ≤ faults again
 
 -- the count is as it was, below its type's end
 abbrev pub Stays : ℕ → ℕ → Type 0
@@ -67,9 +76,11 @@ unopened_of told (whys.Illegal place) = IsIllegal told place
 unopened_of told whys.Fault = ⊥
 unopened_of told whys.NoMemory = ⊥
 
--- a journal that had bytes stands for what it did
+-- a journal stands for what it did, or had no bytes and has no more than a new one
 abbrev pub StandsFor : Option (List ℕ) → Option (List ℕ) → Type 0
-StandsFor told after = (before now : List ℕ) → told ≡ Some before → after ≡ Some now → 0 < length before → recovered now ≡ recovered before
+StandsFor told after =
+    (before now : List ℕ) → told ≡ Some before → after ≡ Some now
+    → (recovered now ≡ recovered before) ⊎ ((before ≡ []) × (length now ≤ length new_journal))
 
 -- the bytes recover to the payloads, or where an append failed, maybe to these and its entry
 abbrev pub Holds : List (List ℕ) → Option Fallen → List ℕ → Type 0

@@ -27,6 +27,14 @@ code_of statuses.ReadFault = 5
 code_of statuses.WriteFault = 6
 code_of statuses.Cut = 8
 
+-- the sink took all that was to be written
+abbrev pub tells_all : Status → Bool
+tells_all statuses.Done = true
+tells_all statuses.Cut = true
+tells_all statuses.ReadFault = true
+tells_all statuses.DiskFault = true
+tells_all _ = false
+
 -- the journal of a command
 abbrev pub journal_of : Task → Option (List ℕ)
 journal_of (script journal) = Some journal
@@ -75,8 +83,8 @@ RefusesSo fell s status = Refuses fell s status × StandsFor s.journal s.left
 abbrev pub start : Book → List ℕ → List ℕ → Point
 start book bytes written = record { left = 1000; standing = record { book = book; readings = 0; fallen = None }; bytes = bytes; written = written }
 
--- a session on the journal's catalogue ended so, and the journal has its entries; where an append failed, a count of faults of the disks rose; and the clock has these readings to come
-pub record Ran (fell : Type 0) (clock : Readings) (to_come : Option Readings) (bytes : List ℕ) (s : Seen) (end : End) : Type 0 where
+-- a session on the journal's catalogue ended so, and the journal has its entries; where an append failed, to is so of the count of faults that is told of it; and the clock has these readings to come
+pub record Ran (to : ℕ → Type 0) (clock : Readings) (to_come : Option Readings) (bytes : List ℕ) (s : Seen) (end : End) : Type 0 where
   pub payloads : List (List ℕ)
   pub book : Book
   pub begins : Begins s.journal payloads book
@@ -85,35 +93,35 @@ pub record Ran (fell : Type 0) (clock : Readings) (to_come : Option Readings) (b
   pub added : List LogEntry
   pub grows : last.book.log ≡ reverse added ++ book.log
   pub keeps : IfSome s.left (Holds (payloads ++ spellings added) last.fallen)
-  pub cause : IfSome last.fallen (λ _. fell)
+  pub cause : IfSome last.fallen (λ f. to f.count)
   pub reads_on : to_come ≡ Some (from last.readings clock)
 
 -- and no append failed; stays says that the count of faults of the journal's disk didn't rise
-abbrev pub RanWell : Type 0 → Type 0 → Readings → Option Readings → List ℕ → Seen → End → Type 0
-RanWell fell stays clock to_come bytes s end = (ran : Ran fell clock to_come bytes s end) × (ran.last.fallen ≡ None) × stays
+abbrev pub RanWell : (ℕ → Type 0) → Type 0 → Readings → Option Readings → List ℕ → Seen → End → Type 0
+RanWell to stays clock to_come bytes s end = (ran : Ran to clock to_come bytes s end) × (ran.last.fallen ≡ None) × stays
 
 -- a session was held, by the status
-abbrev pub Answers : Type 0 → Type 0 → Readings → Option Readings → List ℕ → Seen → Status → Type 0
-Answers fell stays clock to_come bytes s statuses.Done = RanWell fell stays clock to_come bytes s ends.Closed
-Answers fell stays clock to_come bytes s statuses.Cut =
-    RanWell fell stays clock to_come bytes s ends.Capped ⊎ RanWell fell stays clock to_come bytes s ends.BadHead ⊎ RanWell fell stays clock to_come bytes s ends.TooLarge
-Answers fell stays clock to_come bytes s statuses.DiskFault =
-    Ran fell clock to_come bytes s ends.Closed ⊎ Ran fell clock to_come bytes s ends.Capped
-    ⊎ Ran fell clock to_come bytes s ends.BadHead ⊎ Ran fell clock to_come bytes s ends.TooLarge
-Answers fell stays clock to_come bytes s statuses.ReadFault = Ran fell clock to_come bytes s ends.ReadFault
-Answers fell stays clock to_come bytes s statuses.WriteFault = Ran fell clock to_come bytes s ends.WriteFault
-Answers fell stays clock to_come bytes s statuses.NoMemory = Ran fell clock to_come bytes s ends.NoMemory
-Answers fell stays clock to_come bytes s _ = ⊥
+abbrev pub Answers : (ℕ → Type 0) → Type 0 → Readings → Option Readings → List ℕ → Seen → Status → Type 0
+Answers to stays clock to_come bytes s statuses.Done = RanWell to stays clock to_come bytes s ends.Closed
+Answers to stays clock to_come bytes s statuses.Cut =
+    RanWell to stays clock to_come bytes s ends.Capped ⊎ RanWell to stays clock to_come bytes s ends.BadHead ⊎ RanWell to stays clock to_come bytes s ends.TooLarge
+Answers to stays clock to_come bytes s statuses.DiskFault =
+    Ran to clock to_come bytes s ends.Closed ⊎ Ran to clock to_come bytes s ends.Capped
+    ⊎ Ran to clock to_come bytes s ends.BadHead ⊎ Ran to clock to_come bytes s ends.TooLarge
+Answers to stays clock to_come bytes s statuses.ReadFault = Ran to clock to_come bytes s ends.ReadFault
+Answers to stays clock to_come bytes s statuses.WriteFault = Ran to clock to_come bytes s ends.WriteFault
+Answers to stays clock to_come bytes s statuses.NoMemory = Ran to clock to_come bytes s ends.NoMemory
+Answers to stays clock to_come bytes s _ = ⊥
 
 -- what a run of `script` does, by its status; where no session was held the clock wasn't read
-abbrev pub Says : Type 0 → Type 0 → Readings → Option Readings → List ℕ → Seen → Status → Type 0
-Says fell stays clock to_come bytes s status = Answers fell stays clock to_come bytes s status ⊎ (RefusesSo fell s status × (to_come ≡ Some clock))
+abbrev pub Says : Type 0 → (ℕ → Type 0) → Type 0 → Readings → Option Readings → List ℕ → Seen → Status → Type 0
+Says fell to stays clock to_come bytes s status = Answers to stays clock to_come bytes s status ⊎ (RefusesSo fell s status × (to_come ≡ Some clock))
 
 -- the same where the clock, the source and the sink tell what they have
-abbrev pub SaysKnown : Type 0 → Type 0 → Option Readings → Option Readings → Option (List ℕ) → Option (List ℕ) → Status → Option (List ℕ) → ℕ → ℕ → Option (List ℕ) → Option (List ℕ) → Type 0
-SaysKnown fell stays ahead to_come bytes held status after before now journal left =
+abbrev pub SaysKnown : Type 0 → (ℕ → Type 0) → Type 0 → Option Readings → Option Readings → Option (List ℕ) → Option (List ℕ) → Status → Option (List ℕ) → ℕ → ℕ → Option (List ℕ) → Option (List ℕ) → Type 0
+SaysKnown fell to stays ahead to_come bytes held status after before now journal left =
     (clock : Readings) (b w : List ℕ) → ahead ≡ Some clock → bytes ≡ Some b → held ≡ Some w
-    → (h : List ℕ) × (after ≡ Some h) × Says fell stays clock to_come b (record { written = w; held = h; before = before; now = now; journal = journal; left = left }) status
+    → (h : List ℕ) × (after ≡ Some h) × Says fell to stays clock to_come b (record { written = w; held = h; before = before; now = now; journal = journal; left = left }) status
 
 -- ---- a check
 

@@ -1,6 +1,6 @@
 //! The replies to single requests.
 
-ghost use Rattle.std.specs.Prelude.{◌≡◌, ◌≢◌, ◌≤◌, ◌==◌, ◌||◌, ℕ, List, IfNone, IfSome, Some, None, OnErr, OnOk};
+ghost use Rattle.std.specs.Prelude.{◌≡◌, ◌≢◌, ◌==◌, ◌||◌, ℕ, List, IfNone, IfSome, Some, None, OnErr, OnOk};
 ghost use Rattle.cat_desk.specs.Pass.{Keeps};
 ghost use Rattle.cat_work.specs.Passes.{IsReady};
 ghost use Rattle.cat_io.specs.Causes.{Rose};
@@ -77,7 +77,7 @@ pub(crate) fn answer<R: Wait, K0: Keeper, K: Sink, C: Clock>(
     ensures open { result ≢ Some Session.Capped }
     ensures read { result ≢ Some Session.ReadFault }
     ensures write { result ≡ Some Session.WriteFault → Rose (K.faults sink.old) (K.faults sink.new) }
-    ensures later { K.faults sink.old ≤ K.faults sink.new }
+    ensures stays { result ≢ Some Session.WriteFault → K.faults sink.new ≡ K.faults sink.old }
 {
     let said = said_to(rt, alloc, routes, desk, pass, clock, request);
     let closes = request.closes();
@@ -110,7 +110,7 @@ pub(crate) fn refuse<K: Sink>(alloc: Global, sink: &mut K, why: Refusal) -> Resu
     ensures written { OnOk result ((bytes : List ℕ) × IsRefusalOf why bytes × Appends (K.held sink.old) (K.held sink.new) bytes) }
     ensures cut { OnErr result ((bytes : List ℕ) × IsRefusalOf why bytes × AppendsFront (K.held sink.old) (K.held sink.new) bytes) }
     ensures cause { OnErr result (Rose (K.faults sink.old) (K.faults sink.new)) }
-    ensures later { K.faults sink.old ≤ K.faults sink.new }
+    ensures stays { OnOk result (K.faults sink.new ≡ K.faults sink.old) }
 {
     send(sink, refusal_reply(alloc, why))
 }

@@ -1,12 +1,12 @@
 //! What a journal holds, in one line.
 
-ghost use Rattle.std.specs.Prelude.{◌≡◌, ◌≢◌, ◌⊎◌, IfOk, string_bytes, true};
+ghost use Rattle.std.specs.Prelude.{◌≡◌, ◌≢◌, ◌⊎◌, IfOk, IsTrue, string_bytes, true};
 ghost use Rattle.cat_io.specs.Causes.{Rose};
 ghost use Rattle.cat_io.specs.Places.{OthersStay};
 ghost use Rattle.cat_cli.specs.Journals.{DiskRose, DiskStays, IsBack, told_at};
 ghost use Rattle.cat_cli.specs.Lines.{check_line, counts_line};
 ghost use Rattle.cat_cli.specs.Opening.{CountedKnown};
-ghost use Rattle.cat_cli.specs.Runs.{ChecksKnown};
+ghost use Rattle.cat_cli.specs.Runs.{ChecksKnown, tells_all};
 
 use crate::journal::{close, open};
 use crate::status::Status;
@@ -49,6 +49,7 @@ fn tell_counts<K: Sink>(line: &str, rose: bool, sink: &mut K) -> Status
     ensures told { CountedKnown line.now rose (K.held sink.old) result (K.held sink.new) (K.faults sink.old) (K.faults sink.new) }
     ensures fault { result ≡ Status.DiskFault → rose ≡ true }
     ensures write { result ≡ Status.WriteFault → Rose (K.faults sink.old) (K.faults sink.new) }
+    ensures stays { IsTrue (tells_all result) → K.faults sink.new ≡ K.faults sink.old }
     ensures taken { result ≢ Status.Usage }
     ensures unread { result ≢ Status.ReadFault }
 {
@@ -74,6 +75,8 @@ pub(crate) fn check<O: Disks, K: Sink>(
     ensures taken { result ≢ Status.Usage }
     ensures unread { result ≢ Status.ReadFault }
     ensures write { result ≡ Status.WriteFault → Rose (K.faults sink.old) (K.faults sink.new) }
+    ensures sink_stays { IsTrue (tells_all result) → K.faults sink.new ≡ K.faults sink.old }
+    ensures disks_stay { result ≢ Status.DiskFault → result ≢ Status.WriteFault → O.faults disks.new ≡ O.faults disks.old }
     ensures disk { result ≡ Status.DiskFault → Rose (O.faults disks.old) (O.faults disks.new) ⊎ DiskRose O.D.faults (O.at_path disks.old path.now) (O.at_path disks.new path.now) }
     ensures back { IsBack (O.at_path disks.old path.now) (O.at_path disks.new path.now) }
     ensures others { OthersStay path.now (O.at_path disks.old) (O.at_path disks.new) }

@@ -1,6 +1,6 @@
 //! The journal of a run: a store over it, and its disk, which goes back where it stood.
 
-ghost use Rattle.std.specs.Prelude.{◌≡◌, ◌≢◌, ◌≤◌, ◌⊎◌, None, Some, IfErr, IfOk, false, true};
+ghost use Rattle.std.specs.Prelude.{◌≡◌, ◌≢◌, ◌≤◌, ◌⊎◌, None, Some, IfErr, IfOk, MatchResult, false, true};
 ghost use Rattle.cat_model.specs.Drafts.{nothing_open};
 ghost use Rattle.cat_io.specs.Causes.{Rose};
 ghost use Rattle.cat_io.specs.Places.{OthersStay};
@@ -46,6 +46,7 @@ pub(crate) fn open<O: Disks>(
     ensures reason { IfErr result (λ why. IsReason (told_at O.D.told (O.at_path disks.old path.now)) why) }
     ensures stands { IfErr result (λ why. StandsFor (told_at O.D.told (O.at_path disks.old path.now)) (told_at O.D.told (O.at_path disks.new path.now))) }
     ensures cause { IfErr result (λ why. why ≡ Unopened.Fault → Rose (O.faults disks.old) (O.faults disks.new) ⊎ DiskRose O.D.faults (O.at_path disks.old path.now) (O.at_path disks.new path.now)) }
+    ensures disks_stay { MatchResult result (λ _. O.faults disks.new ≡ O.faults disks.old) (λ why. why ≢ Unopened.Fault → O.faults disks.new ≡ O.faults disks.old) }
     ensures back { IfErr result (λ why. IsBack (O.at_path disks.old path.now) (O.at_path disks.new path.now)) }
     ensures others { OthersStay path.now (O.at_path disks.old) (O.at_path disks.new) }
 {

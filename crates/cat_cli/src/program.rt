@@ -6,9 +6,9 @@ ghost use Rattle.cat_io.specs.Causes.{Rose};
 ghost use Rattle.cat_io.specs.Places.{OthersStay};
 ghost use Rattle.cat_words.specs.Asked.{asked, check, drill, script};
 ghost use Rattle.cat_drill.specs.Drill.{drill_line};
-ghost use Rattle.cat_cli.specs.Journals.{DiskRose, DiskStays, IsBack, told_at};
+ghost use Rattle.cat_cli.specs.Journals.{DiskRose, DiskRoseTo, DiskStays, IsBack, told_at};
 ghost use Rattle.cat_cli.specs.Lines.{no_memory_line, usage_line};
-ghost use Rattle.cat_cli.specs.Runs.{ChecksKnown, DrillsKnown, SaysKnown, TellsKnown, ends_drill, journal_of};
+ghost use Rattle.cat_cli.specs.Runs.{ChecksKnown, DrillsKnown, SaysKnown, TellsKnown, ends_drill, journal_of, tells_all};
 
 use crate::checking::check;
 use crate::scripting::script;
@@ -47,7 +47,7 @@ pub fn run<R: Threads + Wait + Sync, O: Disks, S: Source, K: Sink, C: Clock, L: 
     // What a script writes are the replies to the requests in the bytes of the source, the journal has the entries of all that they changed, and the clock stands where their moments left it.
     ensures replies { (journal : List ℕ) → asked (map (λ word. word.now) words.now) ≡ Some (script journal)
         → SaysKnown (Rose (O.faults disks.old) (O.faults disks.new) ⊎ DiskRose O.D.faults (O.at_path disks.old journal) (O.at_path disks.new journal))
-        (DiskStays O.D.faults (O.at_path disks.old journal) (O.at_path disks.new journal))
+        (DiskRoseTo O.D.faults (O.at_path disks.old journal) (O.at_path disks.new journal)) (DiskStays O.D.faults (O.at_path disks.old journal) (O.at_path disks.new journal))
         (C.ahead clock.old) (C.ahead clock.new) (S.left source.old) (K.held sink.old) result (K.held sink.new) (K.faults sink.old) (K.faults sink.new)
         (told_at O.D.told (O.at_path disks.old journal)) (told_at O.D.told (O.at_path disks.new journal)) }
     // What a check writes is the line of the catalogue that the journal's entries lead to.
@@ -64,6 +64,10 @@ pub fn run<R: Threads + Wait + Sync, O: Disks, S: Source, K: Sink, C: Clock, L: 
     ensures write { result ≡ Status.WriteFault → Rose (K.faults sink.old) (K.faults sink.new) }
     ensures disk { result ≡ Status.DiskFault → (journal : List ℕ) × (option_and_then journal_of (asked (map (λ word. word.now) words.now)) ≡ Some journal)
         × (Rose (O.faults disks.old) (O.faults disks.new) ⊎ DiskRose O.D.faults (O.at_path disks.old journal) (O.at_path disks.new journal)) }
+    // The source's count stays unless a read failed, the sink's where it took all that was written, and the disks' own where no fault of theirs was to be told.
+    ensures source_stays { result ≢ Status.ReadFault → S.faults source.new ≡ S.faults source.old }
+    ensures sink_stays { IsTrue (tells_all result) → K.faults sink.new ≡ K.faults sink.old }
+    ensures disks_stay { result ≢ Status.DiskFault → result ≢ Status.WriteFault → O.faults disks.new ≡ O.faults disks.old }
     // The journal's disk goes back where it stood, and no other is touched.
     ensures back { (journal : List ℕ) → option_and_then journal_of (asked (map (λ word. word.now) words.now)) ≡ Some journal
         → IsBack (O.at_path disks.old journal) (O.at_path disks.new journal) × OthersStay journal (O.at_path disks.old) (O.at_path disks.new) }
@@ -90,6 +94,7 @@ fn drilled<R: Wait, K: Sink>(rt: &R, alloc: Global, seed: u64, commits: u64, sin
     ensures drilled { DrillsKnown (drill_line seed commits) (K.held sink.old) result (K.held sink.new) (K.faults sink.old) (K.faults sink.new) }
     ensures ends { IsTrue (ends_drill result) }
     ensures write { result ≡ Status.WriteFault → Rose (K.faults sink.old) (K.faults sink.new) }
+    ensures stays { IsTrue (tells_all result) → K.faults sink.new ≡ K.faults sink.old }
 {
     match cat_drill::drill(rt, alloc, seed, commits) {
         Ok(line) => match write_all(sink, line.as_bytes()) {

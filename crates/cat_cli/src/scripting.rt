@@ -1,11 +1,11 @@
 //! A session on the catalogue of a journal.
 
-ghost use Rattle.std.specs.Prelude.{ℕ, ◌≡◌, ◌≢◌, ◌≤◌, ◌⊎◌, IfErr, IfOk, None, Some};
+ghost use Rattle.std.specs.Prelude.{ℕ, ◌≡◌, ◌≢◌, ◌≤◌, ◌⊎◌, IfErr, IfOk, IsTrue, None, Some};
 ghost use Rattle.cat_io.specs.Causes.{Rose};
 ghost use Rattle.cat_io.specs.Places.{OthersStay};
-ghost use Rattle.cat_cli.specs.Journals.{DiskRose, DiskStays, IsBack, told_at};
+ghost use Rattle.cat_cli.specs.Journals.{DiskRose, DiskRoseTo, DiskStays, IsBack, told_at};
 ghost use Rattle.cat_cli.specs.Opening.{status_of};
-ghost use Rattle.cat_cli.specs.Runs.{SaysKnown};
+ghost use Rattle.cat_cli.specs.Runs.{SaysKnown, tells_all};
 ghost use Rattle.cat_cli.specs.Stores.{RunsKnown};
 ghost use Rattle.cat_model.specs.Drafts.{nothing_open};
 
@@ -51,12 +51,14 @@ fn hold_session<R: Wait, K0: Keeper, S: Source, K: Sink, C: Clock>(
     requires up { store.mark.fault ≡ None }
     ensures ends { IfOk result (λ t. RunsKnown K0.down K0.in_flight store (C.ahead clock.old) (S.left source.old) (K.held sink.old) t.1 t.0 (C.ahead clock.new) (K.held sink.new)) }
     ensures later { IfOk result (λ t. store.began ≤ K0.faults t.0.keeper) }
-    ensures rose { IfOk result (λ t. (c : ℕ) → K0.down t.0.keeper ≡ Some c → Rose store.began (K0.faults t.0.keeper)) }
+    ensures rose { IfOk result (λ t. (c : ℕ) → K0.down t.0.keeper ≡ Some c → Rose store.began c × (c ≤ K0.faults t.0.keeper)) }
     ensures read { IfOk result (λ t. t.1 ≡ Session.ReadFault → Rose (S.faults source.old) (S.faults source.new)) }
     ensures write { IfOk result (λ t. t.1 ≡ Session.WriteFault → Rose (K.faults sink.old) (K.faults sink.new)) }
+    ensures source_stays { IfOk result (λ t. t.1 ≢ Session.ReadFault → S.faults source.new ≡ S.faults source.old) }
+    ensures sink_stays { IfOk result (λ t. t.1 ≢ Session.WriteFault → K.faults sink.new ≡ K.faults sink.old) }
     ensures back { IfErr result (λ e. e.0 ≡ store) }
     ensures untold { IfErr result (λ _. sink.new ≡ sink.old) }
-    ensures unread { IfErr result (λ _. clock.new ≡ clock.old) }
+    ensures unread { IfErr result (λ _. (source.new ≡ source.old) × (clock.new ≡ clock.old)) }
 {
     match hold(alloc, store) {
         Ok((desk, mut pass)) => {
@@ -81,12 +83,15 @@ pub(crate) fn script<R: Wait, O: Disks, S: Source, K: Sink, C: Clock>(
     clock: &mut C,
 ) -> Status
     ensures replies { SaysKnown (Rose (O.faults disks.old) (O.faults disks.new) ⊎ DiskRose O.D.faults (O.at_path disks.old path.now) (O.at_path disks.new path.now))
-        (DiskStays O.D.faults (O.at_path disks.old path.now) (O.at_path disks.new path.now))
+        (DiskRoseTo O.D.faults (O.at_path disks.old path.now) (O.at_path disks.new path.now)) (DiskStays O.D.faults (O.at_path disks.old path.now) (O.at_path disks.new path.now))
         (C.ahead clock.old) (C.ahead clock.new) (S.left source.old) (K.held sink.old) result (K.held sink.new) (K.faults sink.old) (K.faults sink.new)
         (told_at O.D.told (O.at_path disks.old path.now)) (told_at O.D.told (O.at_path disks.new path.now)) }
     ensures taken { result ≢ Status.Usage }
     ensures read { result ≡ Status.ReadFault → Rose (S.faults source.old) (S.faults source.new) }
     ensures write { result ≡ Status.WriteFault → Rose (K.faults sink.old) (K.faults sink.new) }
+    ensures source_stays { result ≢ Status.ReadFault → S.faults source.new ≡ S.faults source.old }
+    ensures sink_stays { IsTrue (tells_all result) → K.faults sink.new ≡ K.faults sink.old }
+    ensures disks_stay { result ≢ Status.DiskFault → result ≢ Status.WriteFault → O.faults disks.new ≡ O.faults disks.old }
     ensures disk { result ≡ Status.DiskFault → Rose (O.faults disks.old) (O.faults disks.new) ⊎ DiskRose O.D.faults (O.at_path disks.old path.now) (O.at_path disks.new path.now) }
     ensures back { IsBack (O.at_path disks.old path.now) (O.at_path disks.new path.now) }
     ensures others { OthersStay path.now (O.at_path disks.old) (O.at_path disks.new) }

@@ -1,6 +1,6 @@
 //! A session: the requests of a source, one after another, and the replies to them.
 
-ghost use Rattle.std.specs.Prelude.{◌≡◌, ◌≢◌, ◌+◌, ◌≤◌, ℕ, IfNone, IfSome, Some, None};
+ghost use Rattle.std.specs.Prelude.{◌≡◌, ◌≢◌, ◌+◌, ℕ, IfNone, IfSome, Some, None};
 ghost use Rattle.cat_desk.specs.Pass.{Keeps};
 ghost use Rattle.cat_work.specs.Passes.{IsReady};
 ghost use Rattle.std.specs.Io.KnownBytes.{prepend_known};
@@ -50,8 +50,8 @@ fn turn<R: Wait, K0: Keeper, S: Source, K: Sink, C: Clock>(
     ensures open { result ≢ Some Session.Capped }
     ensures read { result ≡ Some Session.ReadFault → Rose (S.faults source.old) (S.faults source.new) }
     ensures write { result ≡ Some Session.WriteFault → Rose (K.faults sink.old) (K.faults sink.new) }
-    ensures later_source { S.faults source.old ≤ S.faults source.new }
-    ensures later_sink { K.faults sink.old ≤ K.faults sink.new }
+    ensures source_stays { result ≢ Some Session.ReadFault → S.faults source.new ≡ S.faults source.old }
+    ensures sink_stays { result ≢ Some Session.WriteFault → K.faults sink.new ≡ K.faults sink.old }
 {
     match read_request(source, buffer) {
         Incoming::Request => answer(
@@ -95,6 +95,8 @@ pub(crate) fn run_session<R: Wait, K0: Keeper, S: Source, K: Sink, C: Clock>(
     ensures kept { Keeps desk.now pass.old pass.new }
     ensures read { result ≡ Session.ReadFault → Rose (S.faults source.old) (S.faults source.new) }
     ensures write { result ≡ Session.WriteFault → Rose (K.faults sink.old) (K.faults sink.new) }
+    ensures source_stays { result ≢ Session.ReadFault → S.faults source.new ≡ S.faults source.old }
+    ensures sink_stays { result ≢ Session.WriteFault → K.faults sink.new ≡ K.faults sink.old }
 {
     let Ok(mut buffer) = Buffer::new(alloc) else {
         return Session::NoMemory;

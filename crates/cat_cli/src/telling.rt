@@ -1,10 +1,10 @@
 //! Lines that a run tells.
 
-ghost use Rattle.std.specs.Prelude.{◌≡◌, ◌≢◌};
+ghost use Rattle.std.specs.Prelude.{◌≡◌, ◌≢◌, ◌⊎◌, IsTrue};
 ghost use Rattle.cat_io.specs.Causes.{Rose};
 ghost use Rattle.cat_cli.specs.Lines.{no_memory_line};
 ghost use Rattle.cat_cli.specs.Opening.{FaultKnown};
-ghost use Rattle.cat_cli.specs.Runs.{TellsKnown};
+ghost use Rattle.cat_cli.specs.Runs.{TellsKnown, tells_all};
 
 use crate::status::Status;
 use cat_http::write_all;
@@ -30,6 +30,8 @@ pub(crate) fn tell_no_memory<K: Sink>(sink: &mut K) -> Status
 pub(crate) fn tell_disk_fault<K: Sink>(sink: &mut K) -> Status
     ensures told { FaultKnown (K.held sink.old) result (K.held sink.new) (K.faults sink.old) (K.faults sink.new) }
     ensures write { result ≡ Status.WriteFault → Rose (K.faults sink.old) (K.faults sink.new) }
+    ensures stays { IsTrue (tells_all result) → K.faults sink.new ≡ K.faults sink.old }
+    ensures ends { (result ≡ Status.DiskFault) ⊎ (result ≡ Status.WriteFault) }
     ensures taken { result ≢ Status.Usage }
     ensures unread { result ≢ Status.ReadFault }
 {

@@ -1,9 +1,10 @@
 //! Why a journal isn't opened, and what is told of it.
 
-ghost use Rattle.std.specs.Prelude.{◌≡◌, ◌≢◌, IfOk, string_bytes, true};
+ghost use Rattle.std.specs.Prelude.{◌≡◌, ◌≢◌, ◌⊎◌, IfOk, IsTrue, string_bytes, false, true};
 ghost use Rattle.cat_io.specs.Causes.{Rose};
 ghost use Rattle.cat_cli.specs.Lines.{unopened_line};
 ghost use Rattle.cat_cli.specs.Opening.{RefusedKnown, is_unreadable};
+ghost use Rattle.cat_cli.specs.Runs.{tells_all};
 
 use crate::status::Status;
 use crate::telling::{tell, tell_disk_fault, tell_no_memory};
@@ -82,6 +83,7 @@ fn tell_unreadable<K: Sink>(alloc: Global, why: Unopened, sink: &mut K) -> Statu
     ensures told { RefusedKnown why (K.held sink.old) result (K.held sink.new) (K.faults sink.old) (K.faults sink.new) }
     ensures fault { result ≢ Status.DiskFault }
     ensures write { result ≢ Status.WriteFault }
+    ensures silent { tells_all result ≡ false }
     ensures taken { result ≢ Status.Usage }
     ensures unread { result ≢ Status.ReadFault }
 {
@@ -99,6 +101,8 @@ pub(crate) fn refuse<K: Sink>(alloc: Global, why: Unopened, sink: &mut K) -> Sta
     ensures told { RefusedKnown why (K.held sink.old) result (K.held sink.new) (K.faults sink.old) (K.faults sink.new) }
     ensures fault { result ≡ Status.DiskFault → why ≡ Unopened.Fault }
     ensures write { result ≡ Status.WriteFault → Rose (K.faults sink.old) (K.faults sink.new) }
+    ensures ends { why ≡ Unopened.Fault → (result ≡ Status.DiskFault) ⊎ (result ≡ Status.WriteFault) }
+    ensures stays { IsTrue (tells_all result) → K.faults sink.new ≡ K.faults sink.old }
     ensures taken { result ≢ Status.Usage }
     ensures unread { result ≢ Status.ReadFault }
 {

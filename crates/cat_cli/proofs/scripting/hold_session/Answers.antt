@@ -1,7 +1,7 @@
 use Rattle.std.proofs.Common.{ℕ, ◌≤◌, refl, subst}
 use Rattle.cat_io.specs.Causes.{Rose}
 use Rattle.cat_cli.specs.Runs.{start}
-use Rattle.cat_cli.proofs.Left.{began_on, left_so, rose}
+use Rattle.cat_cli.proofs.Left.{began_on, fallen_at, left_so}
 use Rattle.cat_cli.proofs.Standing.{alone_on}
 use Rattle.cat_cli.proofs.Starting.{started}
 use Rattle.cat_cli.proofs.scripting.hold_session.Goals as goal
@@ -33,5 +33,5 @@ pub returns-in-Ok-clause-rose : goal.returns-in-Ok-clause-rose
 returns-in-Ok-clause-rose g c count fell =
     let store = c.release-store.result in
     let began = began_on c.args.store store _ c.in-Ok.ensures.opened c.release-store.ensures.opened in
-    subst (λ (n : ℕ). Rose n (g.K0.Keeper.faults store.keeper)) began
-    (rose (g.K0.Keeper.down store.keeper) store.mark.fault store.began (g.K0.Keeper.faults store.keeper) c.log_is_kept.ensures.fallen c.log_is_kept.ensures.rose count fell)
+    subst (λ (n : ℕ). Rose n count × (count ≤ g.K0.Keeper.faults store.keeper)) began
+    (fallen_at (λ (n : ℕ). Rose store.began n × (n ≤ g.K0.Keeper.faults store.keeper)) (g.K0.Keeper.down store.keeper) store.mark.fault c.log_is_kept.ensures.fallen c.log_is_kept.ensures.counted count fell)

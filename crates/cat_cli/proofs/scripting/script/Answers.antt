@@ -28,8 +28,8 @@ returns-in-Err-hold_session-clause-replies g c clock b w a e f =
     let opened = rw (sym c.in-Err-hold_session.ensures.back) at c.in-Ok.ensures.opened in
     let told = rw c.in-Err-hold_session.ensures.untold at c.tell_no_memory.ensures.told in
     says_none {K = Journal g.row.O-D.Denot g.O.D.Disk} g.O.D.Disk.told g.O.D.Disk.faults (λ j. j.down) (λ j. option_map (λ _. payload_of j.frame.items) j.down) (λ j. g.O.D.Disk.faults j.disk)
-    _ _ _ _ c.in-Err-hold_session.store _ _ _ _ opened (none_flies _ _ opened.stored.up) c.close.ensures.closed (Rose (g.O.Disks.faults c.args.disks.now) (g.O.Disks.faults c.close.new.disks)) clock _ b w
-    c.tell_no_memory.result c.tell_no_memory.ensures.status told (ap g.C.Clock.ahead c.in-Err-hold_session.ensures.unread ∙ a) f
+    _ _ _ _ c.in-Err-hold_session.store _ _ _ _ opened (none_flies _ _ opened.stored.up) c.close.ensures.closed (Rose (g.O.Disks.faults c.args.disks.now) (g.O.Disks.faults c.close.new.disks)) _ clock _ b w
+    c.tell_no_memory.result c.tell_no_memory.ensures.status told (ap g.C.Clock.ahead c.in-Err-hold_session.ensures.unread.1 ∙ a) f
 
 -- no journal was opened
 pub returns-in-Err-clause-replies : goal.returns-in-Err-clause-replies

@@ -21,8 +21,8 @@ turns-preserved g c = record {
       (t.0.after, reaches_on k a x.0 t.0 x.1 t.1.answered t.1.goes_on, counted t.0.after.left c.turns.count t.1.left_is c.turns-test.true, t.1.stands);
   ready = c.in_default-turn.ensures.ready;
   kept = keeps_on c.args.desk.now c.args.pass.now _ _ c.turns.invariant.kept c.in_default-turn.ensures.kept;
-  later_source = omega (arith, c.in_default-turn.ensures.later_source, c.turns.invariant.later_source);
-  later_sink = omega (arith, c.in_default-turn.ensures.later_sink, c.turns.invariant.later_sink);
+  source_faults = grind (arith, c.in_default-turn.ensures.source_stays, c.turns.invariant.source_faults);
+  sink_faults = grind (arith, c.in_default-turn.ensures.sink_stays, c.turns.invariant.sink_faults);
 }
 
 pub returns-in-Some-clause-ends : goal.returns-in-Some-clause-ends

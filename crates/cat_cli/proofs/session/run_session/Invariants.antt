@@ -1,4 +1,4 @@
-use Rattle.std.proofs.Common.{◌≡◌, ◌+◌, ◌≤◌}
+use Rattle.std.proofs.Common.{◌≡◌, ◌+◌}
 use Rattle.std.specs.Io.KnownBytes.{prepend_known}
 use Rattle.cat_desk.specs.Pass.{Keeps}
 use Rattle.cat_work.specs.Passes.{IsReady}
@@ -13,6 +13,6 @@ invariant-turns g l = record {
       × Stands l.fn.desk k c l.pass (g.C.Clock.ahead l.clock) (prepend_known l.buffer.unread (g.S.Source.left l.source)) (g.K.Sink.held l.sink);
   ready : IsReady l.fn.desk l.pass;
   kept : Keeps l.fn.desk l.fn.pass l.pass;
-  later_source : g.S.Source.faults l.fn.source ≤ g.S.Source.faults l.source;
-  later_sink : g.K.Sink.faults l.fn.sink ≤ g.K.Sink.faults l.sink;
+  source_faults : g.S.Source.faults l.source ≡ g.S.Source.faults l.fn.source;
+  sink_faults : g.K.Sink.faults l.sink ≡ g.K.Sink.faults l.fn.sink;
 }
