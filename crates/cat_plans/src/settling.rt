@@ -182,8 +182,16 @@ fn unless_conflicts(
     ensures logged { IfOk result (IsLoggedAs draft.command) }
     ensures there { IfErr result (λ failure. fails_expired failure ≡ false) }
 {
-    let (details, conflicts) = found(alloc, draft.planned.as_slice())?;
-    by_conflicts(alloc, catalogue, branch, draft, details, conflicts)
+    match found(alloc, draft.planned.as_slice()) {
+        Ok((details, conflicts)) => {
+            by_conflicts(alloc, catalogue, branch, draft, details, conflicts)
+        }
+        Err(fault) => {
+            // By a call, so that the proof doesn't take the draft apart here.
+            drop(draft);
+            Err(Failure::from(fault))
+        }
+    }
 }
 
 /// What plans come to: conflicts refuse, or are the reply.
@@ -200,6 +208,11 @@ pub(crate) fn settle(
     ensures there { IfErr result (λ failure. fails_expired failure ≡ false) }
     ensures place { OnOk result (catalogue.now.place < 4294967295) }
 {
-    needs_room(catalogue, branch, draft.planned.as_slice())?;
-    unless_conflicts(alloc, catalogue, branch, draft)
+    match needs_room(catalogue, branch, draft.planned.as_slice()) {
+        Ok(()) => unless_conflicts(alloc, catalogue, branch, draft),
+        Err(failure) => {
+            drop(draft);
+            Err(failure)
+        }
+    }
 }
