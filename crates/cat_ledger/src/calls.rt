@@ -14,6 +14,7 @@ ghost use Rattle.cat_ledger.specs.Occasions.{made_on};
 use crate::ledger::Ledger;
 use crate::occasion::Occasion;
 use crate::unmade::Unmade;
+use cat_answers::answer;
 use cat_keeper::Keeper;
 use cat_model::ask::Ask;
 use cat_model::command::Command;
@@ -52,7 +53,7 @@ impl Ledger {
     pub fn read(&self, alloc: Global, ask: &Ask) -> Result<Told, Refused>
         ensures { Reads sha256 self.now ask.now result }
     {
-        match self.catalogue().answer(alloc, ask) {
+        match answer(alloc, self.catalogue(), ask) {
             Ok(reply) => Ok(Told {
                 place: self.place(),
                 reply,

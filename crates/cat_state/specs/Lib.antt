@@ -4,7 +4,6 @@ pub mod Giving
 pub mod GivingLaws
 pub mod Adding
 pub mod Returning
-pub mod Turning
 pub mod HeldLaws
 pub mod Planning
 pub mod Counting

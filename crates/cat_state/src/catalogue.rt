@@ -133,14 +133,14 @@ impl Catalogue {
         self.commits().generation(hash)
     }
 
-    pub(crate) fn references(&self) -> &References
+    pub fn references(&self) -> &References
         ensures list { result.now.list ≡ self.now.references }
         ensures heads { IsTrue (heads_pass (is_known self.now.commits) self.now.references) }
     {
         &self.references
     }
 
-    pub(crate) fn commits(&self) -> &Graph
+    pub fn commits(&self) -> &Graph
         ensures list { result.now.list ≡ self.now.commits }
         ensures linked { AreLinked self.now.commits }
     {
@@ -155,7 +155,7 @@ impl Catalogue {
         &self.maps
     }
 
-    pub(crate) fn contents(&self) -> &Table<Content>
+    pub fn contents(&self) -> &Table<Content>
         ensures { result.now.list ≡ self.now.present }
     {
         &self.contents

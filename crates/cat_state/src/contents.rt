@@ -14,7 +14,7 @@ use std::alloc::Global;
 
 /// The content of a hash.
 #[tactic(auto, using(cat_tables::specs::LookUps::value_is_found))]
-pub(crate) fn find_content<'a>(contents: &'a Table<Content>, hash: &Hash) -> Option<&'a Content>
+pub fn find_content<'a>(contents: &'a Table<Content>, hash: &Hash) -> Option<&'a Content>
     ensures { option_copied result ≡ content_at contents.now.list hash.now }
 {
     contents.get(hash)

@@ -20,7 +20,7 @@ use cat_names::ref_name::RefName;
 
 impl Catalogue {
     /// Whether it is a commit's hash, or the one that has no ancestor.
-    pub(crate) fn is_known(&self, hash: &Hash) -> bool
+    pub fn is_known(&self, hash: &Hash) -> bool
         ensures { result ≡ is_known sha256 self.now hash.now }
     {
         self.commits().is_known(hash)
@@ -28,7 +28,7 @@ impl Catalogue {
 
     /// Whether the hash is on the chain of the head. Then it is known where the head is.
     #[tactic(auto, using(crate::proofs::Heads::chain_is_known))]
-    pub(crate) fn is_on_chain(&self, head: &Hash, hash: &Hash) -> bool
+    pub fn is_on_chain(&self, head: &Hash, hash: &Hash) -> bool
         ensures on { result ≡ on_chain self.now.commits head.now hash.now }
         ensures known { IsTrue result → IsTrue (is_known sha256 self.now head.now) → IsTrue (is_known sha256 self.now hash.now) }
     {

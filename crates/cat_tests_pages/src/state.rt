@@ -2,6 +2,7 @@ ghost use Rattle.std.specs.Prelude.{IfOk, IsTrue};
 ghost use Rattle.sha2.specs.Sha256.{sha256};
 ghost use Rattle.cat_model.specs.State.{is_known};
 
+use cat_answers::answer;
 use cat_model::ask::{Ask, ReferencesAsk};
 use cat_model::limits::Limits;
 use cat_model::reference::{Kind, Reference};
@@ -46,7 +47,7 @@ fn listed(alloc: Global, catalogue: &Catalogue) -> Result<(usize, bool), Failure
         limit: 1,
         after: None,
     });
-    let reply = catalogue.answer(alloc, &ask);
+    let reply = answer(alloc, catalogue, &ask);
     drop(ask);
     let reply = reply?;
     let seen = match &reply {

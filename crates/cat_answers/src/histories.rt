@@ -5,8 +5,6 @@ ghost use Rattle.std.specs.Option.{option_copied};
 ghost use Rattle.cat_graph.specs.Linked.{values};
 ghost use Rattle.cat_model.specs.Answer as answers;
 
-use crate::contents::find_content;
-use crate::copies::{copy_content, copy_meta};
 use cat_codes::fault::NoMemory;
 use cat_codes::seq::Seq;
 use cat_model::commit::Commit;
@@ -15,6 +13,8 @@ use cat_model::entry::Entry;
 use cat_model::reply::{Change, HistoryItem};
 use cat_names::hash::Hash;
 use cat_names::key::ContentKey;
+use cat_state::contents::find_content;
+use cat_state::copies::{copy_content, copy_meta};
 use cat_tables::table::Table;
 use std::alloc::Global;
 

@@ -1,7 +1,7 @@
 use Rattle.std.proofs.Common.{arith}
 use Rattle.cat_model.specs.Answer.{keyed_content}
-use Rattle.cat_state.proofs.Walks.{filter_map_more}
-use Rattle.cat_state.proofs.keyed.keyed_contents.Goals as goal
+use Rattle.cat_answers.proofs.Walks.{filter_map_more}
+use Rattle.cat_answers.proofs.keyed.keyed_contents.Goals as goal
 
 pub loop-key-preserved : goal.loop-key-preserved
 loop-key-preserved c =

@@ -4,13 +4,13 @@ ghost use Rattle.std.specs.Prelude.{◌≡◌, ◌++◌, ◌∷◌, [], IfOk, On
 ghost use Rattle.std.specs.Option.{option_copied};
 ghost use Rattle.cat_model.specs.Answer as answers;
 
-use crate::contents::find_content;
-use crate::copies::copy_content;
 use cat_codes::fault::NoMemory;
 use cat_codes::seq::Seq;
 use cat_keymap::key_map::KeyMap;
 use cat_model::content::Content;
 use cat_names::key::ContentKey;
+use cat_state::contents::find_content;
+use cat_state::copies::copy_content;
 use cat_tables::table::Table;
 use std::alloc::Global;
 

@@ -4,14 +4,14 @@ ghost use Rattle.std.specs.Prelude.{◌≡◌};
 ghost use Rattle.std.specs.Option.{option_and_then, option_copied, option_map};
 ghost use Rattle.sha2.specs.Sha256.{sha256};
 ghost use Rattle.cat_model.specs.Answer as answers;
-ghost use Rattle.cat_state.specs.Turning as turning;
+ghost use Rattle.cat_answers.specs.Turning as turning;
 
-use crate::catalogue::Catalogue;
 use cat_model::refusal::Refusal;
 use cat_names::hash::Hash;
 use cat_names::key::ContentKey;
 use cat_names::ref_name::RefName;
 use cat_pages::token::Token;
+use cat_state::catalogue::Catalogue;
 
 /// The commit that the first page was of.
 pub(crate) fn commit_before(after: &Option<(Hash, ContentKey)>) -> Option<Hash>
@@ -63,35 +63,41 @@ pub(crate) fn next_commit(token: Option<Token>) -> Option<Hash>
     }
 }
 
-impl Catalogue {
-    /// The commit that a token names in place of the one asked for, if it is known.
-    pub(crate) fn turned_to(&self, hash: Hash, other: &Option<Hash>) -> Result<Hash, Refusal>
-        ensures { result ≡ answers.turned_to sha256 self.now hash other.now }
-    {
-        match other {
-            None => Ok(hash),
-            Some(other) => {
-                if self.is_known(other) {
-                    Ok(*other)
-                } else {
-                    Err(Refusal::RefNotFound)
-                }
+/// The commit that a token names in place of the one asked for, if it is known.
+pub(crate) fn turned_to(
+    catalogue: &Catalogue,
+    hash: Hash,
+    other: &Option<Hash>,
+) -> Result<Hash, Refusal>
+    ensures { result ≡ answers.turned_to sha256 catalogue.now hash other.now }
+{
+    match other {
+        None => Ok(hash),
+        Some(other) => {
+            if catalogue.is_known(other) {
+                Ok(*other)
+            } else {
+                Err(Refusal::RefNotFound)
             }
         }
     }
+}
 
-    /// The last commit that is asked for is on the chain.
-    pub(crate) fn needs_until(&self, hash: &Hash, until: &Option<Hash>) -> Result<(), Refusal>
-        ensures { result ≡ answers.needs_until self.now hash.now until.now }
-    {
-        match until {
-            None => Ok(()),
-            Some(last) => {
-                if self.is_on_chain(hash, last) {
-                    Ok(())
-                } else {
-                    Err(Refusal::RefNotFound)
-                }
+/// The last commit that is asked for is on the chain.
+pub(crate) fn needs_until(
+    catalogue: &Catalogue,
+    hash: &Hash,
+    until: &Option<Hash>,
+) -> Result<(), Refusal>
+    ensures { result ≡ answers.needs_until catalogue.now hash.now until.now }
+{
+    match until {
+        None => Ok(()),
+        Some(last) => {
+            if catalogue.is_on_chain(hash, last) {
+                Ok(())
+            } else {
+                Err(Refusal::RefNotFound)
             }
         }
     }

@@ -6,7 +6,7 @@ use Rattle.cat_names.specs.declared.hash.Hash.{Hash}
 use Rattle.cat_model.specs.declared.commit.Commit.{Commit}
 use Rattle.cat_model.specs.declared.entry.Entry.{Entry}
 use Rattle.cat_pages.specs.declared.token.Token.TheVariants.{References, Entries, History}
-use Rattle.cat_state.specs.Turning.{commit_of, entry_of, name_of}
+use Rattle.cat_answers.specs.Turning.{commit_of, entry_of, name_of}
 
 pub names_next : (o : Option (List ℕ)) → option_and_then name_of (option_map (λ name. References name) o) ≡ o
 names_next None = refl
