@@ -1,5 +1,5 @@
 -- The texts of the API for references, conflicts, merges and refusals.
-use Rattle.std.specs.Prelude.{ℕ, List, [], ◌++◌, length, codes, unwrap_or}
+use Rattle.std.proofs.Common.{◌≡◌, ℕ, List, [], ◌++◌, length, codes, is_none, unwrap_or, false, refl}
 use Rattle.std.specs.Fmt.{decimal}
 use Rattle.http.specs.StatusCode.{reason_phrase}
 use Rattle.cat_model.specs.declared.conflict.ConflictKind.{ConflictKind}
@@ -78,6 +78,26 @@ status_of Encoding = 415
 -- the phrase of its status line
 abbrev pub phrase_of : Refusal → List ℕ
 phrase_of refusal = unwrap_or (reason_phrase (status_of refusal)) []
+
+-- each of these statuses has a phrase
+pub has_phrase : (refusal : Refusal) → is_none (reason_phrase (status_of refusal)) ≡ false
+has_phrase (BadRequest reason) = refl
+has_phrase RefNotFound = refl
+has_phrase RefExists = refl
+has_phrase (ContentNotFound why) = refl
+has_phrase (Conflicts conflicts) = refl
+has_phrase (Expired keys opened) = refl
+has_phrase (RetriesSpent heads) = refl
+has_phrase (SweepOpen place) = refl
+has_phrase (Limit which number) = refl
+has_phrase (Collision hash first second) = refl
+has_phrase Fault = refl
+has_phrase (Down faults) = refl
+has_phrase NoMemory = refl
+has_phrase NoRoute = refl
+has_phrase (WrongMethod allowed) = refl
+has_phrase TooLarge = refl
+has_phrase Encoding = refl
 
 abbrev pub code_of : Refusal → List ℕ
 code_of (BadRequest reason) = codes "BAD_REQUEST"
