@@ -18,7 +18,7 @@ use serde_json::Value;
 use std::alloc::Global;
 
 /// A content as a request gives it. Without an id it is new.
-#[derive(Clone, Debug, PartialEq, Eq, Drop)]
+#[derive(Debug, PartialEq, Eq, Drop)]
 pub struct Given {
     /// The id, which the server gives to a new content.
     pub id: Option<ContentId>,

@@ -32,25 +32,41 @@ use std::alloc::{AllocError, Global};
 fn logged_create(create: &Create) -> Result<Command, AllocError>
     ensures { IfOk result (λ c. c ≡ commands.Create (record create.now { source_kind = None })) }
 {
-    let mut create = create.clone()?;
-    create.source_kind = None;
-    Ok(Command::Create(create))
+    let name = create.name.clone()?;
+    let source = create.source.clone()?;
+    Ok(Command::Create(Create {
+        name,
+        kind: create.kind,
+        source,
+        source_kind: None,
+    }))
 }
 
 /// The call as it is logged.
 fn logged_assign(assign: &Assign) -> Result<Command, AllocError>
     ensures { IfOk result (λ c. c ≡ commands.Assign (record assign.now { source_kind = None })) }
 {
-    let mut assign = assign.clone()?;
-    assign.source_kind = None;
-    Ok(Command::Assign(assign))
+    let name = assign.name.clone()?;
+    let source = assign.source.clone()?;
+    Ok(Command::Assign(Assign {
+        name,
+        kind: assign.kind,
+        expected: assign.expected,
+        source,
+        source_kind: None,
+    }))
 }
 
 /// The call as it is logged.
 fn logged_delete(delete: &Delete) -> Result<Command, AllocError>
     ensures { IfOk result (λ c. c ≡ commands.Delete delete.now) }
 {
-    Ok(Command::Delete(delete.clone()?))
+    let name = delete.name.clone()?;
+    Ok(Command::Delete(Delete {
+        name,
+        kind: delete.kind,
+        expected: delete.expected,
+    }))
 }
 
 /// Adds a reference, of which a copy is the answer, and keeps the entry of the call; or leaves

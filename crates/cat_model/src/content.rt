@@ -47,7 +47,7 @@ pub struct Namespace {
     pub properties: Ascending<Text, Text>,
 }
 
-#[derive(Clone, Debug, PartialEq, Eq, Drop)]
+#[derive(Debug, PartialEq, Eq, Drop)]
 pub enum Body {
     IcebergTable(IcebergTable),
     IcebergView(IcebergView),
@@ -56,7 +56,7 @@ pub enum Body {
 }
 
 /// What a key stands for, in full.
-#[derive(Clone, Debug, PartialEq, Eq, Drop)]
+#[derive(Debug, PartialEq, Eq, Drop)]
 pub struct Content {
     pub id: ContentId,
     pub body: Body,

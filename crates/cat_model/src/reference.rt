@@ -27,7 +27,7 @@ pub struct Pointer {
 }
 
 /// The commit that a read was answered at: a reference's, or one that no reference was named for.
-#[derive(Clone, Debug, PartialEq, Eq, Drop)]
+#[derive(Debug, PartialEq, Eq, Drop)]
 pub enum Effective {
     Named(Reference),
     Detached(Hash),
