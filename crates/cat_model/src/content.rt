@@ -18,8 +18,10 @@ use cat_names::hash::ContentId;
 use cat_names::key::{ContentKey, Element};
 use std::alloc::Global;
 
+/// The state of an Iceberg table.
 #[derive(Clone, Debug, PartialEq, Eq, Drop)]
 pub struct IcebergTable {
+    /// Where the table's metadata file lies.
     pub metadata_location: Text,
     pub snapshot_id: i64,
     pub schema_id: i32,
@@ -27,26 +29,34 @@ pub struct IcebergTable {
     pub sort_order_id: i32,
 }
 
+/// The state of an Iceberg view.
 #[derive(Clone, Debug, PartialEq, Eq, Drop)]
 pub struct IcebergView {
+    /// Where the view's metadata file lies.
     pub metadata_location: Text,
     pub version_id: i64,
     pub schema_id: i32,
 }
 
+/// The state of a Delta Lake table.
 #[derive(Clone, Debug, PartialEq, Eq, Drop)]
 pub struct DeltaLakeTable {
+    /// Where the files of its log lie.
     pub metadata_locations: Seq<Text>,
+    /// Where the files of its checkpoints lie.
     pub checkpoint_locations: Seq<Text>,
+    /// The file that names the last checkpoint, where there is one.
     pub last_checkpoint: Option<Text>,
 }
 
+/// A namespace, which stands at the key of its elements alone.
 #[derive(Clone, Debug, PartialEq, Eq, Drop)]
 pub struct Namespace {
     pub elements: Seq<Text>,
     pub properties: Ascending<Text, Text>,
 }
 
+/// What a content is, by its type.
 #[derive(Debug, PartialEq, Eq, Drop)]
 pub enum Body {
     IcebergTable(IcebergTable),

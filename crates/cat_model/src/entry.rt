@@ -21,6 +21,7 @@ pub enum ContentKind {
 }
 
 impl ContentKind {
+    /// Its number in the bytes of contents, commits and log entries.
     pub fn number(self) -> u8
         ensures { result ≡ kind_number self }
     {
@@ -32,6 +33,7 @@ impl ContentKind {
         }
     }
 
+    /// The type of a number; none for a number of no type.
     pub fn of(number: u8) -> Option<ContentKind>
         ensures { result ≡ kind_of number }
     {

@@ -11,7 +11,7 @@ use cat_codes::writer::Writer;
 use std::alloc::Global;
 use std::marker::Model;
 
-/// Microseconds since 1970, up to the end of the year 9999.
+/// Microseconds since 1970-01-01T00:00:00Z, up to 9999-12-30T22:00:00.999999Z.
 #[derive(Clone, Copy, Debug, PartialEq, Eq, PartialOrd, Ord)]
 pub struct Moment {
     micros: u64,
@@ -30,8 +30,10 @@ impl Model for Moment {
 }
 
 impl Moment {
+    /// The microseconds of the last moment.
     pub const LAST: u64 = 253_402_207_200_999_999;
 
+    /// The moment so many microseconds after the first.
     pub fn from_micros(micros: u64) -> Moment
         requires { micros ≤ 253402207200999999 }
         ensures { result ≡ micros }
@@ -39,6 +41,7 @@ impl Moment {
         Moment { micros }
     }
 
+    /// Its microseconds since the first moment.
     pub fn micros(self) -> u64
         ensures value { result ≡ self }
         ensures known { result ≤ 253402207200999999 }

@@ -133,6 +133,7 @@ impl Catalogue {
         self.commits().generation(hash)
     }
 
+    /// Its references, in the order of their names.
     pub fn references(&self) -> &References
         ensures list { result.now.list ≡ self.now.references }
         ensures heads { IsTrue (heads_pass (is_known self.now.commits) self.now.references) }
@@ -140,6 +141,7 @@ impl Catalogue {
         &self.references
     }
 
+    /// Its commits under their hashes.
     pub fn commits(&self) -> &Graph
         ensures list { result.now.list ≡ self.now.commits }
         ensures linked { AreLinked self.now.commits }
@@ -155,6 +157,7 @@ impl Catalogue {
         &self.maps
     }
 
+    /// Its contents under their hashes.
     pub fn contents(&self) -> &Table<Content>
         ensures { result.now.list ≡ self.now.present }
     {

@@ -10,11 +10,13 @@ use std::test::Fail;
 /// A journal without entries.
 pub const NEW: [u8; 17] = *b"NESSIECJ\0\0\0\x01\0\0\0\0\0";
 
-/// Deletes of the branches `dev`, `a` and `of/x`, at the places 2, 3 and 4.
+/// A delete of the branch `dev`, at place 2.
 pub const DEV: [u8; 30] = *b"\x03\0\0\0\x02\0\0\0\0\0\0\0\0\0\0\0\0\0\x0f\x42\x40\0\0\0\x03dev\0\0";
 
+/// A delete of the branch `a`, at place 3.
 pub const A: [u8; 28] = *b"\x03\0\0\0\x03\0\0\0\0\0\0\0\0\0\0\0\0\0\x0f\x42\x41\0\0\0\x01a\0\0";
 
+/// A delete of the branch `of/x`, at place 4.
 pub const OF_X: [u8; 31] =
     *b"\x03\0\0\0\x04\0\0\0\0\0\0\0\0\0\0\0\0\0\x0f\x42\x42\0\0\0\x04of/x\0\0";
 
