@@ -1,2 +1,4 @@
 pub mod Ids
 pub mod Found
+pub mod Steps
+pub mod Puts

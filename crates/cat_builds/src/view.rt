@@ -25,7 +25,7 @@ impl Model for View {
 
 impl View {
     /// A view of the catalogue that it shares.
-    pub fn new(catalogue: Arc<Catalogue>) -> View
+    pub(crate) fn new(catalogue: Arc<Catalogue>) -> View
         ensures { result ≡ catalogue_in catalogue }
     {
         View { catalogue }

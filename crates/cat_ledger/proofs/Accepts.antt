@@ -15,7 +15,7 @@ use Rattle.cat_model.specs.Refusing.{◌>>=◌, Outcome}
 use Rattle.cat_model.specs.State.{State}
 use Rattle.cat_state.specs.Adding.{moved_state, with_both}
 use Rattle.cat_state.specs.GivingLaws.{in_turn}
-use Rattle.cat_ledger.specs.declared.preparing.Prepared.{Prepared}
+use Rattle.cat_builds.specs.declared.preparing.Prepared.{Prepared}
 use Rattle.cat_names.specs.declared.hash.Hash.{Hash}
 use Rattle.cat_state.specs.declared.failure.Failure.TheVariants as failures
 use Rattle.cat_plans.specs.declared.outcome.Adding.{Adding}
@@ -24,7 +24,8 @@ use Rattle.cat_ledger.specs.declared.unmade.Unmade.{Unmade}
 use Rattle.cat_ledger.specs.declared.unmade.Unmade.TheVariants.{Failed, NotKept}
 use Rattle.cat_ledger.specs.Drafting.{step_adding}
 use Rattle.cat_ledger.specs.Making.{FailsAs, IsAccepted, IsUnrefused, entry_at, head_of}
-use Rattle.cat_ledger.specs.Putting.{accepted_entry, add_step}
+use Rattle.cat_builds.specs.Putting.{add_step}
+use Rattle.cat_ledger.specs.Accepting.{accepted_entry}
 
 abbrev reply_of : Prepared → Reply
 reply_of made = replies.Committed (record { added = made.added; target = made.moved })

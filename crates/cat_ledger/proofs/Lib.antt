@@ -1,5 +1,4 @@
 pub mod Asked
-pub mod Steps
 pub mod Accepts
 pub mod Plain
 pub mod OpenedPlans
@@ -9,7 +8,6 @@ pub mod Before
 pub mod Opened
 pub mod Undrafted
 pub mod Occasions
-pub mod Puts
 pub mod Unexpired
 pub mod Growing
 pub mod Newest

@@ -22,12 +22,12 @@ use Rattle.cat_plans.specs.declared.outcome.Outcome.TheVariants.{Replied, Tried,
 use Rattle.cat_plans.specs.Drafts.{logged_merge, logged_transplant}
 use Rattle.cat_plans.specs.Outcomes.{IsLoggedAs}
 use Rattle.cat_ledger.specs.declared.logging.Turn.{Turn}
-use Rattle.cat_ledger.specs.declared.preparing.Prepared.{Prepared}
+use Rattle.cat_builds.specs.declared.preparing.Prepared.{Prepared}
 use Rattle.cat_ledger.specs.declared.occasion.Occasion.{Occasion}
 use Rattle.cat_ledger.specs.Drafting.{IsLoggable, MayBeLogged}
 use Rattle.cat_ledger.specs.Occasions.{undrafted_turn}
 use Rattle.cat_ledger.specs.Making.{entry_at}
-use Rattle.cat_ledger.specs.Putting.{accepted_entry}
+use Rattle.cat_ledger.specs.Accepting.{accepted_entry}
 
 some_draft : (n : ℕ) → 0 < n → nat_lt 0 n ≡ true
 some_draft n some = grind (arith, nat_tests, some)

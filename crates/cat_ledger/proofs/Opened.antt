@@ -11,12 +11,13 @@ use Rattle.cat_model.specs.State.{State}
 use Rattle.cat_model.specs.Step.{head_left}
 use Rattle.cat_state.specs.Giving.{Fails}
 use Rattle.cat_plans.specs.ExpiringLaws.{unexpired_fails}
-use Rattle.cat_ledger.specs.declared.preparing.Prepared.{Prepared}
+use Rattle.cat_builds.specs.declared.preparing.Prepared.{Prepared}
 use Rattle.cat_ledger.specs.declared.logging.Turn.{Turn}
 use Rattle.cat_ledger.specs.declared.unmade.Unmade.{Unmade}
 use Rattle.cat_ledger.specs.declared.unmade.Unmade.TheVariants.{Failed, NotKept}
 use Rattle.cat_ledger.specs.Making.{ComesAs, Ends, IsAccepted, Runs, entry_at, head_of, taking, unmade_expired}
-use Rattle.cat_ledger.specs.Putting.{accepted_book, accepted_told, add_step}
+use Rattle.cat_builds.specs.Putting.{add_step}
+use Rattle.cat_ledger.specs.Accepting.{accepted_book, accepted_told}
 use Rattle.cat_ledger.specs.Occasions.{turned}
 use Rattle.cat_ledger.proofs.Called.{step_done, step_fails, step_logs, step_not_kept}
 use Rattle.cat_ledger.proofs.Unexpired.{unexpired_step}

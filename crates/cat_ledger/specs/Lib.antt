@@ -1,9 +1,8 @@
-pub mod Sharing
 pub mod Making
 pub mod Occasions
 pub mod Remaking
 pub mod Kept
-pub mod Putting
+pub mod Accepting
 pub mod Drafting
 pub mod PlainLaws
 pub mod UsualLaws

@@ -6,13 +6,14 @@ ghost use Rattle.cat_frames.specs.Entries.{is_logged};
 ghost use Rattle.cat_ledger.specs.Kept.{Keeps};
 ghost use Rattle.cat_model.specs.declared.command.Command.TheVariants as commands;
 ghost use Rattle.cat_ledger.specs.Making.{ComesAs, entry_at, head_of, taking};
-ghost use Rattle.cat_ledger.specs.Putting.{accepted_book, accepted_entry, accepted_told, add_step, IsMade};
+ghost use Rattle.cat_builds.specs.Putting.{IsMade, add_step};
+ghost use Rattle.cat_ledger.specs.Accepting.{accepted_book, accepted_entry, accepted_told};
 ghost use Rattle.cat_state.specs.Adding.{IsAbove};
 
 use crate::ledger::Ledger;
 use crate::logging::{Turn, entry, keep_or_cut_back};
-use crate::preparing::Prepared;
 use crate::unmade::Unmade;
+use cat_builds::preparing::Prepared;
 use cat_keeper::Keeper;
 use cat_model::command::Command;
 use cat_model::reply::{Committed, Reply, Told};

@@ -8,7 +8,7 @@ ghost use Rattle.cat_model.specs.Namespaces.{is_well_formed};
 ghost use Rattle.cat_model.specs.Pages.{first};
 ghost use Rattle.std.specs.Option.{option_copied};
 
-use crate::shared::Shared;
+use cat_builds::shared::SharedCatalogue;
 use cat_builds::view::View;
 use cat_codes::fault::NoMemory;
 use cat_model::limits::Limits;
@@ -21,7 +21,7 @@ use std::marker::Model;
 /// A catalogue in memory, which views may share, with the entries that led to it.
 #[derive(Drop)]
 pub struct Ledger {
-    pub(crate) catalogue: Shared,
+    pub(crate) catalogue: SharedCatalogue,
     pub(crate) draft: u64,
     pub(crate) log: Vec<LogEntry>,
 }
@@ -44,7 +44,7 @@ impl Ledger {
         ensures { IfOk result (λ ledger. ledger ≡ first_book sha256 limits) }
     {
         Ok(Ledger {
-            catalogue: Shared::new(alloc, limits)?,
+            catalogue: SharedCatalogue::new(alloc, limits)?,
             draft: 0,
             log: Vec::new(alloc),
         })

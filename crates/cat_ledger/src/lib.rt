@@ -13,13 +13,10 @@ mod ledger;
 mod logging;
 mod moving;
 mod occasion;
-mod ops;
 mod planned;
-mod preparing;
 mod referring;
 mod replaying;
 mod settling;
-mod shared;
 mod unmade;
 
 pub use calls::refused;

@@ -1,10 +1,9 @@
 //! Calls that opened a draft, settled by what was built on their branch's head.
 
-ghost use Rattle.std.specs.Prelude.{◌≡◌, ◌<◌, Some, None, Ok, false, IfErr, IfOk, OnOk, IsTrue};
+ghost use Rattle.std.specs.Prelude.{◌≡◌, ◌<◌, Some, None, Ok, false, IfErr, IsTrue};
 ghost use Rattle.sha2.specs.Sha256.{sha256};
 ghost use Rattle.cat_names.specs.declared.hash.Hash.{Hash as HashValue};
 ghost use Rattle.cat_model.specs.declared.command.Command.TheVariants as commands;
-ghost use Rattle.cat_model.specs.Commits.{given_request, step_commit};
 ghost use Rattle.cat_model.specs.Distinct.{are_distinct};
 ghost use Rattle.cat_model.specs.Step.{opening};
 ghost use Rattle.cat_model.specs.WellMade.{have_contents, is_well_made};
@@ -13,18 +12,14 @@ ghost use Rattle.cat_builds.specs.Builds.{IsBuilt, IsGiven, IsGivenBy, IsJudgedA
 ghost use Rattle.cat_ledger.specs.Kept.{Keeps};
 ghost use Rattle.cat_ledger.specs.Making.{Runs, unmade_expired};
 ghost use Rattle.cat_ledger.specs.Occasions.{made_on, turned};
-ghost use Rattle.cat_ledger.specs.Putting.{IsMade, LeadsTo};
 
 use crate::ledger::Ledger;
 use crate::logging::Turn;
-use crate::ops::puts;
-use crate::preparing::Prepared;
 use crate::unmade::Unmade;
 use cat_builds::building::{Built, Work};
 use cat_builds::call::Call;
 use cat_builds::given::Given;
-use cat_builds::judging::map_after;
-use cat_builds::opening::open_commit;
+use cat_builds::settling::settle_commit;
 use cat_keeper::Keeper;
 use cat_model::command::{CommitRequest, Merge, Transplant};
 use cat_model::moment::Moment;
@@ -38,38 +33,6 @@ use cat_state::failure::Failure;
 use std::alloc::Global;
 
 impl Ledger {
-    /// What the request adds on its branch, its operations judged there.
-    fn put(
-        &self,
-        alloc: Global,
-        turn: Turn,
-        request: &CommitRequest,
-        given: Given,
-        judged: Judged,
-    ) -> Result<Prepared, Failure>
-        requires distinct { IsTrue (are_distinct request.now.ops) }
-        requires contents { IsTrue (have_contents sha256 request.now.ops request.now.contents) }
-        requires given { IsGiven turn.draft request.now given }
-        requires opened { opening sha256 self.now.state (commands.Commit request.now) ≡ Ok tt }
-        requires judged { (head : HashValue) × IsJudgedAt self.now.state request.now given.ops head judged }
-        ensures step { LeadsTo self.now.state result (step_commit sha256 self.now.state request.now turn.draft turn.moment) }
-        ensures logged { IfOk result (λ made. made.request ≡ given_request sha256 turn.draft request.now) }
-        ensures made { IfOk result (λ made. IsMade self.now.state made) }
-        ensures place { OnOk result (self.now.state.place < 4294967295) }
-    {
-        let catalogue = self.catalogue();
-        let branch = match open_commit(catalogue, request) {
-            Ok((branch, _expected)) => branch,
-            Err(_) => unreachable!(),
-        };
-        catalogue.contents_are_held();
-        let head = catalogue.map_at(&branch.head)?;
-        catalogue.needs_commit_room(&head, puts(given.ops.as_slice()))?;
-        let map = map_after(judged)?;
-        let made = self.prepare(alloc, turn, request, branch, given, map)?;
-        Ok(made)
-    }
-
     /// Commits the operations of a request, which were judged.
     #[tactic(auto, using(crate::proofs::Growing::above_taking))]
     fn settle_commit<K: Keeper>(
@@ -95,7 +58,16 @@ impl Ledger {
         ensures kept { K.kept keeper.new ≡ self.new.state.place }
         ensures keeps { Keeps K.told K.kept K.down K.in_flight K.faults K.moment K.left_since K.may_leave keeper.old keeper.new (turned self.old turn (commands.Commit request.now)).logged result }
     {
-        match self.put(alloc, turn, request, given, judged) {
+        let catalogue = self.catalogue();
+        match settle_commit(
+            alloc,
+            catalogue,
+            turn.draft,
+            turn.moment,
+            request,
+            given,
+            judged,
+        ) {
             Ok(made) => Ok(self.accept(alloc, keeper, turn, made)?),
             Err(failure) => {
                 self.take(turn.draft);

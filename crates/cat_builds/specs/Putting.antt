@@ -1,14 +1,10 @@
--- What a commit adds to a book.
-use Rattle.std.specs.Prelude.{◌≡◌, ◌+◌, Some, Result, Ok, Err, IsTrue, flat_map}
+-- What a commit adds to a state.
+use Rattle.std.specs.Prelude.{◌≡◌, ℕ, Result, Ok, Err, IsTrue, flat_map}
 use Rattle.std.specs.List.{list_all}
 use Rattle.sha2.specs.Sha256.{sha256}
-use Rattle.cat_model.specs.declared.command.Command.TheVariants as commands
 use Rattle.cat_model.specs.declared.command.CommitRequest.{CommitRequest}
-use Rattle.cat_model.specs.declared.log_entry.LogEntry.{LogEntry}
 use Rattle.cat_model.specs.declared.reference.Reference.{Reference}
 use Rattle.cat_model.specs.declared.reply.Reply.TheVariants as replies
-use Rattle.cat_model.specs.declared.reply.Told.{Told}
-use Rattle.cat_model.specs.Book.{Book}
 use Rattle.cat_model.specs.Commits.{added_id, request_commit}
 use Rattle.cat_model.specs.Records.{with_commit, with_contents}
 use Rattle.cat_model.specs.Refusing.{◌>>=◌, Outcome}
@@ -18,9 +14,7 @@ use Rattle.cat_state.specs.Adding.{AreHashesOf, IsRecordOf, moved_state}
 use Rattle.cat_state.specs.Giving.{Fails}
 use Rattle.cat_state.specs.Keeping.{MayBeAdded, is_held}
 use Rattle.cat_builds.specs.declared.given.Given.{Given}
-use Rattle.cat_ledger.specs.declared.logging.Turn.{Turn}
-use Rattle.cat_ledger.specs.declared.preparing.Prepared.{Prepared}
-use Rattle.cat_ledger.specs.Making.{entry_at, taking, with_entry}
+use Rattle.cat_builds.specs.declared.preparing.Prepared.{Prepared}
 
 -- what is added to a state, less what is kept already, and the reply
 abbrev pub add_step : State → Prepared → Outcome
@@ -28,18 +22,6 @@ add_step state made =
     with_contents sha256 state made.request.contents >>= λ held.
     with_commit sha256 held made.kept.commit >>= λ more.
     Ok (moved_state more made.moved, replies.Committed (record { added = made.added; target = made.moved }))
-
--- the entry of what is accepted
-abbrev pub accepted_entry : Book → Turn → Prepared → LogEntry
-accepted_entry book turn made = entry_at book turn (commands.Commit made.request) (Some made.moved.head)
-
--- the book of a state after what is accepted, with its entry
-abbrev pub accepted_book : Book → State → Turn → Prepared → Book
-accepted_book book after turn made = with_entry (taking book turn.draft) after (accepted_entry book turn made)
-
--- what is told of it
-abbrev pub accepted_told : Book → Prepared → Told
-accepted_told book made = record { place = book.state.place + 1; reply = replies.Committed (record { added = made.added; target = made.moved }) }
 
 -- what is made is what its hashes say, and may be added to the state, where the branch points at its commit; each content that is visible at it is there or among those added
 pub record IsMade (state : State) (made : Prepared) : Type 0 where
@@ -55,8 +37,8 @@ LeadsTo state (Ok made) outcome = outcome ≡ add_step state made
 LeadsTo state (Err failure) outcome = Fails failure outcome
 
 -- what a request adds on a branch, its operations given, each value by its definition
-pub record IsPrepared (state : State) (turn : Turn) (c : CommitRequest) (branch : Reference) (given : Given) (made : Prepared) : Type 0 where
-  pub commit : made.kept.commit ≡ request_commit state branch.head turn.moment c given.ops
+pub record IsPrepared (state : State) (moment : ℕ) (c : CommitRequest) (branch : Reference) (given : Given) (made : Prepared) : Type 0 where
+  pub commit : made.kept.commit ≡ request_commit state branch.head moment c given.ops
   pub written : IsRecordOf made.kept.commit made.kept.written
   pub next : MayBeAdded state.commits made.kept.commit made.kept.map
   pub moved : made.moved ≡ record branch { head = made.kept.written.hash }

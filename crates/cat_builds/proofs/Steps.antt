@@ -26,9 +26,8 @@ use Rattle.cat_state.specs.Keeping.{MayBeAdded, is_held}
 use Rattle.cat_state.specs.KeepingLaws.{upon_may_be_added}
 use Rattle.cat_builds.specs.declared.given.Given.{Given}
 use Rattle.cat_builds.specs.Builds.{IsGiven}
-use Rattle.cat_ledger.specs.declared.logging.Turn.{Turn}
-use Rattle.cat_ledger.specs.declared.preparing.Prepared.{Prepared}
-use Rattle.cat_ledger.specs.Putting.{IsMade, IsPrepared, add_step}
+use Rattle.cat_builds.specs.declared.preparing.Prepared.{Prepared}
+use Rattle.cat_builds.specs.Putting.{IsMade, IsPrepared, add_step}
 use Rattle.cat_state.specs.GivingLaws.{fails_on}
 use Rattle.cat_builds.specs.KeyLaws.{Both}
 
@@ -119,23 +118,23 @@ passed : (state : State) (c : CommitRequest) (moment : ℕ) (branch : Reference)
 unfolding tested
 passed state c moment branch expected ops contents map r j = rw (r, j) refl
 
-made_is : (state : State) (turn : Turn) (c : CommitRequest) (branch : Reference) (given : Given) (made : Prepared)
-    → IsPrepared state turn c branch given made → rest state turn.moment c branch given.ops given.contents ≡ add_step state made
+made_is : (state : State) (moment : ℕ) (c : CommitRequest) (branch : Reference) (given : Given) (made : Prepared)
+    → IsPrepared state moment c branch given made → rest state moment c branch given.ops given.contents ≡ add_step state made
 unfolding rest
-made_is state turn c branch given made p =
+made_is state moment c branch given made p =
     rw (p.moved, p.added, p.request, (p.written).hash, p.commit) refl
 
 -- there is room and nothing conflicts: the step is what is added
-pub step_added : (state : State) (turn : Turn) (c : CommitRequest) (branch : Reference) (expected : Hash) (given : Given) (made : Prepared) (map : Map)
-    → AreGiven turn.draft c given.ops given.contents → commit_opening sha256 state c ≡ Ok (branch, expected)
+pub step_added : (state : State) (draft moment : ℕ) (c : CommitRequest) (branch : Reference) (expected : Hash) (given : Given) (made : Prepared) (map : Map)
+    → AreGiven draft c given.ops given.contents → commit_opening sha256 state c ≡ Ok (branch, expected)
     → needs_commit_room state (entries state.commits branch.head) (puts given.ops) ≡ Ok tt
     → or_conflicts (judge (entries state.commits expected) (entries state.commits branch.head) given.ops) ≡ Ok map
-    → IsPrepared state turn c branch given made → step_commit sha256 state c turn.draft turn.moment ≡ add_step state made
-step_added state turn c branch expected given made map g opened r j p =
-    step_is state c turn.draft turn.moment branch expected given.ops given.contents g opened
-    ∙ passed state c turn.moment branch expected given.ops given.contents map r j ∙ made_is state turn c branch given made p
+    → IsPrepared state moment c branch given made → step_commit sha256 state c draft moment ≡ add_step state made
+step_added state draft moment c branch expected given made map g opened r j p =
+    step_is state c draft moment branch expected given.ops given.contents g opened
+    ∙ passed state c moment branch expected given.ops given.contents map r j ∙ made_is state moment c branch given made p
 
 -- what was prepared is what its hashes say
-pub made_of : (state : State) (turn : Turn) (c : CommitRequest) (branch : Reference) (given : Given) (made : Prepared)
-    → IsPrepared state turn c branch given made → AreHashesOf (given.hashes).items given.contents → list_all (λ x. is_held state.present (made.hashes).items x.1.hash) made.kept.map ≡ true → IsMade state made
-made_of state turn c branch given made p h held = record { hashes = rw (p.hashes, p.request) h; written = p.written; next = p.next; head = rw p.moved refl; held = held }
+pub made_of : (state : State) (moment : ℕ) (c : CommitRequest) (branch : Reference) (given : Given) (made : Prepared)
+    → IsPrepared state moment c branch given made → AreHashesOf (given.hashes).items given.contents → list_all (λ x. is_held state.present (made.hashes).items x.1.hash) made.kept.map ≡ true → IsMade state made
+made_of state moment c branch given made p h held = record { hashes = rw (p.hashes, p.request) h; written = p.written; next = p.next; head = rw p.moved refl; held = held }

@@ -4,10 +4,10 @@ ghost use Rattle.std.specs.Prelude.{◌≡◌, ◌≤◌, IfOk};
 ghost use Rattle.std.specs.Borrow.{sem};
 ghost use Rattle.sha2.specs.Sha256.{sha256};
 ghost use Rattle.cat_builds.specs.Views.{catalogue_in};
-ghost use Rattle.cat_ledger.specs.Sharing.{LendsAlone};
+ghost use Rattle.cat_builds.specs.Sharing.{LendsAlone};
 ghost use Rattle.cat_model.specs.State.{first_state};
 
-use cat_builds::view::View;
+use crate::view::View;
 use cat_codes::fault::NoMemory;
 use cat_model::limits::Limits;
 use cat_state::catalogue::Catalogue;
@@ -18,11 +18,11 @@ use std::sync::Arc;
 /// A catalogue that views may share. It is changed alone: while a view holds it, a copy takes its
 /// place, and the view's stays as it is.
 #[derive(Drop)]
-pub(crate) struct Shared {
+pub struct SharedCatalogue {
     catalogue: Arc<Catalogue>,
 }
 
-impl Model for Shared {
+impl Model for SharedCatalogue {
     ghost use Rattle.cat_model.specs.State.{State};
     ghost use Rattle.cat_builds.specs.Views.{catalogue_in};
 
@@ -50,28 +50,28 @@ fn part(alloc: Global, shared: &mut Arc<Catalogue>) -> Result<(), NoMemory>
     Ok(())
 }
 
-impl Shared {
+impl SharedCatalogue {
     /// An empty catalogue: the branch `main` without a commit.
-    pub(crate) fn new(alloc: Global, limits: Limits) -> Result<Shared, NoMemory>
+    pub fn new(alloc: Global, limits: Limits) -> Result<SharedCatalogue, NoMemory>
         requires log { limits.log ≤ 4294967295 }
         requires commits { limits.commits ≤ 4294967295 }
         ensures { IfOk result (λ shared. shared ≡ first_state sha256 limits) }
     {
         let catalogue = Catalogue::new(alloc, limits)?;
-        Ok(Shared {
+        Ok(SharedCatalogue {
             catalogue: sharing(alloc, catalogue)?,
         })
     }
 
     /// The catalogue, to be read.
-    pub(crate) fn get(&self) -> &Catalogue
+    pub fn get(&self) -> &Catalogue
         ensures { result.now ≡ self.now }
     {
         &self.catalogue
     }
 
     /// A view of the catalogue as it is now.
-    pub(crate) fn view(&self) -> Result<View, NoMemory>
+    pub fn view(&self) -> Result<View, NoMemory>
         ensures { IfOk result (λ view. view ≡ self.now) }
     {
         let shared = Arc::try_clone(&self.catalogue)?;
@@ -98,7 +98,7 @@ impl Shared {
 
     /// The catalogue, to be changed: views that hold it keep it as it is. A change takes it once,
     /// before its first write, so that no memory is wanted for it later.
-    pub(crate) fn alone(&mut self, alloc: Global) -> Result<&mut Catalogue, NoMemory>
+    pub fn alone(&mut self, alloc: Global) -> Result<&mut Catalogue, NoMemory>
         ensures* writes_back { sem 𝓛 (LendsAlone self.entry result) }
         ensures value { IfOk result (λ catalogue. catalogue.now ≡ self.old) }
     {

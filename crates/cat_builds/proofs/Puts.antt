@@ -25,12 +25,11 @@ use Rattle.cat_state.specs.Adding.{AreHashesOf}
 use Rattle.cat_state.specs.HeldLaws.{all_among, held_after}
 use Rattle.cat_state.specs.Keeping.{has_contents, is_held}
 use Rattle.cat_builds.specs.declared.given.Given.{Given}
-use Rattle.cat_ledger.specs.declared.logging.Turn.{Turn}
-use Rattle.cat_ledger.specs.declared.preparing.Prepared.{Prepared}
+use Rattle.cat_builds.specs.declared.preparing.Prepared.{Prepared}
 use Rattle.cat_model.specs.Walks.{listed}
-use Rattle.cat_ledger.specs.Putting.{IsPrepared}
+use Rattle.cat_builds.specs.Putting.{IsPrepared}
 use Rattle.cat_builds.specs.KeyLaws.{Both}
-use Rattle.cat_ledger.proofs.Steps.{AreGiven}
+use Rattle.cat_builds.proofs.Steps.{AreGiven}
 
 -- the hash of each entry that an operation sets passes
 abbrev sets : (Hash → Bool) → Op → Bool
@@ -103,9 +102,9 @@ puts_set draft c ops contents hashes g have are =
     changes_set pass (by_key ops) (all_by_key (sets pass) ops (subst (λ (l : List Op). list_all (sets pass) l ≡ true) (sym g.ops_are) (from_set pass draft 0 (with_their_contents c.ops c.contents) (made_of c have) all)))
 
 -- each content of the map at a commit is there or among those of its request
-pub map_held : (state : State) (turn : Turn) (c : CommitRequest) (branch : Reference) (g : Given) (made : Prepared) → AreGiven turn.draft c g.ops g.contents → have_contents sha256 c.ops c.contents ≡ true → AreHashesOf (g.hashes).items g.contents
-    → has_contents state.present (entries state.commits branch.head) ≡ true → IsPrepared state turn c branch g made → list_all (λ x. is_held state.present (made.hashes).items x.1.hash) made.kept.map ≡ true
+pub map_held : (state : State) (draft moment : ℕ) (c : CommitRequest) (branch : Reference) (g : Given) (made : Prepared) → AreGiven draft c g.ops g.contents → have_contents sha256 c.ops c.contents ≡ true → AreHashesOf (g.hashes).items g.contents
+    → has_contents state.present (entries state.commits branch.head) ≡ true → IsPrepared state moment c branch g made → list_all (λ x. is_held state.present (made.hashes).items x.1.hash) made.kept.map ≡ true
 unfolding request_commit
-map_held state turn c branch g made given have are there p =
+map_held state draft moment c branch g made given have are there p =
     let changed : made.kept.map ≡ after_changes (changes_of g.ops) (entries state.commits branch.head) = (p.next).changed ∙ ap (λ (k : Commit). after_changes k.ops (entries state.commits k.parent)) p.commit in
-    rw (changed, p.hashes) (held_after state.present (g.hashes).items (changes_of g.ops) (entries state.commits branch.head) there (puts_set turn.draft c g.ops g.contents (g.hashes).items given have are))
+    rw (changed, p.hashes) (held_after state.present (g.hashes).items (changes_of g.ops) (entries state.commits branch.head) there (puts_set draft c g.ops g.contents (g.hashes).items given have are))
