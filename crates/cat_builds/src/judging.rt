@@ -1,6 +1,6 @@
 //! What the judgement of operations comes to.
 
-ghost use Rattle.std.specs.Prelude.{◌≡◌, IfOk, IsTrue};
+ghost use Rattle.std.specs.Prelude.{IfOk, IsTrue};
 ghost use Rattle.cat_model.specs.Commits.{or_conflicts};
 ghost use Rattle.cat_model.specs.Namespaces.{is_well_formed};
 ghost use Rattle.cat_rules.specs.Rules.{GivesWellFormed, verdict};

@@ -1,6 +1,6 @@
 //! The branches that commits are on.
 
-ghost use Rattle.std.specs.Prelude.{◌≡◌, IfOk};
+ghost use Rattle.std.specs.Prelude.{IfOk};
 ghost use Rattle.sha2.specs.Sha256.{sha256};
 ghost use Rattle.cat_model.specs.Commits.{commit_opening};
 ghost use Rattle.cat_state.specs.Giving.{SaysAs};

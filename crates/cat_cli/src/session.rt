@@ -1,6 +1,6 @@
 //! A session: the requests of a source, one after another, and the replies to them.
 
-ghost use Rattle.std.specs.Prelude.{◌≡◌, ◌≢◌, ◌+◌, ℕ, IfNone, IfSome, Some, None};
+ghost use Rattle.std.specs.Prelude.{◌≡◌, ◌≢◌, ◌+◌, IfNone, IfSome, Some};
 ghost use Rattle.cat_desk.specs.Pass.{Keeps};
 ghost use Rattle.cat_work.specs.Passes.{IsReady};
 ghost use Rattle.std.specs.Io.KnownBytes.{prepend_known};

@@ -1,6 +1,6 @@
 //! Ascending keys.
 
-ghost use Rattle.std.specs.Prelude.{◌≡◌, ◌<◌, ◌^◌, ◌↔◌, [], ◌∷◌, ◌++◌, false, Err, IsTrue, None, OnErr, OnOk, length, option_map};
+ghost use Rattle.std.specs.Prelude.{◌≡◌, ◌<◌, ◌^◌, ◌↔◌, [], ◌∷◌, ◌++◌, false, Err, IsTrue, None, OnErr, OnOk, length};
 ghost use Rattle.std.specs.List.{AllZip};
 ghost use Rattle.cat_codes.specs.Read.{Reads};
 ghost use Rattle.cat_codes.specs.Code.{ascending_keys, follows, keys_ascend, keys_at, last_of};

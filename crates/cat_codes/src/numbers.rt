@@ -1,7 +1,5 @@
 //! Numbers, flags and arrays of bytes as fields.
 
-ghost use Rattle.std.specs.Prelude.{◌≡◌, ◌++◌, OnOk};
-ghost use Rattle.cat_codes.specs.Read.{Reads};
 ghost use Rattle.cat_codes.specs.Code.{exactly, flag_code, i32_code, i64_code, u16_code, u32_code, u64_code, u8_code};
 ghost use Rattle.cat_codes.specs.FieldLaws.{exactly_is, flag_is};
 ghost use Rattle.cat_codes.specs.NumberLaws.{i32_is, i64_is, u16_is, u32_is, u64_is, u8_is};

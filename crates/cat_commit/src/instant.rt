@@ -2,8 +2,6 @@
 
 ghost use Rattle.std.specs.Prelude.{◌≡◌, ◌<◌, ◌≤◌, ◌*ℤ◌, Some, pos, refl};
 ghost use Rattle.jiff.specs.Words.{civil_nanos};
-ghost use Rattle.serde_json.specs.View.{view};
-ghost use Rattle.cat_json.specs.Reading.{Gives};
 ghost use Rattle.cat_commit.specs.Instants.{digit, civil_text, instant_text, moment_of, moment_as, moment_data};
 
 use cat_codes::fault::NoMemory;

@@ -1,6 +1,5 @@
 //! Contents of JSON.
 
-ghost use Rattle.std.specs.Prelude.{◌≡◌};
 ghost use Rattle.serde_json.specs.View.{view};
 ghost use Rattle.cat_json.specs.Reading.{Gives};
 ghost use Rattle.cat_content.specs.Forms.{kind_as, table_as, view_as, delta_as, namespace_as, body_as, content_as};

@@ -1,6 +1,6 @@
 //! Calls that open a draft: opened in one turn, settled or dropped in a later one.
 
-ghost use Rattle.std.specs.Prelude.{ℕ, ◌≡◌, ◌+◌, Ok, Some, true, IfErr, IfOk, IsTrue, OnErr, OnOk};
+ghost use Rattle.std.specs.Prelude.{◌≡◌, ◌+◌, Ok, Some, true, IfErr, IfOk, IsTrue, OnErr, OnOk};
 ghost use Rattle.sha2.specs.Sha256.{sha256};
 ghost use Rattle.cat_builds.specs.Builds.{HasHead, IsBuilt, IsGivenBy, command_of};
 ghost use Rattle.cat_checks.specs.Histories.{IsLegalFrom};

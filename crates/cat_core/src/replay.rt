@@ -1,7 +1,6 @@
 //! A log, executed again.
 
-ghost use Rattle.std.specs.Prelude.{◌≡◌, ◌≤◌, ◌&&◌, ◌||◌, not, nat_eq, Some, IfOk, IsTrue, bytes_eq};
-ghost use Rattle.std.specs.List.{list_any};
+ghost use Rattle.std.specs.Prelude.{◌≡◌, ◌≤◌, ◌&&◌, ◌||◌, Some, IfOk, IsTrue, bytes_eq};
 ghost use Rattle.sha2.specs.Sha256.{sha256};
 ghost use Rattle.cat_checks.specs.Legal.{draft_is_new, has_its_draft, replayed_call};
 ghost use Rattle.cat_frames.specs.Entries.{is_logged};

@@ -1,5 +1,5 @@
 -- Where the value stands while a seat steps.
-use Rattle.std.proofs.Common.{◌≡◌, ℕ, ◌-◌, List, set, sym, ap, ◌∙◌, subst, Option, Some, None}
+use Rattle.std.proofs.Common.{◌≡◌, ℕ, List, set, sym, ap, ◌∙◌, subst, Option, Some, None}
 use mathlib.Core.Option.{some}
 use mathlib.Core.Option.{Option as Maybe}
 use lib.ListN.{get_elem?}

@@ -1,12 +1,11 @@
 -- The format of commit requests is a code, and the catalogue logs requests that it spells.
-use Rattle.std.proofs.Common.{◌≡◌, ℕ, zero, suc, ◌+◌, List, [], ◌∷◌, length, Some, None, Bool, true, false, nat_eq, refl, sym, ap, subst, ◌∙◌}
+use Rattle.std.proofs.Common.{◌≡◌, ℕ, zero, suc, ◌+◌, List, [], ◌∷◌, length, Some, None, Bool, true, false, nat_eq, refl, sym, ap, ◌∙◌}
 use Rattle.std.specs.List.{cons_option, list_all}
 use Rattle.std.specs.Str.{bytes_eq}
 use Rattle.std.proofs.lemmas.Bool.{eq-eqb}
 use Rattle.std.proofs.lemmas.Slice.Eq.{bytes_eq-Decides}
 use Rattle.cat_codes.specs.declared.fault.FieldFault.TheVariants.{Range}
-use Rattle.cat_codes.specs.Code.{IsCode, PlacedFit, Takes, u32_code}
-use Rattle.cat_codes.specs.Basics.{ok_is}
+use Rattle.cat_codes.specs.Code.{IsCode, PlacedFit, u32_code}
 use Rattle.cat_codes.specs.NumberLaws.{u32_is}
 use Rattle.cat_codes.specs.FieldLaws.{by_tag_is, flag_is, nothing_is, only_is, option_is, pair_is, variant_is, within_is}
 use Rattle.cat_codes.specs.ListLaws.{and_true, both_true, placed_is}

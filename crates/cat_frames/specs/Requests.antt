@@ -1,5 +1,5 @@
 -- The format of commit requests as they are logged: each operation with the content that it puts.
-use Rattle.std.specs.Prelude.{◌≡◌, ℕ, zero, suc, ◌+◌, List, [], ◌∷◌, length, Option, Some, None, Ok, Bool, true, false, ◌&&◌, nat_eq, map, filter_map}
+use Rattle.std.specs.Prelude.{ℕ, zero, suc, ◌+◌, List, [], ◌∷◌, length, Option, Some, None, Ok, Bool, true, false, ◌&&◌, nat_eq, map, filter_map}
 use Rattle.cat_codes.specs.declared.fault.FieldFault.TheVariants.{Range}
 use Rattle.cat_codes.specs.Read.{Read, ◌>>=◌}
 use Rattle.cat_codes.specs.Code.{Code, ◌⊗◌, by_tag, flag_code, nothing, only, option, placed, u32_code, variant, within}

@@ -1,4 +1,4 @@
-ghost use Rattle.std.specs.Prelude.{◌≡◌, ◌≢◌, ◌+◌, ◌<◌, ◌≤◌, length, take, drop, slice_range};
+ghost use Rattle.std.specs.Prelude.{◌≡◌, ◌≢◌, ◌+◌, ◌<◌, ◌≤◌, length, take, slice_range};
 ghost use Rattle.cat_io.specs.Causes.{Rose};
 ghost use Rattle.cat_http.specs.ChunkedRead.{AnswerOf, IfWhole};
 

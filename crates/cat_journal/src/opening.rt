@@ -1,8 +1,7 @@
 //! Opening a journal's file, which an empty one is made.
 ghost use Rattle.std.specs.Prelude.{ℕ, List, [], ◌++◌, ◌≡◌, ◌<◌, ◌≤◌, ◌+◌, ◌^◌, length, take, Ok, IsErr, IfOk, IfSome, OnOk, MatchResult};
 ghost use Rattle.cat_io.specs.Crashes.{Told, Only};
-ghost use Rattle.cat_journal.specs.Frames.{header, new_journal, max_entries, payloads, recovered, IsAtRest};
-ghost use Rattle.cat_journal.specs.Held.{IsHeld};
+ghost use Rattle.cat_journal.specs.Frames.{header, new_journal, max_entries};
 ghost use Rattle.cat_journal.specs.Reading.{OnlyReads, IsFaultOf, IsOpened, HasOpenCause};
 
 use crate::append::persist;

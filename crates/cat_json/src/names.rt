@@ -1,7 +1,6 @@
 //! Forms of hashes, ids and keys.
 
-ghost use Rattle.std.specs.Prelude.{◌≡◌, refl};
-ghost use Rattle.cat_json.specs.Reading.{Gives};
+ghost use Rattle.std.specs.Prelude.{refl};
 ghost use Rattle.cat_json.specs.Names.{key_as, hash_as, id_as, BecomesFault, hash_data, id_data, key_data, no_float_key};
 
 use crate::fault::JsonFault;

@@ -1,9 +1,8 @@
 //! Forms of texts, booleans and numbers.
 
-ghost use Rattle.std.specs.Prelude.{◌≡◌, refl};
+ghost use Rattle.std.specs.Prelude.{refl};
 ghost use Rattle.serde_json.specs.Data.{string, boolean};
 ghost use Rattle.serde_json.specs.Find.{as_str, as_bool};
-ghost use Rattle.cat_json.specs.Reading.{Gives};
 ghost use Rattle.cat_json.specs.Numbers.{natural, small_natural, integer, small_integer, natural_data, integer_data, no_float_integer};
 
 use crate::fault::JsonFault;

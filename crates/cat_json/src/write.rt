@@ -4,7 +4,7 @@ ghost use Rattle.std.specs.Prelude.{◌≡◌, IfOk, option_map, false, string_b
 ghost use Rattle.serde_json.specs.Data.{Data, string, object, no_members};
 ghost use Rattle.serde_json.specs.View.{view};
 ghost use Rattle.serde_json.specs.Written.{has_float, compact_text};
-ghost use Rattle.cat_json.specs.Writing.{◌+>◌, ◌+?>◌, held, list_data, map_data, put_all, no_float_list, no_float_map};
+ghost use Rattle.cat_json.specs.Writing.{◌+>◌, ◌+?>◌, held, list_data, map_data, no_float_list, no_float_map};
 
 use cat_codes::ascending::Ascending;
 use cat_codes::fault::NoMemory;

@@ -1,5 +1,5 @@
 -- What a crash may leave at each moment of a run of calls. An image may be bytes, or what bytes recover to.
-use Rattle.std.specs.Prelude.{ℕ, ◌≤◌, ◌⊎◌}
+use Rattle.std.specs.Prelude.{ℕ, ◌⊎◌}
 use Rattle.std.proofs.Common.{inl, inr, ⊎_elim, arith}
 use Rattle.cat_io.specs.Crashes.{Elapses, LeavesOnly}
 

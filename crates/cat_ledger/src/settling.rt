@@ -29,7 +29,6 @@ use cat_plans::merging::settle_merge;
 use cat_plans::opening::{open_merge, open_transplant};
 use cat_plans::transplanting::settle_transplant;
 use cat_rules::judging::Judged;
-use cat_state::failure::Failure;
 use std::alloc::Global;
 
 impl Ledger {

@@ -1,6 +1,6 @@
 //! Entries of keys.
 
-ghost use Rattle.std.specs.Prelude.{◌≡◌, MatchOption, None, Some};
+ghost use Rattle.std.specs.Prelude.{◌≡◌, None, Some};
 ghost use Rattle.cat_model.specs.Formats.{kind_number, kind_of, kind_code, entry_code};
 ghost use Rattle.cat_model.specs.FormatLaws.{kind_is, entry_is};
 

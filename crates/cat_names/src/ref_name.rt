@@ -2,7 +2,6 @@
 
 ghost use Rattle.std.specs.Prelude.{◌≡◌, IfOk, IsTrue, codes};
 ghost use Rattle.std.specs.List.{list_all};
-ghost use Rattle.cat_codes.specs.Read.{Reads};
 ghost use Rattle.cat_names.specs.NameFaults.{GivesName};
 ghost use Rattle.cat_names.specs.RefNames.{begins_with_letter, has_good_dots, is_letter, is_name_byte, is_reference_name, ref_name_code, ref_name_is};
 

@@ -1,6 +1,6 @@
 //! Tokens: where a listing goes on, as a text.
 
-ghost use Rattle.std.specs.Prelude.{◌≡◌, ◌++◌, IfOk, Some, codes, length, string_bytes};
+ghost use Rattle.std.specs.Prelude.{◌≡◌, IfOk, Some, length, string_bytes};
 ghost use Rattle.hex.specs.Hex.{IsBytes};
 ghost use Rattle.cat_pages.specs.Tokens.{Gives, KeyBecomes, NameBecomes, entries_of, history_of, token_of, token_text};
 

@@ -1,6 +1,6 @@
 //! The branches that calls are on, and what is tested before their drafts are opened.
 
-ghost use Rattle.std.specs.Prelude.{◌≡◌, IfOk, IsTrue};
+ghost use Rattle.std.specs.Prelude.{IfOk, IsTrue};
 ghost use Rattle.sha2.specs.Sha256.{sha256};
 ghost use Rattle.cat_model.specs.Merges.{merge_opening};
 ghost use Rattle.cat_model.specs.State.{is_known};

@@ -1,10 +1,8 @@
 //! Bodies of commit requests.
 
 ghost use Rattle.std.specs.Prelude.{◌≡◌, IfOk};
-ghost use Rattle.serde_json.specs.View.{view};
-ghost use Rattle.cat_json.specs.Reading.{Gives};
 ghost use Rattle.cat_model.specs.WellMade.{may_be_asked};
-ghost use Rattle.cat_rest.specs.Bodies.{ops_of, contents_of, body_of, commit_as};
+ghost use Rattle.cat_rest.specs.Bodies.{body_of, commit_as};
 
 use crate::operation::OpForm;
 use cat_codes::fault::NoMemory;

@@ -1,8 +1,6 @@
 //! Requests that read.
 
 ghost use Rattle.std.specs.Prelude.{option_map};
-ghost use Rattle.serde_json.specs.View.{view};
-ghost use Rattle.cat_json.specs.Reading.{Gives};
 ghost use Rattle.cat_rest.specs.Faults.{Answers};
 ghost use Rattle.cat_rest.specs.Reads.{references_at, reference_at, entries_at, history_at, contents_at, requested_as, requested_at, content_at};
 

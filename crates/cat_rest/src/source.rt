@@ -1,6 +1,5 @@
 //! Sources in bodies.
 
-ghost use Rattle.std.specs.Prelude.{◌≡◌};
 ghost use Rattle.serde_json.specs.View.{view};
 ghost use Rattle.cat_json.specs.Reading.{Gives};
 ghost use Rattle.cat_rest.specs.Sources.{name_as, named_as, detached_as, source_as};

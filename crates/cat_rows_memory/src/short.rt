@@ -2,7 +2,7 @@
 
 use cat_cli::{Status, run};
 use cat_io::{MemoryClock, MemoryDisks, MemorySink, MemorySource, NoListener};
-use cat_runs::runs::{Ran, empty_disk, wrote};
+use cat_runs::runs::{Ran, empty_disk};
 use std::alloc::{AllocError, Global};
 use std::sync::Wait;
 use std::test::Fail;

@@ -1,5 +1,5 @@
 -- The rules of a commit as the code reads them: deleted contents stand in a set of names.
-use Rattle.std.specs.Prelude.{List, [], ◌∷◌, Option, Some, None, Result, Ok, Err, Bool, true, false, ◌&&◌, nat_eq, flat_map, IsTrue, ⊤}
+use Rattle.std.specs.Prelude.{List, Option, Some, None, Result, Ok, Err, Bool, true, false, ◌&&◌, nat_eq, flat_map, IsTrue, ⊤}
 use Rattle.std.specs.List.{list_any}
 use Rattle.std.specs.Option.{option_or, option_map_or}
 use Rattle.std.specs.Str.{bytes_eq}

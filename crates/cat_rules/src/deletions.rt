@@ -2,8 +2,6 @@
 
 ghost use Rattle.std.specs.Prelude.{IfOk, OnOk, ◌≡◌, ◌||◌};
 ghost use Rattle.std.specs.List.{list_any};
-ghost use Rattle.cat_model.specs.Judge.{op_key};
-ghost use Rattle.cat_model.specs.Maps.{entry_of};
 ghost use Rattle.cat_rules.specs.declared.deletions.ContentName.{ContentName};
 ghost use Rattle.cat_rules.specs.Rules;
 

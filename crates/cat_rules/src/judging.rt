@@ -1,9 +1,8 @@
 //! The conflicts of a request, or the map after it.
 
-ghost use Rattle.std.specs.Prelude.{IfOk, IsTrue, OnOk, ◌≡◌, ◌++◌, flat_map};
+ghost use Rattle.std.specs.Prelude.{IfOk, IsTrue, OnOk, ◌≡◌, ◌++◌};
 ghost use Rattle.cat_model.specs.Distinct.{are_distinct};
 ghost use Rattle.cat_model.specs.Judge;
-ghost use Rattle.cat_model.specs.Maps.{entry_of};
 ghost use Rattle.cat_model.specs.Namespaces.{is_well_formed};
 ghost use Rattle.cat_keymap.specs.Ordered.{values};
 ghost use Rattle.cat_rules.specs.Rules;

@@ -1,6 +1,6 @@
 //! Calls whose branch moves while they build.
 
-ghost use Rattle.std.specs.Prelude.{◌≡◌, ◌≤◌};
+ghost use Rattle.std.specs.Prelude.{◌≤◌};
 ghost use Rattle.cat_desk.specs.Pass.{IsFree};
 ghost use Rattle.cat_work.specs.Passes.{IsReady};
 

@@ -2,7 +2,6 @@
 use Rattle.std.proofs.Common.{◌≡◌, ◌≤◌, ◌⊎◌, inl, inr, ℕ, ◌+◌, List, [], ◌∷◌, ◌++◌, reverse, Option, Some, None, Ok, Err, Bool, true, false, refl, sym, ap, subst, ◌∙◌, arith}
 use Rattle.std.proofs.lemmas.List.{reverse-append, reverse-reverse}
 use Rattle.sha2.specs.Sha256.{sha256}
-use Rattle.cat_core.specs.Drafts as store
 use Rattle.cat_core.specs.Drafts.{Does, IsRefused, Refuses}
 use Rattle.cat_core.specs.Stored.{Stored, log_of}
 use Rattle.cat_desk.specs.Log.{Follows}
@@ -23,7 +22,6 @@ use Rattle.cat_model.specs.Drafts.{Open}
 use Rattle.cat_model.specs.Mark.{FailedAppend, Grows, Mark}
 use Rattle.cat_model.specs.Refusing.{Outcome}
 use Rattle.cat_model.specs.State.{State}
-use Rattle.cat_model.specs.Step as steps
 use Rattle.cat_model.specs.Step.{opens_draft, step}
 use Rattle.cat_model.specs.TurnLaws.{grows_on}
 use Rattle.cat_work.specs.Answers.{Answers, AnswersAlone, Causes, ComesToIn, HadNumber, IsAt, IsDraftAbove, IsEntryOf, IsRuledOut, NoFaultIsNew, RefusesAlone}

@@ -1,6 +1,6 @@
 //! A store on a desk with one pass: nobody else changes it, and it comes back as the pass has seen it.
 
-ghost use Rattle.std.specs.Prelude.{◌≡◌, None, IfErr, IfOk};
+ghost use Rattle.std.specs.Prelude.{◌≡◌, IfErr, IfOk};
 ghost use Rattle.cat_core.specs.Stored.{opened_of};
 ghost use Rattle.cat_desk.specs.Pass.{mark_of, number_of};
 ghost use Rattle.cat_model.specs.Drafts.{nothing_open};

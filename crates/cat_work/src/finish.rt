@@ -1,5 +1,5 @@
 //! The last attempt of a call.
-ghost use Rattle.std.specs.Prelude.{◌≡◌, ◌≤◌, ◌<◌, true, length, IsTrue, vec_len, vec_capacity};
+ghost use Rattle.std.specs.Prelude.{◌≡◌, ◌≤◌, ◌<◌, length, IsTrue, vec_len, vec_capacity};
 ghost use Rattle.sha2.specs.Sha256.{sha256};
 ghost use Rattle.cat_builds.specs.Builds.{IsBuilt, IsGivenBy};
 ghost use Rattle.cat_checks.specs.Histories.{IsLegalFrom};

@@ -1,10 +1,10 @@
 //! The turns of a call: each finds the store in one state and leaves it in another.
-ghost use Rattle.std.specs.Prelude.{◌≡◌, ◌≤◌, ◌∷◌, [], ◌+◌, Err, None, true, false, length, IfOk, IfErr, IsTrue};
+ghost use Rattle.std.specs.Prelude.{◌≡◌, ◌≤◌, ◌∷◌, [], None, true, length, IfOk, IfErr, IsTrue};
 ghost use Rattle.sha2.specs.Sha256.{sha256};
 ghost use Rattle.cat_builds.specs.Builds.{IsBuilt, IsGivenBy};
 ghost use Rattle.cat_checks.specs.Histories.{IsLegalFrom};
 ghost use Rattle.cat_core.specs.Drafts.{command_in, open_draft_of};
-ghost use Rattle.cat_desk.specs.Pass.{IsFree, Keeps, known, left_by, mark_of, number_of, seen};
+ghost use Rattle.cat_desk.specs.Pass.{IsFree, Keeps, known, left_by, number_of, seen};
 ghost use Rattle.cat_model.specs.Step.{opens_draft};
 ghost use Rattle.cat_model.specs.WellMade.{is_well_made};
 ghost use Rattle.cat_work.specs.Passes.{state_of};

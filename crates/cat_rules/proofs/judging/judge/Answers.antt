@@ -1,9 +1,9 @@
-use Rattle.std.proofs.Common.{◌≡◌, ◌∙◌, None, List, Bor, true, flat_map, subst, sym, ap}
+use Rattle.std.proofs.Common.{◌≡◌, ◌∙◌, None, List, Bor, true, flat_map, subst, ap}
 use Rattle.cat_codes.specs.Code.{ascends}
 use Rattle.cat_names.specs.Fields.{key_cmp}
 use Rattle.cat_model.specs.declared.op.Op.{Op}
 use Rattle.cat_model.specs.Judge.{op_changes}
-use Rattle.cat_model.specs.Maps.{Map, Change, after_changes}
+use Rattle.cat_model.specs.Maps.{Change, after_changes}
 use Rattle.cat_keymap.specs.Ordered.{values}
 use Rattle.cat_rules.specs.Rules.{conflicts}
 use Rattle.cat_rules.proofs.Found.{judged_is, gives_well_formed}
