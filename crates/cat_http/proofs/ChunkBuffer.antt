@@ -68,13 +68,13 @@ stands_from (Some xs) (Some ys) given body unread body' unread' raw raw' stands 
 at_end : (new : Option (List ℕ)) (ys : List ℕ) → new ≡ Some ys → IsAtEnd new → ys ≡ []
 at_end new ys told end = subst IsAtEnd told end
 
-slice_split : (b : List ℕ) (i j k : ℕ) → i ≤ j → j ≤ k → slice_range b i k ≡ slice_range b i j ++ slice_range b j k
+pub slice_split : (b : List ℕ) (i j k : ℕ) → i ≤ j → j ≤ k → slice_range b i k ≡ slice_range b i j ++ slice_range b j k
 slice_split b i j k first second =
     between_is b i k ∙ drop_split (take k b) i j first
     ∙ ap (λ s. s ++ drop j (take k b)) (range_same (take k b) b k i j (take-take k k b (omega arith)) second)
     ∙ ap (λ s. slice_range b i j ++ s) (sym (between_is b j k))
 
-slice_len : (b : List ℕ) (i j : ℕ) → i ≤ j → j ≤ length b → length (slice_range b i j) ≡ j - i
+pub slice_len : (b : List ℕ) (i j : ℕ) → i ≤ j → j ≤ length b → length (slice_range b i j) ≡ j - i
 slice_len b i j order within = length-take-le (j - i) (drop i b) (omega (arith, length-drop i b))
 
 -- the first byte of a part
@@ -84,6 +84,20 @@ slice_more b i k j some has next =
     between_is b i k ∙ drop_more (take k b) i 0 inside
     ∙ ap (λ x. x ∷ drop (i + 1) (take k b)) (get_or-take k b i 0 some)
     ∙ ap (λ s. get_or b i 0 ∷ s) (sym (between_is b (i + 1) k) ∙ ap (λ m. slice_range b m k) (sym next))
+
+-- what stands behind data that was moved to the front stays
+pub back_kept : (b : List ℕ) (i j to k : ℕ) → i ≤ j → j ≤ length b → to ≤ i → j ≤ k → drop k (copy_within b i j to) ≡ drop k b
+back_kept b i j to k order within first past =
+    let part = take (j - i) (drop i b) in
+    let front = take to b in
+    let seam = to + (j - i) in
+    let back = drop seam b in
+    let rest = k - seam in
+    let sum : k ≡ seam + rest = omega arith in
+    let len : length (front ++ part) ≡ seam =
+    omega (arith, length-append front part, length-take-le to b (omega arith), length-take-le (j - i) (drop i b) (omega (arith, length-drop i b))) in
+    ap (λ m. drop m (copy_within b i j to)) sum ∙ sym (drop-drop rest seam (copy_within b i j to)) ∙ ap (drop rest) (drop_at (front ++ part) back seam len)
+    ∙ drop-drop rest seam b ∙ ap (λ m. drop m b) (sym sum)
 
 -- where a line was found its bytes stay
 pub line_here : (b b' : List ℕ) (at len n m e : ℕ) (l : ChunkLine) → IsChunkLineAt (slice_range b at m) len n l → at + len ≤ m → m ≤ e → take e b' ≡ take e b
@@ -222,16 +236,7 @@ module _ (old new : Option (List ℕ)) (given b : List ℕ) (start kept at e lim
             ap (take (start + kept)) (moves ∙ append_assoc front part back) ∙ take_at front (part ++ back) (start + kept) (length-take-le (start + kept) b (omega arith))
 
         back_in : drop next b' ≡ drop next b
-        back_in =
-            let part = take (stop - begins) (drop begins b) in
-            let front = take (start + kept) b in
-            let seam = start + kept + (stop - begins) in
-            let back = drop seam b in
-            let rest = next - seam in
-            let sum : next ≡ seam + rest = omega arith in
-            let len : length (front ++ part) ≡ seam = omega (arith, length-append front part, length-take-le (start + kept) b (omega arith), data_len) in
-            ap (λ k. drop k b') sum ∙ sym (drop-drop rest seam b') ∙ ap (λ t. drop rest (drop seam t)) moves ∙ ap (drop rest) (drop_at (front ++ part) back seam len)
-            ∙ drop-drop rest seam b ∙ ap (λ k. drop k b) (sym sum)
+        back_in = ap (drop next) moves ∙ back_kept b begins stop (start + kept) next (omega arith) (omega arith) (omega arith) (omega arith)
 
         pub front_moved : (a : List ℕ) → take start b ≡ take start a → take start b' ≡ take start a
         front_moved a same = front_kept a b b' start (start + kept) (omega arith) front_in same

@@ -7,7 +7,7 @@ use Rattle.httparse.proofs.ChunkLemmas.{chunk_line_unique}
 use Rattle.cat_http.specs.Chunked.{Chunk, IsChunk, AreChunks, chunks_then, content_of, ReadsChunked, IsChunkedBody, HasLargeSum, IsLargeChunked, IsBadChunked}
 use Rattle.cat_http.specs.ChunkedRead.{StandsBehind}
 
-line_one : (l k : ChunkLine) (a b : List ℕ) → IsChunkLine l → IsChunkLine k → print_chunk_line l ++ a ≡ print_chunk_line k ++ b → (l ≡ k) × (a ≡ b)
+pub line_one : (l k : ChunkLine) (a b : List ℕ) → IsChunkLine l → IsChunkLine k → print_chunk_line l ++ a ≡ print_chunk_line k ++ b → (l ≡ k) × (a ≡ b)
 line_one l k a b x y e = chunk_line_unique (print_chunk_line l ++ a) l k a b (x, refl) (y, e)
 
 chunk_one : (c d : Chunk) (a b : List ℕ) → IsChunk c → IsChunk d

@@ -9,3 +9,4 @@ pub mod OneWay
 pub mod ChunkLemmas
 pub mod ChunkSteps
 pub mod ChunkBuffer
+pub mod HeldLemmas

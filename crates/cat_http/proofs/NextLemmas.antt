@@ -1,7 +1,7 @@
 -- From the spans of a head to the request of the stream.
 use Rattle.std.proofs.Common.{arith, ◌≡◌, ℕ, ◌+◌, ◌-◌, ◌<◌, ◌≤◌, List, [], ◌∷◌, ◌++◌, length, take, drop, map, sym, ap, ◌∙◌, refl, append_assoc, length-append, length-take, length-drop, suc, subst, inr}
 use Rattle.std.specs.Prelude.{Option, Some, None, All, slice_range}
-use Rattle.std.proofs.lemmas.List.{take-append-drop, length-take-le, drop-append-le, take-take, length-map}
+use Rattle.std.proofs.lemmas.List.{take-append-drop, length-take-le, drop-append-le, take-take, length-map, append-nil}
 use Rattle.std.proofs.lemmas.List.Folds.{drop_split}
 use Rattle.std.proofs.lemmas.Slice.{between_is}
 use Rattle.std.specs.Io.KnownBytes.{IsAtEnd}
@@ -11,15 +11,16 @@ use Rattle.httparse.specs.declared.spans.HeaderSpan.{HeaderSpan}
 use Rattle.httparse.specs.declared.spans.RequestSpans.{RequestSpans}
 use Rattle.httparse.proofs.GrammarLemmas.{ReadsRequest-append}
 use Rattle.cat_http.proofs.StreamLemmas.{range_same}
+use Rattle.cat_http.proofs.OneWay.{kind_one}
 use Rattle.cat_http.specs.Message.{message_at}
 use Rattle.cat_http.specs.Fields.{body_length}
-use Rattle.cat_http.specs.Next.{fields_of, IsHead, IsRequest, IsTooLarge, IsMalformed, IsBody, IsBadBody, IsLargeBody}
-use Rattle.cat_http.specs.Chunked.{IsChunkedBody, IsLargeChunked, IsBadChunked}
-use Rattle.cat_http.specs.ChunkedRead.{AnswerOf}
+use Rattle.cat_http.specs.Next.{fields_of, IsHead, IsRequest, HoldsRequest, IsTooLarge, IsMalformed, IsBody, IsBadBody, IsLargeBody}
+use Rattle.cat_http.specs.Chunked.{ReadsChunked, IsChunkedBody, IsLargeChunked, IsBadChunked}
+use Rattle.cat_http.specs.ChunkedRead.{AnswerOf, HoldsChunks}
 use Rattle.cat_http.specs.Streams.{KeepsStream}
 use Rattle.cat_http.specs.declared.fields.BodyLength.{BodyLength}
 use Rattle.cat_http.specs.declared.chunked.ChunkedRead.TheVariants as read
-use Rattle.cat_http.specs.Head.{FoundHead}
+use Rattle.cat_http.specs.Head.{FoundHead, HoldsHead}
 use Rattle.cat_http.specs.Outcome.{OutcomeOf}
 use Rattle.cat_http.specs.declared.fields.BodyLength.TheVariants as size
 use Rattle.cat_http.specs.declared.next.Outcome.TheVariants as outcome
@@ -94,9 +95,40 @@ module _ (seen : List ℕ) (hs : List HeaderSpan) (r : RequestSpans) (f : FoundH
   large_body fits kind says more large =
       (f.head, drop r.len seen ++ more, head_is more, subst (λ k. IsLargeBody k (drop r.len seen ++ more)) (kind_is fits kind says) large)
 
+  -- where a request was there, its body was behind the head
+  body_held : IsRequestWithin seen hs r → (kind : BodyLength) → kind ≡ body_length (map (header_bytes seen) (take r.headers hs)) → HoldsRequest seen
+      → (body : List ℕ) × (rest : List ℕ) × IsBody kind (drop r.len seen) body rest
+  body_held fits kind says (m, rest, is) =
+      let after = drop r.len seen in
+      let here : IsHead seen f.head after =
+      subst (IsHead seen f.head) (append-nil after) (subst (λ s. IsHead s f.head (after ++ [])) (append-nil seen) (head_is [])) in (
+        m.body,
+        rest,
+        subst (λ k. IsBody k after m.body rest) (sym (kind_is fits kind says))
+            (kind_one (λ k t. IsBody k t m.body rest) seen f.head is.head after is.after here is.reads is.body),
+      )
+
+-- a request begins with its head
+pub head_held : (bytes : List ℕ) → HoldsRequest bytes → HoldsHead bytes
+head_held bytes (m, rest, is) = (is.head, is.after, is.reads)
+
 -- the head was read up to e
 module _ (given b : List ℕ) (e : ℕ) (hs : List HeaderSpan) (r : RequestSpans) (f : FoundHead (take e b) hs r) (slots : length hs ≤ 64) (fits : IsRequestWithin (take e b) hs r)
     (kind : BodyLength) (says : kind ≡ body_length (map (header_bytes (take e b)) (take r.headers hs))) where
+  -- all of a body with a length was there
+  pub counted_held : (count : ℕ) → kind ≡ size.Bytes count → e ≤ length b → take e b ≡ given → HoldsRequest given → r.len + count ≤ e
+  counted_held count is had same held =
+      let x = body_held (take e b) hs r f slots fits kind says (subst HoldsRequest (sym same) held) in
+      let body : IsBody (size.Bytes count) (drop r.len (take e b)) x.0 x.1 = subst (λ k. IsBody k (drop r.len (take e b)) x.0 x.1) is x.2 in
+      omega (arith, head_len (take e b) hs r f slots, f.within, length-take-le e b had, length-drop r.len (take e b), ap length body.1, length-append x.0 x.1, body.0)
+
+  -- all of a body in chunks was there
+  pub chunked_held : kind ≡ size.Chunked → take e b ≡ given → HoldsRequest given → HoldsChunks (slice_range b r.len e)
+  chunked_held is same held =
+      let x = body_held (take e b) hs r f slots fits kind says (subst HoldsRequest (sym same) held) in
+      let body : IsChunkedBody (drop r.len (take e b)) x.0 x.1 = subst (λ k. IsBody k (drop r.len (take e b)) x.0 x.1) is x.2 in
+      (x.0, x.1, subst (λ s. ReadsChunked s x.0 x.1) (sym (between_is b r.len e)) body.reads)
+
   -- the head alone tells
   pub answer_malformed : (old mid : Option (List ℕ)) → KeepsStream old mid given (take e b) → kind ≡ size.Malformed → OutcomeOf outcome.Malformed old mid given b hs e
   answer_malformed None mid stream is = tt

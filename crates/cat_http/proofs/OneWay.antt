@@ -16,7 +16,7 @@ head_one : (bytes : List ℕ) (h k : RequestHead) (r q : List ℕ) → IsHead by
 head_one bytes h k r q x y = request_unique bytes h k r q x.reads y.reads
 
 -- what one says of the kind of a body, the other says of it too
-kind_one : (P : BodyLength → List ℕ → Type 0) (bytes : List ℕ) (h k : RequestHead) (r q : List ℕ) → IsHead bytes h r → IsHead bytes k q → P (body_length (fields_of k)) q → P (body_length (fields_of h)) r
+pub kind_one : (P : BodyLength → List ℕ → Type 0) (bytes : List ℕ) (h k : RequestHead) (r q : List ℕ) → IsHead bytes h r → IsHead bytes k q → P (body_length (fields_of k)) q → P (body_length (fields_of h)) r
 kind_one P bytes h k r q x y is =
     let same = head_one bytes h k r q x y in
     subst (λ t. P (body_length (fields_of h)) t) (sym same.1) (subst (λ g. P (body_length (fields_of g)) q) (sym same.0) is)

@@ -1,9 +1,9 @@
 -- What reading a body in chunks answers.
 use Rattle.std.specs.Prelude.{◌≡◌, ◌≢◌, ◌⊎◌, ℕ, ◌+◌, ◌<◌, ◌≤◌, List, [], ◌++◌, length, min, get_or, Option, Some, None, slice_range, ⊤}
 use Rattle.std.specs.Io.KnownBytes.{IsAtEnd}
-use Rattle.httparse.specs.Grammar.{ChunkLine, HasNoChunkLine, NeverHasChunkLine, MayBecomeChunkLine}
+use Rattle.httparse.specs.Grammar.{ChunkLine, ReadsChunkLine, HasNoChunkLine, NeverHasChunkLine, MayBecomeChunkLine}
 use Rattle.httparse.specs.Spans.{IsChunkLineAt}
-use Rattle.cat_http.specs.Chunked.{Chunk, AreChunks, chunks_then, content_of, IsChunkedBody, IsLargeChunked, IsBadChunked}
+use Rattle.cat_http.specs.Chunked.{Chunk, AreChunks, chunks_then, content_of, ReadsChunked, IsChunkedBody, IsLargeChunked, IsBadChunked}
 use Rattle.cat_http.specs.declared.chunked.ChunkedRead.{ChunkedRead}
 use Rattle.cat_http.specs.declared.chunked.ChunkedRead.TheVariants.{Whole, Malformed, TooLarge, Fault}
 use Rattle.cat_http.specs.declared.size_line.SizeRead.{SizeRead}
@@ -43,6 +43,14 @@ IfWhole (Whole kept at) P = P kept at
 IfWhole Malformed P = ⊤
 IfWhole TooLarge P = ⊤
 IfWhole Fault P = ⊤
+
+-- these bytes begin with a body in chunks
+abbrev pub HoldsChunks : List ℕ → Type 0
+HoldsChunks bytes = (body : List ℕ) × (rest : List ℕ) × ReadsChunked bytes body rest
+
+-- these bytes begin with a size line
+abbrev pub HoldsLine : List ℕ → Type 0
+HoldsLine bytes = (l : ChunkLine) × (rest : List ℕ) × ReadsChunkLine bytes l rest
 
 -- what reading a size line at a place found, in the bytes up to end, of which those before the limit count
 abbrev pub SizeIs : SizeRead → List ℕ → ℕ → ℕ → ℕ → Option (List ℕ) → Type 0

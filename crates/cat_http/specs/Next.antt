@@ -60,6 +60,10 @@ pub record IsRequest (bytes : List ℕ) (m : Message) (rest : List ℕ) : Type 0
   pub fields : m.fields ≡ fields_of head
   pub body : IsBody (body_length (fields_of head)) after m.body rest
 
+-- these bytes begin with a request
+abbrev pub HoldsRequest : List ℕ → Type 0
+HoldsRequest bytes = (m : Message) × (rest : List ℕ) × IsRequest bytes m rest
+
 -- the body that the head states is too large
 abbrev pub IsTooLarge : List ℕ → Type 0
 IsTooLarge bytes = (h : RequestHead) × (after : List ℕ) × IsHead bytes h after × IsLargeBody (body_length (fields_of h)) after

@@ -1,6 +1,7 @@
 ghost use Rattle.std.specs.Prelude.{◌≡◌, ◌≢◌, ◌≤◌, [], IfOk};
 ghost use Rattle.std.specs.Io.KnownBytes.{IsAtEnd};
 ghost use Rattle.cat_io.specs.Causes.{Rose};
+ghost use Rattle.cat_http.specs.Next.{HoldsRequest};
 ghost use Rattle.cat_http.specs.Reading.{IncomingOf};
 
 use crate::next::{BUFFER_LEN, Outcome, read_next};
@@ -95,6 +96,8 @@ pub fn read_request<S: Source>(source: &mut S, buffer: &mut Buffer) -> Incoming
     ensures fault { result ≡ Incoming.ReadFault → Rose (S.faults source.old) (S.faults source.new) }
     ensures later { S.faults source.old ≤ S.faults source.new }
     ensures stays { result ≢ Incoming.ReadFault → S.faults source.new ≡ S.faults source.old }
+    // Where the bytes that are held begin with a request, the source is not read.
+    ensures waits { HoldsRequest buffer.old.unread → source.new ≡ source.old }
 {
     let unread = buffer.end - buffer.start;
     buffer

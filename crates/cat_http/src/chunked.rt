@@ -1,6 +1,6 @@
 ghost use Rattle.std.specs.Prelude.{◌≡◌, ◌≢◌, ◌+◌, ◌<◌, ◌≤◌, length, take, slice_range};
 ghost use Rattle.cat_io.specs.Causes.{Rose};
-ghost use Rattle.cat_http.specs.ChunkedRead.{AnswerOf, IfWhole};
+ghost use Rattle.cat_http.specs.ChunkedRead.{AnswerOf, HoldsChunks, IfWhole};
 
 use crate::chunk_end::{EndRead, read_chunk_end};
 use crate::fields::BODY_LIMIT;
@@ -33,6 +33,7 @@ pub fn read_chunks<S: Source>(
     ensures within { end.new ≤ length bytes.new }
     ensures ends { IfWhole result (λ kept at. (start + kept ≤ at) × (at ≤ end.new)) }
     ensures front { take start bytes.new ≡ take start bytes.old }
+    ensures waits { HoldsChunks (slice_range bytes.old start end.old) → source.new ≡ source.old }
     ensures answer { AnswerOf result (S.left source.old) (S.left source.new) (slice_range bytes.old start end.old) bytes.new start end.new }
     ensures fault { result ≡ ChunkedRead.Fault → Rose (S.faults source.old) (S.faults source.new) }
     ensures later { S.faults source.old ≤ S.faults source.new }

@@ -53,6 +53,7 @@ pub fn read_until<S: Source>(
     ensures later { S.faults source.old ≤ S.faults source.new }
     ensures stays { result ≢ Filled.Fault → S.faults source.new ≡ S.faults source.old }
     ensures front { take end.old bytes.new ≡ take end.old bytes.old }
+    ensures waits { need ≤ end.old → (source.new ≡ source.old) × (end.new ≡ end.old) × (bytes.new ≡ bytes.old) }
     ensures stream { KeepsStream (S.left source.old) (S.left source.new) (take end.old bytes.old) (take end.new bytes.new) }
 {
     'reads: while *end < need {

@@ -1,6 +1,7 @@
 ghost use Rattle.std.specs.Prelude.{◌≡◌, ◌≢◌, ◌<◌, ◌≤◌, length, take};
 ghost use Rattle.std.specs.Io.KnownBytes.{IsAtEnd};
 ghost use Rattle.cat_io.specs.Causes.{Rose};
+ghost use Rattle.cat_http.specs.Next.{HoldsRequest};
 ghost use Rattle.cat_http.specs.Outcome.{OutcomeFits, OutcomeOf};
 
 use crate::chunked::{ChunkedRead, read_chunks};
@@ -41,6 +42,7 @@ pub fn read_next<S: Source>(
     ensures fault { result ≡ Outcome.Fault → Rose (S.faults source.old) (S.faults source.new) }
     ensures later { S.faults source.old ≤ S.faults source.new }
     ensures stays { result ≢ Outcome.Fault → S.faults source.new ≡ S.faults source.old }
+    ensures waits { HoldsRequest (take end.old bytes.old) → source.new ≡ source.old }
 {
     let head = match read_head(source, bytes, headers, end) {
         HeadRead::Found(head) => head,

@@ -1,7 +1,7 @@
-ghost use Rattle.std.specs.Prelude.{◌≡◌, ◌≢◌, ◌<◌, ◌≤◌, length, take};
+ghost use Rattle.std.specs.Prelude.{◌≡◌, ◌≢◌, ◌<◌, ◌≤◌, length, take, slice_range};
 ghost use Rattle.cat_io.specs.Causes.{Rose};
 ghost use Rattle.cat_http.specs.Streams.{KeepsStream};
-ghost use Rattle.cat_http.specs.ChunkedRead.{SizeIs};
+ghost use Rattle.cat_http.specs.ChunkedRead.{SizeIs, HoldsLine};
 
 use crate::fill::{Filled, fill_line};
 use cat_io::Source;
@@ -37,6 +37,7 @@ pub fn read_size_line<S: Source>(
     ensures later { S.faults source.old ≤ S.faults source.new }
     ensures stays { result ≢ SizeRead.Fault → S.faults source.new ≡ S.faults source.old }
     ensures front { take end.old bytes.new ≡ take end.old bytes.old }
+    ensures waits { HoldsLine (slice_range bytes.old at end.old) → (source.new ≡ source.old) × (end.new ≡ end.old) × (bytes.new ≡ bytes.old) }
     ensures stream { KeepsStream (S.left source.old) (S.left source.new) (take end.old bytes.old) (take end.new bytes.new) }
 {
     'reads: loop {

@@ -1,6 +1,13 @@
-use Rattle.std.proofs.Common.{arith, refl, ◌+◌, ◌-◌}
-use Rattle.cat_http.proofs.ChunkBuffer.{stands_grow, stands_again, front_kept, line_here, line_refused_answer, line_cut_answer, line_unfinished_answer, sum_answer, data_unfinished_answer, data_cut_answer, end_refused_answer, whole_answer, front_moved, stands_moved}
+use Rattle.std.proofs.Common.{arith, refl, ap, drop, sym, subst, ◌+◌, ◌-◌, ◌∙◌}
+use Rattle.std.specs.Prelude.{slice_range}
+use Rattle.cat_http.specs.ChunkedRead.{HoldsChunks}
+use Rattle.cat_http.proofs.ChunkBuffer.{back_kept, stands_grow, stands_again, front_kept, line_here, line_refused_answer, line_cut_answer, line_unfinished_answer, sum_answer, data_unfinished_answer, data_cut_answer, end_refused_answer, whole_answer, front_moved, stands_moved}
+use Rattle.cat_http.proofs.HeldLemmas.{held_again, line_held, data_held, others_held}
 use Rattle.cat_http.proofs.chunked.read_chunks.Goals as goal
+
+pub returns-in-Cut-clause-front : goal.returns-in-Cut-clause-front
+returns-in-Cut-clause-front g c =
+    front_kept c.args.bytes.now c.chunks.bytes c.read_size_line.new.bytes c.args.start c.chunks.end (omega (arith, c.chunks.invariant.order, c.chunks.invariant.before)) c.in-Cut.ensures.front c.chunks.invariant.front
 
 pub returns-in-Cut-clause-answer : goal.returns-in-Cut-clause-answer
 returns-in-Cut-clause-answer g c =
@@ -131,6 +138,66 @@ returns-then-size-eq0-clause-answer g c =
     (omega (arith, c.in-Found.ensures.is.0, c.in-Whole.ensures.grows)) (omega (arith, c.in-Found.ensures.is.0))
     _ _ refl refl c.in-Whole.ensures.is.0 c.in-Whole.ensures.is.1 c.in-Whole.ensures.is.2 c.in-Whole.ensures.is.3 c.if-size-eq0.true
 
+pub returns-in-Cut-clause-waits : goal.returns-in-Cut-clause-waits
+returns-in-Cut-clause-waits g c held =
+    let was = c.chunks.invariant.waits held in
+    (c.in-Cut.ensures.waits (line_held (slice_range c.chunks.bytes c.chunks.at c.chunks.end) was.1)).0 ∙ was.0
+
+pub returns-in-Malformed-clause-waits : goal.returns-in-Malformed-clause-waits
+returns-in-Malformed-clause-waits g c held =
+    let was = c.chunks.invariant.waits held in
+    (c.in-Malformed.ensures.waits (line_held (slice_range c.chunks.bytes c.chunks.at c.chunks.end) was.1)).0 ∙ was.0
+
+pub returns-in-TooLarge-clause-waits : goal.returns-in-TooLarge-clause-waits
+returns-in-TooLarge-clause-waits g c held =
+    let was = c.chunks.invariant.waits held in
+    (c.in-TooLarge.ensures.waits (line_held (slice_range c.chunks.bytes c.chunks.at c.chunks.end) was.1)).0 ∙ was.0
+
+pub returns-in-Fault-clause-waits : goal.returns-in-Fault-clause-waits
+returns-in-Fault-clause-waits g c held =
+    let was = c.chunks.invariant.waits held in
+    (c.in-Fault.ensures.waits (line_held (slice_range c.chunks.bytes c.chunks.at c.chunks.end) was.1)).0 ∙ was.0
+
+pub returns-then-size-kept-clause-waits : goal.returns-then-size-kept-clause-waits
+returns-then-size-kept-clause-waits g c held =
+    let was = c.chunks.invariant.waits held in
+    (c.in-Found.ensures.waits (line_held (slice_range c.chunks.bytes c.chunks.at c.chunks.end) was.1)).0 ∙ was.0
+
+pub returns-in-Cut-read_chunk_end-clause-waits : goal.returns-in-Cut-read_chunk_end-clause-waits
+returns-in-Cut-read_chunk_end-clause-waits g c held =
+    let was = c.chunks.invariant.waits held in
+    let line = c.in-Found.ensures.waits (line_held (slice_range c.chunks.bytes c.chunks.at c.chunks.end) was.1) in
+    let now = held_again c.chunks.bytes c.read_size_line.new.bytes c.chunks.at c.chunks.end c.read_size_line.new.end line.2 line.1 was.1 in
+    (c.in-Cut-read_chunk_end.ensures.waits (data_held c.read_size_line.new.bytes c.chunks.at c.in-Found.len c.in-Found.size _ c.read_size_line.new.end _ now c.in-Found.ensures.within (omega arith) c.in-Found.ensures.is.0 c.in-Found.ensures.is.2)).0 ∙ line.0 ∙ was.0
+
+pub returns-in-Malformed-read_chunk_end-clause-waits : goal.returns-in-Malformed-read_chunk_end-clause-waits
+returns-in-Malformed-read_chunk_end-clause-waits g c held =
+    let was = c.chunks.invariant.waits held in
+    let line = c.in-Found.ensures.waits (line_held (slice_range c.chunks.bytes c.chunks.at c.chunks.end) was.1) in
+    let now = held_again c.chunks.bytes c.read_size_line.new.bytes c.chunks.at c.chunks.end c.read_size_line.new.end line.2 line.1 was.1 in
+    (c.in-Malformed-read_chunk_end.ensures.waits (data_held c.read_size_line.new.bytes c.chunks.at c.in-Found.len c.in-Found.size _ c.read_size_line.new.end _ now c.in-Found.ensures.within (omega arith) c.in-Found.ensures.is.0 c.in-Found.ensures.is.2)).0 ∙ line.0 ∙ was.0
+
+pub returns-in-TooLarge-read_chunk_end-clause-waits : goal.returns-in-TooLarge-read_chunk_end-clause-waits
+returns-in-TooLarge-read_chunk_end-clause-waits g c held =
+    let was = c.chunks.invariant.waits held in
+    let line = c.in-Found.ensures.waits (line_held (slice_range c.chunks.bytes c.chunks.at c.chunks.end) was.1) in
+    let now = held_again c.chunks.bytes c.read_size_line.new.bytes c.chunks.at c.chunks.end c.read_size_line.new.end line.2 line.1 was.1 in
+    (c.in-TooLarge-read_chunk_end.ensures.waits (data_held c.read_size_line.new.bytes c.chunks.at c.in-Found.len c.in-Found.size _ c.read_size_line.new.end _ now c.in-Found.ensures.within (omega arith) c.in-Found.ensures.is.0 c.in-Found.ensures.is.2)).0 ∙ line.0 ∙ was.0
+
+pub returns-in-Fault-read_chunk_end-clause-waits : goal.returns-in-Fault-read_chunk_end-clause-waits
+returns-in-Fault-read_chunk_end-clause-waits g c held =
+    let was = c.chunks.invariant.waits held in
+    let line = c.in-Found.ensures.waits (line_held (slice_range c.chunks.bytes c.chunks.at c.chunks.end) was.1) in
+    let now = held_again c.chunks.bytes c.read_size_line.new.bytes c.chunks.at c.chunks.end c.read_size_line.new.end line.2 line.1 was.1 in
+    (c.in-Fault-read_chunk_end.ensures.waits (data_held c.read_size_line.new.bytes c.chunks.at c.in-Found.len c.in-Found.size _ c.read_size_line.new.end _ now c.in-Found.ensures.within (omega arith) c.in-Found.ensures.is.0 c.in-Found.ensures.is.2)).0 ∙ line.0 ∙ was.0
+
+pub returns-then-size-eq0-clause-waits : goal.returns-then-size-eq0-clause-waits
+returns-then-size-eq0-clause-waits g c held =
+    let was = c.chunks.invariant.waits held in
+    let line = c.in-Found.ensures.waits (line_held (slice_range c.chunks.bytes c.chunks.at c.chunks.end) was.1) in
+    let now = held_again c.chunks.bytes c.read_size_line.new.bytes c.chunks.at c.chunks.end c.read_size_line.new.end line.2 line.1 was.1 in
+    (c.in-Whole.ensures.waits (data_held c.read_size_line.new.bytes c.chunks.at c.in-Found.len c.in-Found.size _ c.read_size_line.new.end _ now c.in-Found.ensures.within (omega arith) c.in-Found.ensures.is.0 c.in-Found.ensures.is.2)).0 ∙ line.0 ∙ was.0
+
 pub chunks-preserved : goal.chunks-preserved
 chunks-preserved g c = record {
   order = omega (arith, c.chunks.invariant.order);
@@ -154,6 +221,22 @@ chunks-preserved g c = record {
       (omega (arith, c.chunks.invariant.order, c.chunks.invariant.before, c.in-Found.ensures.grows)) c.in-Whole.ensures.front
       (front_kept c.args.bytes.now c.chunks.bytes c.read_size_line.new.bytes c.args.start c.chunks.end (omega (arith, c.chunks.invariant.order, c.chunks.invariant.before)) c.in-Found.ensures.front c.chunks.invariant.front));
   faults = grind (arith, c.in-Found.ensures.stays, c.in-Whole.ensures.stays, c.chunks.invariant.faults);
+  waits = λ held.
+      let was = c.chunks.invariant.waits held in
+      let line = c.in-Found.ensures.waits (line_held (slice_range c.chunks.bytes c.chunks.at c.chunks.end) was.1) in
+      let now = held_again c.chunks.bytes c.read_size_line.new.bytes c.chunks.at c.chunks.end c.read_size_line.new.end line.2 line.1 was.1 in
+      let here = c.in-Whole.ensures.waits (data_held c.read_size_line.new.bytes c.chunks.at c.in-Found.len c.in-Found.size _ c.read_size_line.new.end _ now c.in-Found.ensures.within (omega arith) c.in-Found.ensures.is.0 c.in-Found.ensures.is.2) in
+      let next = c.chunks.at + c.in-Found.len + c.in-Found.size + 2 in (
+        here.0 ∙ line.0 ∙ was.0,
+        subst (λ k. HoldsChunks (slice_range c.copy_within.new.self next k)) (sym here.1)
+            (others_held c.read_size_line.new.bytes c.chunks.at c.in-Found.len c.in-Found.size _ c.read_size_line.new.end _ now c.in-Found.ensures.within (omega arith) c.in-Found.ensures.is.0 c.in-Found.ensures.is.2
+            c.copy_within.new.self
+            (ap (drop next) c.copy_within.ensures.after
+            ∙ back_kept c.read_chunk_end.new.bytes (c.chunks.at + c.in-Found.len) (c.chunks.at + c.in-Found.len + c.in-Found.size) (c.args.start + c.chunks.kept) next
+            (omega arith) (omega (arith, c.in-Whole.ensures.is.0, c.in-Whole.ensures.within)) (omega (arith, c.chunks.invariant.order)) (omega arith)
+            ∙ ap (drop next) here.2)
+            (omega (arith, c.if-size-eq0.false))),
+      );
   stream = stands_moved _ _ _ c.read_chunk_end.new.bytes c.args.start c.chunks.kept c.chunks.at c.read_chunk_end.new.end (c.args.start + 2097152) refl
       c.chunks.invariant.order (omega (arith, c.chunks.invariant.before, c.in-Found.ensures.grows, c.in-Whole.ensures.grows)) c.in-Whole.ensures.within c.chunks.invariant.small c.chunks.invariant.limit
       (stands_again _ _ _ _ _ c.chunks.bytes c.read_size_line.new.bytes c.read_chunk_end.new.bytes c.args.start c.chunks.kept c.chunks.at c.chunks.end c.read_size_line.new.end c.read_chunk_end.new.end

@@ -1,5 +1,5 @@
-use Rattle.std.proofs.Common.{arith, refl, take}
-use Rattle.cat_http.proofs.NextLemmas.{answer_malformed, answer_large, answer_request, answer_short, answer_whole, answer_bad_chunks, answer_large_chunks, len_within, front_short}
+use Rattle.std.proofs.Common.{arith, refl, ap, ◌∙◌, take}
+use Rattle.cat_http.proofs.NextLemmas.{head_held, counted_held, chunked_held, answer_malformed, answer_large, answer_request, answer_short, answer_whole, answer_bad_chunks, answer_large_chunks, len_within, front_short}
 use Rattle.cat_http.proofs.next.read_next.Goals as goal
 
 pub returns-in-Malformed-body_length-clause-is : goal.returns-in-Malformed-body_length-clause-is
@@ -31,3 +31,47 @@ returns-in-Malformed-read_chunks-clause-is g c =
 pub returns-in-TooLarge-clause-is : goal.returns-in-TooLarge-clause-is
 returns-in-TooLarge-clause-is g c =
     answer_large_chunks (take c.args.end.now c.args.bytes.now) c.read_head.new.bytes c.read_head.new.end c.read_head.new.headers c.in-Found.head c.in-Found.ensures.found (omega arith) c.in-Found.ensures.found_within _ c.in-Chunked.ensures.value c.read_chunks.new.bytes c.read_chunks.new.end c.in-Found.ensures.within c.in-TooLarge.ensures.front refl _ _ _ c.in-Found.ensures.stream c.in-TooLarge.ensures.answer
+
+pub returns-in-Malformed-body_length-clause-waits : goal.returns-in-Malformed-body_length-clause-waits
+returns-in-Malformed-body_length-clause-waits g c held = (c.in-Found.ensures.waits (head_held (take c.args.end.now c.args.bytes.now) held)).0
+
+pub returns-in-Excess-clause-waits : goal.returns-in-Excess-clause-waits
+returns-in-Excess-clause-waits g c held = (c.in-Found.ensures.waits (head_held (take c.args.end.now c.args.bytes.now) held)).0
+
+pub returns-in-More-clause-waits : goal.returns-in-More-clause-waits
+returns-in-More-clause-waits g c held =
+    let head = c.in-Found.ensures.waits (head_held (take c.args.end.now c.args.bytes.now) held) in
+    (c.in-More.ensures.waits
+    (counted_held (take c.args.end.now c.args.bytes.now) c.read_head.new.bytes c.read_head.new.end c.read_head.new.headers c.in-Found.head c.in-Found.ensures.found (omega arith) c.in-Found.ensures.found_within _ c.in-Bytes.ensures.value c.in-Bytes.count refl c.in-Found.ensures.within (ap (λ n. take n c.read_head.new.bytes) head.1 ∙ ap (take c.args.end.now) head.2) held)).0 ∙ head.0
+
+pub returns-in-End-read_until-clause-waits : goal.returns-in-End-read_until-clause-waits
+returns-in-End-read_until-clause-waits g c held =
+    let head = c.in-Found.ensures.waits (head_held (take c.args.end.now c.args.bytes.now) held) in
+    (c.in-End-read_until.ensures.waits
+    (counted_held (take c.args.end.now c.args.bytes.now) c.read_head.new.bytes c.read_head.new.end c.read_head.new.headers c.in-Found.head c.in-Found.ensures.found (omega arith) c.in-Found.ensures.found_within _ c.in-Bytes.ensures.value c.in-Bytes.count refl c.in-Found.ensures.within (ap (λ n. take n c.read_head.new.bytes) head.1 ∙ ap (take c.args.end.now) head.2) held)).0 ∙ head.0
+
+pub returns-in-Fault-read_until-clause-waits : goal.returns-in-Fault-read_until-clause-waits
+returns-in-Fault-read_until-clause-waits g c held =
+    let head = c.in-Found.ensures.waits (head_held (take c.args.end.now c.args.bytes.now) held) in
+    (c.in-Fault-read_until.ensures.waits
+    (counted_held (take c.args.end.now c.args.bytes.now) c.read_head.new.bytes c.read_head.new.end c.read_head.new.headers c.in-Found.head c.in-Found.ensures.found (omega arith) c.in-Found.ensures.found_within _ c.in-Bytes.ensures.value c.in-Bytes.count refl c.in-Found.ensures.within (ap (λ n. take n c.read_head.new.bytes) head.1 ∙ ap (take c.args.end.now) head.2) held)).0 ∙ head.0
+
+pub returns-in-Whole-clause-waits : goal.returns-in-Whole-clause-waits
+returns-in-Whole-clause-waits g c held =
+    let head = c.in-Found.ensures.waits (head_held (take c.args.end.now c.args.bytes.now) held) in
+    c.in-Whole.ensures.waits (chunked_held (take c.args.end.now c.args.bytes.now) c.read_head.new.bytes c.read_head.new.end c.read_head.new.headers c.in-Found.head c.in-Found.ensures.found (omega arith) c.in-Found.ensures.found_within _ c.in-Chunked.ensures.value refl (ap (λ n. take n c.read_head.new.bytes) head.1 ∙ ap (take c.args.end.now) head.2) held) ∙ head.0
+
+pub returns-in-Malformed-read_chunks-clause-waits : goal.returns-in-Malformed-read_chunks-clause-waits
+returns-in-Malformed-read_chunks-clause-waits g c held =
+    let head = c.in-Found.ensures.waits (head_held (take c.args.end.now c.args.bytes.now) held) in
+    c.in-Malformed-read_chunks.ensures.waits (chunked_held (take c.args.end.now c.args.bytes.now) c.read_head.new.bytes c.read_head.new.end c.read_head.new.headers c.in-Found.head c.in-Found.ensures.found (omega arith) c.in-Found.ensures.found_within _ c.in-Chunked.ensures.value refl (ap (λ n. take n c.read_head.new.bytes) head.1 ∙ ap (take c.args.end.now) head.2) held) ∙ head.0
+
+pub returns-in-TooLarge-clause-waits : goal.returns-in-TooLarge-clause-waits
+returns-in-TooLarge-clause-waits g c held =
+    let head = c.in-Found.ensures.waits (head_held (take c.args.end.now c.args.bytes.now) held) in
+    c.in-TooLarge.ensures.waits (chunked_held (take c.args.end.now c.args.bytes.now) c.read_head.new.bytes c.read_head.new.end c.read_head.new.headers c.in-Found.head c.in-Found.ensures.found (omega arith) c.in-Found.ensures.found_within _ c.in-Chunked.ensures.value refl (ap (λ n. take n c.read_head.new.bytes) head.1 ∙ ap (take c.args.end.now) head.2) held) ∙ head.0
+
+pub returns-in-Fault-read_chunks-clause-waits : goal.returns-in-Fault-read_chunks-clause-waits
+returns-in-Fault-read_chunks-clause-waits g c held =
+    let head = c.in-Found.ensures.waits (head_held (take c.args.end.now c.args.bytes.now) held) in
+    c.in-Fault-read_chunks.ensures.waits (chunked_held (take c.args.end.now c.args.bytes.now) c.read_head.new.bytes c.read_head.new.end c.read_head.new.headers c.in-Found.head c.in-Found.ensures.found (omega arith) c.in-Found.ensures.found_within _ c.in-Chunked.ensures.value refl (ap (λ n. take n c.read_head.new.bytes) head.1 ∙ ap (take c.args.end.now) head.2) held) ∙ head.0
