@@ -1,0 +1,801 @@
+#!/usr/bin/env python3
+"""Compares the program with the plain rules at limits and corners, row by row.
+
+    corners.py [--program FILE] [ROW..]
+"""
+
+import argparse
+import copy
+import json
+import os
+import random
+import resource
+import shutil
+import signal
+import subprocess
+import sys
+import tempfile
+
+import catalogue as rules
+import compare
+import drill
+import journal
+import replies
+import requests
+from catalogue import NO_ANCESTOR
+
+
+def table(key, value="m", content_id=None, kind="ICEBERG_TABLE"):
+    content = {"type": kind, "metadataLocation": value}
+    if kind == "NAMESPACE":
+        content = {"type": kind, "elements": list(key)}
+    if content_id is not None:
+        content["id"] = replies.write_uuid(content_id)
+    return {"type": "PUT", "key": {"elements": list(key)}, "content": content}
+
+
+def deleted(key):
+    return {"type": "DELETE", "key": {"elements": list(key)}}
+
+
+def plain_meta():
+    return {"message": "m", "authors": [], "signed": [], "properties": {}, "author_time": None}
+
+
+def put(key, kind="ICEBERG_TABLE", given=None, elements=None, properties=None):
+    content = {"type": kind, "metadataLocation": "m", "snapshotId": 0, "schemaId": 0, "specId": 0, "sortOrderId": 0}
+    if kind == "NAMESPACE":
+        content = {"type": kind, "elements": elements or list(key), "properties": properties or {}}
+    return rules.Operation("PUT", key, content, given)
+
+
+class Row(compare.Comparison):
+    """One session of chosen requests."""
+
+    def begin(self, name, path):
+        self.name = name
+        self.path = path
+        self.c = rules.Catalogue()
+        self.side = replies.Session(self.c)
+        self.program = compare.Program(self.options.program, path)
+        self.lines = [compare.line_of(self.c)]
+
+    def ask(self, method, target, body=b"", fields=(), wire=None, close=False):
+        if isinstance(body, (dict, list)):
+            body = json.dumps(body).encode()
+        if isinstance(target, str):
+            target = target.encode()
+        if wire is None:
+            wire = method.encode() + b" " + target + b" HTTP/1.1\r\n"
+            for n, v in fields:
+                wire += b"%s: %s\r\n" % (n.encode(), v.encode())
+            wire += b"Content-Length: %d\r\n\r\n" % len(body) + body
+        self.request = wire if len(wire) < 3000 else wire[:3000]
+        self.program.send(wire)
+        got = self.program.reply(method != "HEAD")
+        moment = self.moment_of(self.program, got, target)
+        wanted = self.side.answer(method, target, list(fields), body, moment, close)
+        self.count(self.name, self.side)
+        self.same(self.name, self.compared, self.side, wanted, got)
+        value = json.loads(wanted.partition(b"\r\n\r\n")[2] or b"null")
+        return value
+
+    def get(self, target, **more):
+        return self.ask("GET", "/api/v2/" + target, **more)
+
+    def commit(self, where, *operations, **more):
+        meta = dict({"message": "m"}, **more)
+        return self.ask("POST", "/api/v2/trees/%s/history/commit" % where,
+                        {"commitMeta": meta, "operations": list(operations)})
+
+    def create(self, name, source="main", at=None, kind="BRANCH", of="BRANCH"):
+        return self.ask("POST", "/api/v2/trees?name=%s&type=%s" % (name, kind),
+                        {"type": of, "name": source, "hash": at})
+
+    def merge(self, where, name, at, **more):
+        return self.ask("POST", "/api/v2/trees/%s/history/merge" % where,
+                        dict({"fromRefName": name, "fromHash": at}, **more))
+
+    def transplant(self, where, name, hashes, **more):
+        return self.ask("POST", "/api/v2/trees/%s/history/transplant" % where,
+                        dict({"fromRefName": name, "hashesToTransplant": hashes}, **more))
+
+    def pages(self, target):
+        """All pages of a listing, by the tokens of the replies."""
+        glue = "&" if "?" in target else "?"
+        value = self.get(target)
+        count = 1
+        while value.get("hasMore") and count < 100:
+            value = self.get(target + glue + "page-token=" + value["token"].replace("\x1d", "%1D"))
+            count += 1
+        return count
+
+    def head(self, name="main"):
+        return self.c.references[name][1].hex()
+
+    def end(self, status=0):
+        rest, found = self.program.ended()
+        if (rest, found) != (b"", status):
+            self.difference((self.name, "end"), None, None, (b"", status), (rest, found))
+
+    def bytes_once(self, sent, wanted, status):
+        """A whole input and the whole output that it must give."""
+        got = subprocess.run([self.options.program, "script", self.path], input=sent, stdout=subprocess.PIPE)
+        self.compared += 1
+        if (got.stdout, got.returncode) != (wanted, status):
+            self.difference((self.name, "bytes", self.compared), None, sent[:400], (wanted[-600:], status),
+                            (got.stdout[-600:], got.returncode))
+
+    # The rows.
+
+    def row_many_references(self):
+        for i in range(205):
+            self.create("b%d" % i, kind="TAG" if i % 3 else "BRANCH")
+        for q in ("", "?max-records=0", "?max-records=1000", "?max-records=1001", "?max-records=205",
+                  "?max-records=206", "?max-records=99999999999999999999999999", "?max-records=77"):
+            self.pages("trees" + q)
+        self.end()
+
+    def row_many_keys(self):
+        self.commit("main", table(("n",), kind="NAMESPACE"),
+                    *[table(("k%d" % i,) if i % 2 else ("n", "k.%d" % i)) for i in range(260)])
+        old = self.head()
+        first = self.get("trees/main/entries?max-records=100")
+        self.commit("main", deleted(("k3",)), table(("zz",)))
+        self.get("trees/main/entries?max-records=100&page-token=" + first["token"].replace("\x1d", "%1D"))
+        for q in ("", "?max-records=0", "?max-records=1000", "?prefix-key=n&max-records=50", "?min-key=k5",
+                  "?max-key=k5&min-key=k1", "?prefix-key=k1", "?min-key=n.k&max-key=n.k%1D30",
+                  "?key=k1&key=n&key=n.k%1D0&key=none&max-records=2", "?min-key=z", "?max-key=a"):
+            self.pages("trees/main/entries" + q)
+            self.pages("trees/main@%s/entries" % old + q)
+        self.end()
+
+    def row_many_commits(self):
+        for i in range(206):
+            self.commit("main", table(("k",)) if i == 0 else {"type": "UNCHANGED", "key": {"elements": ["k"]}})
+        chain = [h.hex() for h in self.c.chain(self.c.references["main"][1])]
+        for q in ("", "?max-records=0", "?max-records=1000", "?max-records=206", "?max-records=205&fetch=ALL",
+                  "?limit-hash=" + chain[203], "?limit-hash=%s&max-records=150" % chain[150],
+                  "?limit-hash=%s&max-records=150" % chain[149], "?limit-hash=" + chain[-1]):
+            self.pages("trees/main/history" + q)
+        # A limit that the page after the token doesn't reach, since it lies before it.
+        self.get("trees/main/history?page-token=h.%s&limit-hash=%s" % (chain[5], chain[3]))
+        self.get("trees/main/history?page-token=h.%s&limit-hash=%s" % (chain[5], chain[5]))
+        self.get("trees/main/history?page-token=h." + chain[-1])
+        self.end()
+
+    def row_many_operations(self):
+        for count in (10000, 10001):
+            self.commit("main", *[{"type": "UNCHANGED", "key": {"elements": ["k%d" % i]}} for i in range(count)])
+        self.commit("main")
+        self.commit("main", *[table(("k%d" % i,)) for i in range(3000)])
+        self.end()
+
+    def row_hundred_transplants(self):
+        self.create("dev")
+        for i in range(101):
+            own = self.c.entries(self.c.references["dev"][1]).get(("k%d" % (i % 7),))
+            self.commit("dev", table(("k%d" % (i % 7),), "v%d" % i, own and own[1]))
+        chain = [h.hex() for h in reversed(self.c.chain(self.c.references["dev"][1])[:-1])]
+        self.transplant("main", "dev", chain)
+        self.transplant("main", "dev", chain[:100], dryRun=True)
+        self.transplant("main", "dev", chain[:100])
+        self.transplant("main", "dev", chain[1:])
+        self.transplant("main", "dev", chain[1:], defaultKeyMergeMode="FORCE")
+        self.transplant("main", "dev", [])
+        self.get("trees/main/history?fetch=ALL&max-records=1000")
+        self.end()
+
+    def row_crossed_merges(self):
+        self.commit("main", table(("t",)))
+        for name in ("p", "q", "r"):
+            self.create(name)
+        for turn in range(12):
+            heads = {}
+            for name in ("p", "q", "r"):
+                key = (name + str(turn),)
+                self.commit(name, table(key))
+                heads[name] = self.head(name)
+            for to, of in (("p", "q"), ("q", "r"), ("r", "p"), ("p", "r")):
+                self.merge(to, of, heads[of], dryRun=turn % 3 == 0)
+            for to, of in (("q", "p"), ("r", "q"), ("main", "p")):
+                self.merge(to, of, self.head(of), defaultKeyMergeMode=["NORMAL", "FORCE", "DROP"][turn % 3],
+                           returnConflictAsResult=turn % 2 == 0)
+            self.get("trees/p/entries")
+            self.get("trees/main/history?max-records=3&fetch=ALL")
+        self.end()
+
+    def row_namespaces_in_merges(self):
+        self.commit("main", table(("n",), kind="NAMESPACE"), table(("o",), kind="NAMESPACE"))
+        self.create("dev")
+        self.create("del")
+        self.commit("main", table(("n", "t")), table(("o", "u")))
+        self.commit("del", deleted(("n",)))
+        for mode in ("NORMAL", "FORCE", "DROP"):
+            for flag in (True, False):
+                self.merge("main", "del", self.head("del"), defaultKeyMergeMode=mode, returnConflictAsResult=flag)
+        # A table in place of a namespace that has a child.
+        self.commit("del", table(("n",)))
+        self.merge("main", "del", self.head("del"), defaultKeyMergeMode="FORCE", returnConflictAsResult=True)
+        self.merge("main", "del", self.head("del"))
+        self.transplant("main", "del", [h.hex() for h in reversed(self.c.chain(self.c.references["del"][1])[:2])],
+                        defaultKeyMergeMode="FORCE", returnConflictAsResult=True)
+        # A key whose namespace is gone, or is no namespace.
+        self.commit("dev", table(("n", "x")))
+        self.merge("del", "dev", self.head("dev"), returnConflictAsResult=True)
+        self.merge("del", "dev", self.head("dev"), defaultKeyMergeMode="FORCE")
+        self.commit("del", deleted(("n",)))
+        self.merge("del", "dev", self.head("dev"))
+        self.merge("del", "dev", self.head("dev"),
+                   keyMergeModes=[{"key": {"elements": ["n", "x"]}, "mergeBehavior": "DROP"}])
+        self.get("trees/del/entries")
+        self.end()
+
+    def row_settled_ties(self):
+        """Two commits of one generation, both common ancestors: the lesser hash is the base."""
+        for turn in range(6):
+            a, b = "a%d" % turn, "b%d" % turn
+            self.create(a)
+            self.create(b)
+            self.commit(a, table(("a%d" % turn,)))
+            at_a = self.head(a)
+            self.commit(b, table(("b%d" % turn,)))
+            at_b = self.head(b)
+            self.merge(a, b, at_b)
+            self.merge(b, a, at_a)
+            self.merge(a, b, self.head(b), dryRun=True)
+            self.merge(b, a, self.head(a), dryRun=True)
+            self.merge(b, a, self.head(a))
+            self.merge("main", b, self.head(b))
+        self.end()
+
+    def row_heads(self):
+        config = replies.Session(rules.Catalogue()).answer("GET", b"/api/v2/config", [], b"", 0)
+        closed = replies.Session(rules.Catalogue()).answer("GET", b"/api/v2/config", [], b"", 0, close=True)
+        no_path = replies.Session(rules.Catalogue()).answer("GET", b"/x", [], b"", 0)
+        line = b"GET /api/v2/config HTTP/1.1\r\n"
+        self.end()
+        bad = compare.NO_REQUEST
+        fields = lambda n: b"".join(b"H%d: x\r\n" % i for i in range(n))
+        filled = lambda n: line + b"H: " + b"x" * (n - len(line) - 7) + b"\r\n\r\n"
+        for sent, wanted, status in (
+                (line + fields(64) + b"\r\n", config, 0), (line + fields(65) + b"\r\n", bad, 8),
+                (filled(16384), config, 0), (filled(16385), bad, 8), (b"\r\n" + filled(16382), config, 0),
+                (b"\r\n" + filled(16383), bad, 8), (b"\r\n" * 8192, b"", 0), (b"\r\n" * 8192 + b"\n", bad, 8),
+                (b"", b"", 0), (b"\n\n\n", b"", 0), (b"\r", bad, 8), (b" ", bad, 8), (line, bad, 8),
+                (b"GET /api/v2/config HTTP/1.1\nHost: c\n\n", config, 0),
+                (b"\n\nGET /api/v2/config HTTP/1.1\r\n\r\n\r\n", config, 0),
+                (line + b"A:\tb\t\r\nB:   \r\nC: \xff\xfe\r\n\r\n", config, 0),
+                (line + b"A : b\r\n\r\n", bad, 8), (line + b": b\r\n\r\n", bad, 8), (line + b"A: \x01\r\n\r\n", bad, 8),
+                (line + b"A: b\r\n c\r\n\r\n", bad, 8), (line + b"A: \x7f\r\n\r\n", bad, 8),
+                (b"GET  /api/v2/config HTTP/1.1\r\n\r\n", bad, 8), (b"GET /api/v2/config HTTP/1.1 \r\n\r\n", bad, 8),
+                (b"GET /api/v2/config\r\n\r\n", bad, 8), (b"GET /api/v2/config HTTP/1.2\r\n\r\n", bad, 8),
+                (b"GET /api/v2/config http/1.1\r\n\r\n", bad, 8), (b"GET x HTTP/1.1\r\n\r\n", no_path, 0),
+                (b"GET * HTTP/1.1\r\n\r\n", no_path, 0), (b"GET http://a/api/v2/config HTTP/1.1\r\n\r\n", no_path, 0),
+                (line + b"Connection: a, CLOSE\r\n\r\nrest", closed, 0),
+                (line + b"Connection: keep-alive\r\nConnection: close\r\n\r\n" + line, closed, 0),
+                (b"GET /api/v2/config HTTP/1.0\r\n\r\n" + line, closed, 0),
+                (b"GET /api/v2/config HTTP/1.0\r\nConnection: keep-alive\r\n\r\n", closed, 0),
+                (line + b"Connection: close-x\r\n\r\n", config, 0), (line + b"Connection: \"close\"\r\n\r\n", config, 0),
+                (line + b"Content-Length: 2\r\nContent-Length: 2\r\n\r\nxx" + line + b"\r\n", config * 2, 0),
+                (line + b"Content-Length: 0000000000000000000000002\r\n\r\nxx", config, 0),
+                (line + b"Transfer-Encoding: CHUNKED\r\n\r\n1;a=b\r\nx\r\n0;c\r\n\r\n", config, 0),
+                (line + b"Transfer-Encoding: chunked\r\n\r\n001\r\nx\r\n000\r\n\r\n" + line + b"\r\n", config * 2, 0)):
+            self.bytes_once(sent, wanted, status)
+        for request in compare.NO_REQUESTS:
+            self.bytes_once(line + b"\r\n" + request, config + bad, 8)
+        for request in compare.TOO_LARGE:
+            self.bytes_once(line + b"\r\n" + request + line + b"\r\n", config + compare.LARGE, 8)
+
+    def row_bodies(self):
+        body = b'{"requestedKeys":[]}'
+        where = "/api/v2/trees/main/contents"
+        self.ask("POST", where, body + b" " * (1048576 - len(body)))
+        for nested in (124, 125, 126, 127, 128, 1000):
+            self.ask("POST", where, b'{"requestedKeys":[],"z":' + b"[" * nested + b"]" * nested + b"}")
+            self.ask("POST", where, b'{"requestedKeys":[],"z":' + b'{"a":' * nested + b"1" + b"}" * nested + b"}")
+        for text in (b'{"requestedKeys":[],"requestedKeys":null}', b'{"requestedKeys":null,"requestedKeys":[]}',
+                     b'{"requested\\u004beys":[]}', b'{"requestedKeys":[{"elements":["\\ud83d\\ude00"]}]}',
+                     b'{"requestedKeys":[{"elements":["\\ud83d"]}]}', b'{"requestedKeys":[{"elements":["\\ude00\\ud83d"]}]}',
+                     b'{"requestedKeys":[],"a":"\\uD800"}', b'{"requestedKeys":[],"\\uDC00":1}',
+                     b'{"requestedKeys":[],"a":"\\ud800\\u0041"}', b'{"requestedKeys":[],"a":"\\u00"}',
+                     b'{"requestedKeys":[],"a":1e309}', b'{"requestedKeys":[],"a":-1e309}',
+                     b'{"requestedKeys":[],"a":1e99999999999999999999}', b'{"requestedKeys":[],"a":0e99999999999999999999}',
+                     b'{"requestedKeys":[],"a":1e-99999999999999999999}', b'{"requestedKeys":[],"a":"\xed\xa0\x80"}',
+                     b'{"requestedKeys":[],"a":"\xc0\x80"}', b'{"requestedKeys":[],"a":"\xf4\x90\x80\x80"}',
+                     b'{"requestedKeys":[],"a":' + b"9" * 400 + b"}", b'{"requestedKeys":[],"a":-}',
+                     b'{"requestedKeys":[],"a":tru}', b'{"requestedKeys":[],"a":nullx}', b'\xa0{"requestedKeys":[]}',
+                     b'{"requestedKeys":[],}', b'{"requestedKeys":[] "a":1}', b'{requestedKeys:[]}', b'\x0c{"requestedKeys":[]}',
+                     b'{"requestedKeys":[]}\n\t\r ', b'{"requestedKeys":[]}\x00', b"\xfe\xff", b"[[]]", b'"x"', b"1", b"-",
+                     b'{"requestedKeys":[{"elements":["a"]},{"elements":["a"],"x":1},{"elements":["b"]}]}',
+                     b'{"requestedKeys":[["a"]]}', b'{"requestedKeys":["a"]}', b'{"requestedKeys":{}}'):
+            self.ask("POST", where, text)
+        # Numbers.
+        for name, bits in (("snapshotId", 64), ("schemaId", 32), ("specId", 32), ("sortOrderId", 32)):
+            for n in (2 ** (bits - 1) - 1, -2 ** (bits - 1), 2 ** (bits - 1), -2 ** (bits - 1) - 1, "1.0", "1e0", "-0",
+                      "0", "00", "null", "true", "\"1\"", "[]", "2" * 40, "-1", "- 1", "0x1", "1.", "0.0", "-0.0", "0e0"):
+                own = self.c.entries(self.c.references["main"][1]).get(("t",))
+                given = "" if own is None else ',"id":"%s"' % replies.write_uuid(own[1])
+                self.ask("POST", "/api/v2/trees/main/history/commit",
+                         ('{"commitMeta":{"message":""},"operations":[{"type":"PUT","key":{"elements":["t"]},"content":'
+                          '{"type":"ICEBERG_TABLE","metadataLocation":"","%s":%s%s}}]}' % (name, n, given)).encode())
+        self.end()
+
+    def row_instants(self):
+        for t in ("2024-02-03T04:05:06Z", "2024-02-03T04:05:06.1Z", "2024-02-03T04:05:06.123456789Z",
+                  "2024-02-03T04:05:06.1234567890Z", "2024-02-03T04:05:06.Z", "2024-02-03T04:05Z",
+                  "2024-02-03T04:05:06+00:00", "2024-02-03T04:05:06-00:00", "2024-02-03T04:05:06+0100",
+                  "2024-02-03T04:05:06+01", "2024-02-03T04:05:06+23:59", "2024-02-03T04:05:06+25:59",
+                  "2024-02-03T04:05:06+26:00", "2024-02-03T04:05:06+01:60", "2024-02-03T04:05:60Z",
+                  "2024-02-03T04:05:61Z", "2024-02-03T04:60:00Z", "2024-02-03T24:00:00Z", "2024-02-30T00:00:00Z",
+                  "1900-02-29T00:00:00Z", "2000-02-29T00:00:00Z", "2100-02-29T00:00:00Z", "1970-01-01T00:00:00Z",
+                  "1969-12-31T23:59:59.9999999Z", "1970-01-01T00:00:00.0000009Z", "1969-12-31T23:00:00-01:00",
+                  "9999-12-30T22:00:00.999999Z", "9999-12-30T22:00:00.9999999Z", "9999-12-30T22:00:01Z",
+                  "9999-12-31T00:00:00+02:00", "2024-02-03", "2024-02-03T04:05:06", "04:05:06Z", "", "Z",
+                  "2024-2-3T04:05:06Z", "24-02-03T04:05:06Z", "2024-02-03  04:05:06Z", "2024-02-03_04:05:06Z",
+                  "2024-02-03t04:05:06z", "2024-02-03 04:05:06,25Z", "2024-02-03T04:05:06Z ", " 2024-02-03T04:05:06Z",
+                  "2024-02-03T04:05:06Zx", "2024-00-03T04:05:06Z", "2024-02-00T04:05:06Z", "0000-01-01T00:00:00Z",
+                  "-000001-01-01T00:00:00Z", "now", "1706933106"):
+            self.commit("main", {"type": "UNCHANGED", "key": {"elements": ["k"]}}, authorTime=t)
+            self.get("trees/main/history?max-records=1")
+        self.end()
+
+    def row_thousand(self):
+        line = b"GET /api/v2/config HTTP/1.1\r\n"
+        config = replies.Session(rules.Catalogue()).answer("GET", b"/api/v2/config", [], b"", 0)
+        closed = replies.Session(rules.Catalogue()).answer("GET", b"/api/v2/config", [], b"", 0, close=True)
+        self.end()
+        self.bytes_once((line + b"\r\n") * 999, config * 999, 0)
+        self.bytes_once((line + b"\r\n") * 1000, config * 999 + closed, 8)
+        self.bytes_once((line + b"\r\n") * 1001, config * 999 + closed, 8)
+        self.bytes_once((line + b"\r\n") * 999 + line + b"Connection: close\r\n\r\n" + line, config * 999 + closed, 0)
+        self.bytes_once((line + b"\r\n") * 999 + b"x y\r\n\r\n", config * 999 + compare.NO_REQUEST, 8)
+
+    def row_words(self):
+        self.end()
+        usage = (b"nessie: usage\n", 1)
+        none = b"commits 0 keys 0 contents 0 place 0 head %s\n" % NO_ANCESTOR.hex().encode()
+        for words, wanted in (
+                ((), usage), (("x",), usage), (("script",), usage), (("script", "a", "b"), usage), (("check",), usage),
+                (("check", "a", "b"), usage), (("drill",), usage), (("drill", "--seed", "0"), usage), (("--help",), usage),
+                (("drill", "--seed", "0", "--commits", "0"), (none, 0)), (("drill", "--commits=0", "--seed=5"), (none, 0)),
+                (("drill", "--seed", "18446744073709551615", "--commits", "0"), (none, 0)),
+                (("drill", "--seed", "18446744073709551616", "--commits", "0"), usage),
+                (("drill", "--seed", "00000000000000000005", "--commits", "0"), (none, 0)),
+                (("drill", "--seed", "000000000000000000005", "--commits", "0"), usage),
+                (("drill", "--seed", "0", "--commits", "1000001"), usage), (("drill", "--seed", "-1", "--commits", "0"), usage),
+                (("drill", "--seed", "+1", "--commits", "0"), usage), (("drill", "--seed", "", "--commits", "0"), usage),
+                (("drill", "--seed", "1a", "--commits", "0"), usage), (("drill", "--seed", "1", "--commits", "0", "x"), usage),
+                (("drill", "--seed", "1", "--seed", "1", "--commits", "0"), usage), (("script", "--x", "a"), usage),
+                (("help",), usage), (("--version",), usage), (("script", "--help"), usage), (("Script", "a"), usage)):
+            got = subprocess.run([self.options.program, *words], stdout=subprocess.PIPE, stdin=subprocess.DEVNULL,
+                                 cwd=os.path.dirname(self.path))
+            self.compared += 1
+            if (got.stdout, got.returncode) != wanted:
+                self.difference((self.name, words), None, words, wanted, (got.stdout, got.returncode))
+
+    def row_drill(self):
+        self.end()
+        for seed, commits in ((0, 1), (0, 2), (7, 1000), ((1 << 64) - 1, 300), (1 << 63, 40), (12345678901234567890, 500),
+                              (3, 3), (99, 700)):
+            got = subprocess.run([self.options.program, "drill", "--seed", str(seed), "--commits", str(commits)],
+                                 stdout=subprocess.PIPE, stdin=subprocess.DEVNULL)
+            wanted = (drill.drilled(seed, commits).encode(), 0)
+            self.compared += 1
+            if (got.stdout, got.returncode) != wanted:
+                self.difference((self.name, seed, commits), None, None, wanted, (got.stdout, got.returncode))
+
+    def row_uuids(self):
+        u = "00112233-4455-6677-8899-aabbccddeeff"
+        n = u.replace("-", "")
+        for s in (u, u.upper(), n, "{%s}" % u, "{%s}" % n, "urn:uuid:" + u, "URN:UUID:" + u, "urn:uuid:" + n, "{" + u, u + "}",
+                  "(%s)" % u, " " + u, u + " ", "", u[:-1], u.replace("-", "_"), "0x" + n, u[:-1] + "g", None, 5, [], True):
+            self.commit("main", dict(table(("k",)), content={"type": "ICEBERG_TABLE", "metadataLocation": "", "id": s}))
+        self.end()
+
+    def row_disk_faults(self):
+        """A file that may not grow past a size: the first change that needs more is a fault."""
+        self.end()
+        for seed, size in enumerate((17, 18, 60, 150, 400, 401, 1000, 2000, 3000, 5000, 8000)):
+            def before():
+                signal.signal(signal.SIGXFSZ, signal.SIG_IGN)
+                resource.setrlimit(resource.RLIMIT_FSIZE, (size, size))
+            path = "%s-%d" % (self.path, size)
+            c = rules.Catalogue()
+            side = replies.Session(c)
+            maker = requests.Requests(random.Random(seed), c)
+            self.program = program = compare.Program(self.options.program, path, before)
+            after = 0
+            lines = [compare.line_of(c)]
+            while after < 60:
+                kind, method, target, fields, body = maker.one()
+                self.request = maker.wire(method, target, fields, body)
+                program.send(self.request)
+                got = program.reply(method != "HEAD")
+                moment = self.moment_of(program, got, target)
+                kept = copy.deepcopy((c.references, c.commits, c.contents, c.place, c.maps, c.log))
+                wanted = side.answer(method, target, fields, body, 0 if moment is None else moment)
+                if got.startswith(b"HTTP/1.1 503") and side.faults is None and c.place > kept[3]:
+                    # Accepted by the rules, and not kept.
+                    lines.append(compare.line_of(c))
+                    c.references, c.commits, c.contents, c.place, c.maps, c.log = kept
+                    side.outcome = "FAULT"
+                    side.faults = 1
+                    value = replies.refusal_json(rules.Refused("FAULT", "disk fault"))
+                    wanted = replies.rendered(503, replies.write_json(value), c.place)
+                elif side.faults is None:
+                    lines = [compare.line_of(c)]
+                after += side.faults is not None
+                self.count(kind, side)
+                if not self.same((self.name, kind), (seed, after), side, wanted, got) and method != "GET":
+                    break
+                if program.sent > 900:
+                    break
+            rest, status = program.ended()
+            if (rest, status) != (b"", 2):
+                self.difference((self.name, "status"), size, None, (b"", 2), (rest, status))
+            got = subprocess.run([self.options.program, "check", path], stdout=subprocess.PIPE)
+            self.extra["journals after a fault, entry %s" % ("gone" if got.stdout == lines[0] else "kept")] += 1
+            if got.stdout not in lines or got.returncode:
+                self.difference((self.name, "check"), size, None, lines, (got.stdout, got.returncode))
+
+    # Journals that the rules write, and the program opens.
+
+    def opened_as(self, what, file, wanted):
+        """What `check` and `script` say of a file: a line of the state, or of what is wrong with it."""
+        path = self.path + "-made"
+        with open(path, "wb") as f:
+            f.write(file)
+        faulty = wanted.startswith(b"nessie")
+        for words, output in ((("check", path), wanted), (("script", path), wanted if faulty else b"")):
+            got = subprocess.run([self.options.program, *words], stdout=subprocess.PIPE, stdin=subprocess.DEVNULL)
+            self.compared += 1
+            if (got.stdout, got.returncode) != (output, 3 if faulty else 0):
+                self.difference((self.name, what), None, (words[0], file[:2000]), (output, 3 if faulty else 0),
+                                (got.stdout, got.returncode))
+        with open(path, "rb") as f:
+            if f.read() != file:
+                self.difference((self.name, what, "changed the file"), None, None, None, None)
+
+    def written(self, payloads):
+        out = journal.HEADER
+        for p in payloads:
+            out += b"\x01" + len(p).to_bytes(4, "big") + p
+        return out + b"\x00"
+
+    def of_log(self, c):
+        return [journal.payload(e, e[3]) for e in c.log]
+
+    def go_on(self, c):
+        """The program goes on from a journal that the rules wrote."""
+        self.end()
+        with open(self.path, "wb") as f:
+            f.write(self.written(self.of_log(c)))
+        self.c = c
+        c.opened()
+        self.side = replies.Session(c)
+        self.program = compare.Program(self.options.program, self.path)
+        self.lines = []
+
+    def row_last_drafts(self):
+        c = rules.Catalogue()
+        c.create("tag", "TAG", ("BRANCH", "main", None), 3)
+        c.draft = (1 << 64) - 2
+        c.commit("main", None, plain_meta(), [put(("t",))], 5)
+        self.go_on(c)
+        self.commit("main", table(("u",)))
+        self.commit("main", table(("t",)))
+        self.commit("none", table(("u",)))
+        self.commit("tag", table(("u",)))
+        self.commit("main@" + "a" * 64, table(("u",)))
+        self.commit("main")
+        self.create("dev")
+        self.merge("dev", "main", self.head())
+        self.merge("dev", "main", self.head(), dryRun=True)
+        self.merge("dev", "none", self.head())
+        self.transplant("dev", "main", [self.head()])
+        self.transplant("dev", "main", [NO_ANCESTOR.hex()])
+        self.transplant("dev", "main", ["a" * 64])
+        self.get("trees/main/entries")
+        self.end()
+
+    def row_nearly_last_drafts(self):
+        c = rules.Catalogue()
+        c.draft = (1 << 64) - 4
+        c.commit("main", None, plain_meta(), [put(("t",))], 5)
+        self.go_on(c)
+        self.commit("main", table(("t",)))
+        self.commit("main", table(("u",)))
+        self.commit("main", table(("v",)))
+        self.end()
+
+    def row_last_references(self):
+        c = rules.Catalogue()
+        for i in range(65533):
+            c.create("r%05d" % i, "TAG" if i % 2 else "BRANCH", ("BRANCH", "main", None), 7)
+        self.go_on(c)
+        self.get("trees?max-records=3&page-token=r.r65530")
+        self.create("one")
+        self.create("two")
+        self.create("one")
+        self.create("two", "none")
+        self.create("two", of="TAG")
+        self.ask("DELETE", "/api/v2/trees/r00000")
+        self.create("two")
+        self.create("three")
+        self.end()
+
+    def row_same_commit_twice(self):
+        c = rules.Catalogue()
+        c.create("dev", "BRANCH", ("BRANCH", "main", None), 1)
+        for name in ("main", "dev"):
+            c.commit(name, None, plain_meta(), [rules.Operation("UNCHANGED", ("k",))], 9)
+        self.opened_as("twice", self.written(self.of_log(c)), compare.line_of(c))
+        self.go_on(c)
+        self.get("trees")
+        self.merge("dev", "main", self.head())
+        self.get("trees/dev/history")
+        self.commit("dev", table(("t",)))
+        self.end()
+
+    def row_illegal_journals(self):
+        from catalogue import Operation, content_bytes, key_bytes, listed, meta_bytes, option, text, u8, u32, u64
+        hash_ = lambda b: b
+        c = rules.Catalogue()
+        c.create("dev", "BRANCH", ("BRANCH", "main", None), 1)
+        c.commit("main", None, plain_meta(), [put(("n",), "NAMESPACE"), put(("n", "t")), put(("u",))], 2)
+        first = c.references["main"][1]
+        c.commit("main", None, plain_meta(), [Operation("DELETE", ("u",))], 3)
+        second = c.references["main"][1]
+        c.create("v", "TAG", ("BRANCH", "main", first), 4)
+        whole = self.of_log(c)
+        good = compare.line_of(c)
+        self.opened_as("whole", self.written(whole), good)
+        damaged_at = lambda n: b"nessie: damaged at %d\n" % n
+        at = len(self.written(whole)) - 1
+        illegal = b"nessie: illegal entry 5\n"
+        damaged = damaged_at(at)
+        nothing = meta_bytes(plain_meta())
+
+        def last(what, wanted, kind, draft, command, head=b"", place=5, moment=5):
+            p = u8(kind) + u32(place) + u64(draft) + u64(moment) + command + head
+            self.opened_as(what, self.written(whole + [p]), wanted)
+
+        def state(change):
+            other = rules.Catalogue()
+            other.create("dev", "BRANCH", ("BRANCH", "main", None), 1)
+            other.commit("main", None, plain_meta(), [put(("n",), "NAMESPACE"), put(("n", "t")), put(("u",))], 2)
+            other.commit("main", None, plain_meta(), [Operation("DELETE", ("u",))], 3)
+            other.create("v", "TAG", ("BRANCH", "main", first), 4)
+            change(other)
+            return compare.line_of(other), other.references
+
+        # References.
+        name = lambda n: option(n, text)
+        made, _ = state(lambda o: o.create("w", "BRANCH", ("DETACHED", None, first), 5))
+        last("create", made, 1, 0, text("w") + u8(1) + name(None) + option(first, hash_), first)
+        last("create with both", made, 1, 0, text("w") + u8(1) + name("main") + option(first, hash_), first)
+        last("create, other head", illegal, 1, 0, text("w") + u8(1) + name("main") + option(first, hash_), second)
+        last("create, no head", damaged, 1, 0, text("w") + u8(1) + name("main") + option(first, hash_))
+        last("create, a draft", damaged, 1, 7, text("w") + u8(1) + name("main") + option(first, hash_), first)
+        last("create, no source", damaged, 1, 0, text("w") + u8(1) + name(None) + option(None, hash_), first)
+        last("create, no such kind", damaged, 1, 0, text("w") + u8(3) + name("main") + option(first, hash_), first)
+        last("create, kind 0", damaged, 1, 0, text("w") + u8(0) + name("main") + option(first, hash_), first)
+        last("create, bad name", damaged, 1, 0, text("w.") + u8(1) + name("main") + option(first, hash_), first)
+        last("create, bad source", damaged, 1, 0, text("w") + u8(1) + name("-") + option(first, hash_), first)
+        last("create, not UTF-8", damaged, 1, 0, u32(1) + b"\xff" + u8(1) + name("main") + option(first, hash_), first)
+        last("create, there already", illegal, 1, 0, text("dev") + u8(1) + name("main") + option(first, hash_), first)
+        last("create, no such source", illegal, 1, 0, text("w") + u8(1) + name("x") + option(None, hash_), first)
+        last("create, off the chain", illegal, 1, 0, text("w") + u8(1) + name("v") + option(second, hash_), second)
+        last("create, unknown", illegal, 1, 0, text("w") + u8(1) + name(None) + option(bytes(32), hash_), bytes(32))
+        last("create, H0", state(lambda o: o.create("w", "TAG", ("DETACHED", None, NO_ANCESTOR), 5))[0], 1, 0,
+             text("w") + u8(2) + name(None) + option(NO_ANCESTOR, hash_), NO_ANCESTOR)
+        last("place 4", illegal, 1, 0, text("w") + u8(1) + name("main") + option(first, hash_), first, place=4)
+        last("place 6", illegal, 1, 0, text("w") + u8(1) + name("main") + option(first, hash_), first, place=6)
+        last("place 0", illegal, 1, 0, text("w") + u8(1) + name("main") + option(first, hash_), first, place=0)
+        last("late moment", made, 1, 0, text("w") + u8(1) + name("main") + option(first, hash_), first,
+             moment=253402207200999999)
+        last("too late moment", damaged, 1, 0, text("w") + u8(1) + name("main") + option(first, hash_), first,
+             moment=253402207201000000)
+        last("early moment", made, 1, 0, text("w") + u8(1) + name("main") + option(first, hash_), first, moment=0)
+        last("bytes left over", damaged, 1, 0, text("w") + u8(1) + name("main") + option(first, hash_), first + b"\x00")
+        last("an option of 2", damaged, 1, 0, text("w") + u8(1) + u8(2) + option(first, hash_), first)
+        for kind in (0, 7, 8, 9, 255):
+            last("kind %d" % kind, damaged, kind, 0, text("w") + u8(1) + name("main") + option(first, hash_), first)
+        none = option(None, hash_)
+        moved, _ = state(lambda o: o.assign("dev", None, None, ("BRANCH", "main", None), 5))
+        last("assign", moved, 2, 0, text("dev") + none + none + name("main") + none, second)
+        last("assign, kind", moved, 2, 0, text("dev") + b"\x01\x01" + none + name("main") + none, second)
+        last("assign, other kind", illegal, 2, 0, text("dev") + b"\x01\x02" + none + name("main") + none, second)
+        last("assign, expected", moved, 2, 0, text("dev") + none + option(NO_ANCESTOR, hash_) + name("main") + none, second)
+        last("assign, unexpected", illegal, 2, 0, text("dev") + none + option(first, hash_) + name("main") + none, second)
+        last("assign, other head", illegal, 2, 0, text("dev") + none + none + name("main") + none, first)
+        gone, _ = state(lambda o: o.delete("v", None, None, 5))
+        last("delete", gone, 3, 0, text("v") + none + none)
+        last("delete, a head", damaged, 3, 0, text("v") + none + none, first)
+        last("delete main", illegal, 3, 0, text("main") + none + none)
+        last("delete none", illegal, 3, 0, text("none") + none + none)
+        last("delete, a draft", damaged, 3, 3, text("v") + none + none)
+
+        # Commits.
+        def spelled(ops, draft=3, fresh=None):
+            out = b""
+            for index, o in enumerate(ops):
+                if o.what != "PUT":
+                    out += key_bytes(o.key) + u8(0 if o.what == "DELETE" else 2)
+                    continue
+                i = o.given_id if o.given_id is not None else u64(draft) + u64(index)
+                b = content_bytes(o.content, i)
+                f = (1 if o.given_id is None else 0) if fresh is None else fresh
+                out += key_bytes(o.key) + u8(1) + u8(f) + u32(len(b)) + b
+            return u32(len(ops)) + out
+
+        def commit(what, ops, wanted=None, draft=3, branch="main", expected=None, accepted=None, body=None, meta=None):
+            meta = meta or plain_meta()
+            result = {}
+
+            def do(o):
+                o.draft = draft - 1
+                o.commit(branch, expected, meta, accepted or ops, 5)
+                result["head"] = o.references[branch][1]
+            if wanted is None:
+                wanted, _ = state(do)
+            head = result.get("head", first)
+            last(what, wanted, 4, draft, text(branch) + option(expected, hash_) + meta_bytes(meta)
+                 + (spelled(ops, draft) if body is None else body), head)
+
+        commit("commit", [put(("x",))])
+        commit("commit, draft 900", [put(("x",))], draft=900)
+        commit("commit, largest draft", [put(("x",))], draft=(1 << 64) - 1)
+        commit("commit, draft 1", [put(("x",))], illegal, draft=1)
+        commit("commit, draft 2", [Operation("DELETE", ("n", "t"))], illegal, draft=2)
+        commit("commit, draft 0", [Operation("DELETE", ("n", "t"))], damaged, draft=0)
+        commit("commit, no operations", [], illegal)
+        commit("commit, a key twice", [Operation("UNCHANGED", ("x",)), Operation("UNCHANGED", ("x",))], illegal)
+        commit("commit, an id twice", [put(("x",), given=bytes(16)), put(("y",), given=bytes(16))], illegal)
+        commit("commit, a namespace of another key", [put(("x",), "NAMESPACE", elements=["y"])], illegal)
+        commit("commit, a conflict", [put(("n",), "NAMESPACE")], illegal)
+        commit("commit, absent namespace", [put(("q", "t"))], illegal)
+        commit("commit on a tag", [put(("x",))], illegal, branch="v")
+        commit("commit on none", [put(("x",))], illegal, branch="none")
+        commit("commit, bad name", [put(("x",))], damaged, branch="-")
+        commit("commit, expected", [put(("x",))], expected=first)
+        commit("commit, expected unknown", [put(("x",))], illegal, expected=bytes(32))
+        commit("commit, unchanged", [Operation("UNCHANGED", ("x",))])
+        commit("commit, order of the request", [put(("z",)), put(("b",)), Operation("DELETE", ("n", "t"))])
+        many = [Operation("UNCHANGED", ("k%d" % i,)) for i in range(10001)]
+        commit("commit, 10,000", many[:10000])
+        commit("commit, 10,001", many, illegal)
+        commit("commit, fresh of another id", [put(("x",))], damaged, body=spelled([put(("x",))], draft=4))
+        commit("commit, fresh 2", [put(("x",))], damaged, body=spelled([put(("x",))], fresh=2))
+        commit("commit, not fresh", [put(("x",))], illegal, body=spelled([put(("x",))], fresh=0))
+        commit("commit, operation 3", [put(("x",))], damaged, body=u32(1) + key_bytes(("x",)) + u8(3))
+        commit("commit, no elements", [put(("x",))], damaged, body=u32(1) + u8(0) + u8(2))
+        commit("commit, empty element", [put(("x",))], damaged, body=u32(1) + u8(1) + b"\0\0" + u8(2))
+        commit("commit, control", [put(("x",))], damaged, body=u32(1) + key_bytes(("\x1d",)) + u8(2))
+        commit("commit, 21 elements", [put(("x",))], damaged, body=u32(1) + key_bytes(("x",) * 21) + u8(2))
+        commit("commit, 501 bytes", [put(("x",))], damaged, body=u32(1) + key_bytes(("x" * 501,)) + u8(2))
+        commit("commit, 500 bytes", [Operation("UNCHANGED", ("x" * 500,))])
+        def raw(b):
+            return u32(1) + key_bytes(("x",)) + u8(1) + u8(1) + u32(len(b)) + b
+        right = content_bytes(put(("x",)).content, u64(3) + u64(0))
+        commit("commit, content cut", [put(("x",))], damaged, body=raw(right[:-1]))
+        commit("commit, content longer", [put(("x",))], damaged, body=raw(right + b"\0"))
+        commit("commit, type 0", [put(("x",))], damaged, body=raw(b"\0" + right[1:]))
+        commit("commit, type 5", [put(("x",))], damaged, body=raw(b"\5" + right[1:]))
+        commit("commit, content of none", [put(("x",))], damaged, body=raw(b""))
+        pairs = lambda *ps: (u8(4) + u64(3) + u64(0) + u32(1) + text("x") + u32(len(ps))
+                             + b"".join(text(p) + text("") for p in ps))
+        commit("commit, properties", [put(("x",), "NAMESPACE", properties={"a": "", "b": ""})], body=raw(pairs("a", "b")))
+        commit("commit, properties' order", [put(("x",))], damaged, body=raw(pairs("b", "a")))
+        commit("commit, properties twice", [put(("x",))], damaged, body=raw(pairs("a", "a")))
+        delta = u8(3) + u64(3) + u64(0) + u32(0) + u32(0)
+        commit("commit, option 2", [put(("x",))], damaged, body=raw(delta + b"\x02"))
+        for time, wanted in ((253402207200999999, None), (253402207201000000, damaged)):
+            commit("commit, author's time %d" % time, [put(("x",))], wanted, meta=dict(plain_meta(), author_time=time))
+        def meta_of(*names):
+            return text("") + u32(0) + u32(0) + u32(len(names)) + b"".join(text(n) + u32(0) for n in names) + u8(0)
+        for what, meta, wanted in (("order", meta_of("b", "a"), damaged), ("twice", meta_of("a", "a"), damaged)):
+            last("commit, meta's " + what, wanted, 4, 3, text("main") + none + meta + spelled([put(("x",))]), first)
+
+        # Merges and transplants.
+        from_name, nomodes = text("main"), u32(0)
+
+        def merge(what, wanted, meta=None, from_hash=second, default=0, modes=nomodes, path=None, draft=3, branch="dev",
+                  source="main", plain=True):
+            result = {}
+
+            def do(o):
+                o.draft = draft - 1
+                o.merge(branch, path, source, from_hash, plain_meta(), lambda k: "NORMAL", False, False, 5, ())
+                result["head"] = o.references[branch][1]
+            if wanted is None:
+                wanted, _ = state(do)
+            elif plain:
+                state(do)
+            last(what, wanted, 5, draft, text(branch) + option(path, hash_) + text(source) + from_hash + nothing
+                 + u8(default) + modes, result.get("head", first))
+
+        merge("merge", None)
+        merge("merge, default 3", damaged, default=3)
+        merge("merge, force", None, default=0)
+        merge("merge at H0", None, path=NO_ANCESTOR)
+        merge("merge at another", illegal, path=first, plain=False)
+        merge("merge into a tag", illegal, branch="v", plain=False)
+        merge("merge of none", illegal, source="none", plain=False)
+        merge("merge of an unknown", illegal, from_hash=bytes(32), plain=False)
+        merge("merge without changes", illegal, branch="main", from_hash=first, plain=False)
+        merge("merge of H0", illegal, from_hash=NO_ANCESTOR, plain=False)
+        merge("merge, a mode", None, modes=u32(1) + key_bytes(("q",)) + u8(2))
+        merge("merge, mode 3", damaged, modes=u32(1) + key_bytes(("q",)) + u8(3))
+        merge("merge, modes' order", damaged, modes=u32(2) + key_bytes(("q",)) + u8(2) + key_bytes(("p",)) + u8(2))
+        merge("merge, modes twice", damaged, modes=u32(2) + key_bytes(("q",)) + u8(2) + key_bytes(("q",)) + u8(2))
+        merge("merge, modes ordered", None, modes=u32(2) + key_bytes(("a", "b")) + u8(2) + key_bytes(("a!",)) + u8(2))
+        merge("merge, modes ordered by paths", damaged, modes=u32(2) + key_bytes(("a!",)) + u8(2) + key_bytes(("a", "b")) + u8(2))
+        merge("merge, draft 0", damaged, draft=0, plain=False)
+        merge("merge, draft 2", illegal, draft=2, plain=False)
+
+        def transplant(what, wanted, hashes, branch="dev", source="main", plain=True):
+            result = {}
+
+            def do(o):
+                o.transplant(branch, None, source, hashes, lambda k: "NORMAL", False, False, 5, ())
+                result["head"] = o.references[branch][1]
+            if wanted is None:
+                wanted, _ = state(do)
+            last(what, wanted, 6, 3, text(branch) + none + text(source) + listed(hashes, hash_) + u8(0) + nomodes,
+                 result.get("head", first))
+
+        transplant("transplant", None, [first, second])
+        transplant("transplant of one", None, [first])
+        transplant("transplant of none", illegal, [])
+        transplant("transplant of 101", illegal, [first] * 101)
+        transplant("transplant of H0", illegal, [NO_ANCESTOR])
+        transplant("transplant, order", illegal, [second, first])
+        transplant("transplant, nothing left to change", illegal, [second])
+        transplant("transplant, no change", illegal, [first], branch="main")
+        # The first damage comes before an illegal entry, wherever that stands.
+        self.opened_as("damage after an illegal entry", self.written([whole[1]] + whole + [b"\x09"]),
+                       damaged_at(len(self.written([whole[1]] + whole)) - 1))
+        self.opened_as("the same entry twice", self.written(whole + whole[-1:]), illegal)
+        self.opened_as("no first entry", self.written(whole[1:]), b"nessie: illegal entry 1\n")
+        self.opened_as("an empty payload", self.written(whole[:1] + [b""]), damaged_at(len(self.written(whole[:1])) - 1))
+        self.end()
+
+    def run(self, name):
+        folder = tempfile.mkdtemp(prefix="oracle-")
+        try:
+            self.begin(name, os.path.join(folder, "j"))
+            getattr(self, "row_" + name)()
+            if self.c.log or os.path.exists(self.path):
+                self.files(1, self.c, self.path)
+        except compare.Stopped as e:
+            self.difference((name, "stopped"), None, self.request, None, str(e))
+        finally:
+            self.program.kill()
+            shutil.rmtree(folder, ignore_errors=True)
+            self.sessions += 1
+
+    def count(self, kind, side):
+        super().count(kind, side)
+        if len(self.c.log) == len(self.lines):
+            self.lines.append(compare.line_of(self.c))
+
+
+def main():
+    parser = argparse.ArgumentParser()
+    parser.add_argument("--program", default=os.path.join(
+        os.path.dirname(os.path.abspath(__file__)), "../crates/nessie/out/nessie"))
+    parser.add_argument("rows", nargs="*")
+    options = parser.parse_args()
+    options.program = os.path.abspath(options.program)
+    row = Row(options)
+    for name in options.rows or [n[4:] for n in dir(Row) if n.startswith("row_")]:
+        print("-- " + name, flush=True)
+        row.run(name)
+    row.report()
+    return 1 if row.differences else 0
+
+
+if __name__ == "__main__":
+    sys.exit(main())

@@ -1,0 +1,93 @@
+"""The file that a catalogue's log is kept in: a header, then frames of one entry each."""
+
+from catalogue import (
+    TAG, NORMAL, FORCE, DROP, content_bytes, key_bytes, key_order, listed, meta_bytes, option, text,
+    u8, u32, u64)
+
+HEADER = b"NESSIECJ" + u32(1) + u32(0)
+KINDS = {"create": 1, "assign": 2, "delete": 3, "commit": 4, "merge": 5, "transplant": 6}
+MODES = {NORMAL: 0, FORCE: 1, DROP: 2}
+
+
+def plain(b):
+    return b
+
+
+def kind_bytes(kind):
+    return u8(2 if kind == TAG else 1)
+
+
+def source_bytes(source):
+    _, name, commit_hash = source
+    return option(name, text) + option(commit_hash, plain)
+
+
+def modes_bytes(default, of_keys):
+    pairs = sorted(of_keys.items(), key=lambda p: key_order(p[0]))
+    return u8(MODES[default]) + listed(pairs, lambda p: key_bytes(p[0]) + u8(MODES[p[1]]))
+
+
+def operation(o, entries):
+    if o.what == "DELETE":
+        return key_bytes(o.key) + u8(0)
+    if o.what == "UNCHANGED":
+        return key_bytes(o.key) + u8(2)
+    spelled = content_bytes(o.content, entries[o.key][1])
+    fresh = u8(1 if o.given_id is None else 0)
+    return key_bytes(o.key) + u8(1) + fresh + u32(len(spelled)) + spelled
+
+
+def command_bytes(what, command):
+    if what == "create":
+        name, kind, source = command
+        return text(name) + kind_bytes(kind) + source_bytes(source)
+    if what == "assign":
+        name, kind, expected, source = command
+        return (text(name) + option(kind, kind_bytes) + option(expected, plain)
+                + source_bytes(source))
+    if what == "delete":
+        name, kind, expected = command
+        return text(name) + option(kind, kind_bytes) + option(expected, plain)
+    if what == "commit":
+        name, expected, meta, operations, entries = command
+        return (text(name) + option(expected, plain) + meta_bytes(meta)
+                + listed(operations, lambda o: operation(o, entries)))
+    if what == "merge":
+        name, path_hash, from_name, from_hash, meta, default, of_keys = command
+        return (text(name) + option(path_hash, plain) + text(from_name) + from_hash
+                + meta_bytes(meta) + modes_bytes(default, of_keys))
+    name, path_hash, from_name, hashes, default, of_keys = command
+    return (text(name) + option(path_hash, plain) + text(from_name) + listed(hashes, plain)
+            + modes_bytes(default, of_keys))
+
+
+def payload(entry, moment):
+    what, place, draft, _, command, head = entry
+    return (u8(KINDS[what]) + u32(place) + u64(draft) + u64(moment) + command_bytes(what, command)
+            + (b"" if head is None else head))
+
+
+def compared(found, log):
+    """What differs between a file's bytes and a log, or None.
+
+    The moments of references' calls are told by no reply, and are taken from the file.
+    """
+    out = HEADER
+    last = 0
+    for entry in log:
+        at = len(out)
+        moment = int.from_bytes(found[at + 18:at + 26], "big")
+        if entry[0] in ("commit", "merge", "transplant") and moment != entry[3]:
+            return "entry %d: the moment is not the commit's time" % entry[1]
+        if moment < last:
+            return "entry %d: the moment falls" % entry[1]
+        last = moment
+        spelled = payload(entry, moment)
+        frame = u8(1) + u32(len(spelled)) + spelled
+        if found[at:at + len(frame)] != frame:
+            return "entry %d (%s): %s instead of %s" % (
+                entry[1], entry[0], found[at:at + len(frame)].hex(), frame.hex())
+        out += frame
+    if found[len(out):] != b"\x00":
+        return "after the last entry: %s" % found[len(out):len(out) + 40].hex()
+    return None

@@ -1,0 +1,769 @@
+"""Texts and bytes: requests read to what they want, replies as they are written.
+
+`Session(catalogue).answer(request, moment)` takes one request of the bytes
+(method, target, fields, body) and gives the reply's bytes.
+"""
+
+import json
+import re
+
+from catalogue import (
+    BRANCH, TAG, ICEBERG_TABLE, ICEBERG_VIEW, DELTA_LAKE_TABLE, NAMESPACE, NORMAL, FORCE, DROP,
+    NO_ANCESTOR, DEFAULT_BRANCH, Operation, Refused, bad, key_order, key_path)
+
+GREATEST_MOMENT = 253402207200999999
+
+STATUS = {
+    "BAD_REQUEST": 400, "REFERENCE_NOT_FOUND": 404, "REFERENCE_ALREADY_EXISTS": 409,
+    "CONTENT_NOT_FOUND": 404, "REFERENCE_CONFLICT": 409, "LIMIT": 409, "COLLISION": 500,
+    "FAULT": 503, "DOWN": 503, "NO_MEMORY": 507, "NO_ROUTE": 404, "WRONG_METHOD": 405,
+    "TOO_LARGE": 413, "ENCODING": 415,
+}
+PHRASES = {
+    200: "OK", 400: "Bad Request", 404: "Not Found", 405: "Method Not Allowed", 409: "Conflict",
+    413: "Payload Too Large", 415: "Unsupported Media Type", 500: "Internal Server Error",
+    503: "Service Unavailable", 507: "Insufficient Storage",
+}
+
+# Simple texts.
+
+NAME = re.compile(r"[A-Za-z][A-Za-z0-9./_-]*\Z")
+DIGITS = re.compile(r"[0-9]+\Z")
+HASH = re.compile(r"[0-9A-Fa-f]{64}\Z")
+
+
+def read_hash(s):
+    return bytes.fromhex(s) if HASH.match(s) else None
+
+
+def is_name(s):
+    return bool(NAME.match(s)) and s[-1] not in "./" and ".." not in s and len(s) <= 128
+
+
+def key_of(elements):
+    """The key of these elements, or None where they are none."""
+    if not 1 <= len(elements) <= 20 or any(e == "" for e in elements):
+        return None
+    if any(ord(c) < 0x20 for e in elements for c in e):
+        return None
+    key = tuple(elements)
+    return key if len(key_path(key).encode("utf-8")) <= 500 else None
+
+
+def key_of_path(s):
+    return key_of([e.replace("\x1d", ".").replace("\x00", ".") for e in s.split(".")])
+
+
+def read_uuid(s):
+    """A UUID: 32 digits, hyphenated, in braces, or after `urn:uuid:` in either case."""
+    hyphenated = r"[0-9A-Fa-f]{8}-[0-9A-Fa-f]{4}-[0-9A-Fa-f]{4}-[0-9A-Fa-f]{4}-[0-9A-Fa-f]{12}"
+    if re.match(r"\{%s\}\Z" % hyphenated, s):
+        s = s[1:-1]
+    elif s[:9].lower() == "urn:uuid:" and re.match(hyphenated + r"\Z", s[9:]):
+        s = s[9:]
+    elif not re.match(r"(%s|[0-9A-Fa-f]{32})\Z" % hyphenated, s):
+        return None
+    return bytes.fromhex(s.replace("-", ""))
+
+
+def write_uuid(b):
+    h = b.hex()
+    return "-".join((h[:8], h[8:12], h[12:16], h[16:20], h[20:]))
+
+
+# Instants. What is read here is a plain family of what may be read.
+
+INSTANT = re.compile(
+    r"([0-9]{4})-([0-9]{2})-([0-9]{2})[Tt ]([0-9]{2}):([0-9]{2})(?::([0-9]{2})(?:[.,]([0-9]{1,9}))?)?"
+    r"(?:[Zz]|([+-])([0-9]{2})(?::?([0-9]{2}))?)\Z")
+
+
+def days_before(year, month, day):
+    """Days from 1970-01-01 to a date of the Gregorian calendar."""
+    year -= month <= 2
+    era, year_of_era = divmod(year, 400)
+    day_of_year = (153 * ((month + 9) % 12) + 2) // 5 + day - 1
+    return era * 146097 + year_of_era * 365 + year_of_era // 4 - year_of_era // 100 + day_of_year - 719468
+
+
+def days_of(year, month):
+    if month == 2:
+        return 29 if year % 4 == 0 and (year % 100 != 0 or year % 400 == 0) else 28
+    return 30 if month in (4, 6, 9, 11) else 31
+
+
+def read_instant(s):
+    m = INSTANT.match(s)
+    if not m:
+        return None
+    year, month, day, hour, minute = (int(m.group(i)) for i in range(1, 6))
+    second = int(m.group(6) or 0)
+    if not (1 <= month <= 12 and 1 <= day <= days_of(year, month)):
+        return None
+    if hour > 23 or minute > 59 or second > 60:
+        return None
+    second = min(second, 59)
+    offset = 0
+    if m.group(8):
+        offset = int(m.group(9)) * 60 + int(m.group(10) or 0)
+        if int(m.group(9)) > 25 or int(m.group(10) or 0) > 59:
+            return None
+        offset = offset if m.group(8) == "+" else -offset
+    nanos = int((m.group(7) or "0").ljust(9, "0"))
+    seconds = days_before(year, month, day) * 86400 + hour * 3600 + minute * 60 + second - offset * 60
+    micros = seconds * 1000000 + nanos // 1000
+    return micros if 0 <= micros <= GREATEST_MOMENT else None
+
+
+def write_instant(micros):
+    days, rest = divmod(micros, 86400 * 1000000)
+    seconds, fraction = divmod(rest, 1000000)
+    # The date that is so many days after 1970-01-01.
+    days += 719468
+    era, day_of_era = divmod(days, 146097)
+    year_of_era = (day_of_era - day_of_era // 1460 + day_of_era // 36524 - day_of_era // 146096) // 365
+    day_of_year = day_of_era - (365 * year_of_era + year_of_era // 4 - year_of_era // 100)
+    mp = (5 * day_of_year + 2) // 153
+    day, month = day_of_year - (153 * mp + 2) // 5 + 1, mp + 3 if mp < 10 else mp - 9
+    year = year_of_era + era * 400 + (month <= 2)
+    return "%04d-%02d-%02dT%02d:%02d:%02d.%06dZ" % (
+        year, month, day, seconds // 3600, seconds // 60 % 60, seconds % 60, fraction)
+
+
+# JSON.
+
+class NoReading(Exception):
+    pass
+
+
+def _integer(s):
+    n = int(s)
+    if s.startswith("-") and n == 0:
+        return -0.0
+    return n if -(1 << 63) <= n < (1 << 64) else _float(s)
+
+
+def _float(s):
+    f = float(s)
+    if f in (float("inf"), float("-inf")):
+        raise ValueError(s)
+    return f
+
+
+def _constant(s):
+    raise ValueError(s)
+
+
+def depth_of(s):
+    depth = deepest = 0
+    inside = escaped = False
+    for c in s:
+        if inside:
+            if escaped:
+                escaped = False
+            elif c == "\\":
+                escaped = True
+            elif c == '"':
+                inside = False
+        elif c == '"':
+            inside = True
+        elif c in "[{":
+            depth += 1
+            deepest = max(deepest, depth)
+        elif c in "]}":
+            depth -= 1
+    return deepest
+
+
+def _surrogates(v):
+    if isinstance(v, str):
+        return any(0xD800 <= ord(c) <= 0xDFFF for c in v)
+    if isinstance(v, list):
+        return any(_surrogates(i) for i in v)
+    if isinstance(v, dict):
+        return any(_surrogates(k) or _surrogates(i) for k, i in v.items())
+    return False
+
+
+def read_json(body):
+    try:
+        s = body.decode("utf-8")
+        if depth_of(s) > 127:
+            raise NoReading
+        pairs = []
+
+        def hook(found):
+            pairs.append(found)
+            return dict(found)
+
+        value = json.loads(s, parse_int=_integer, parse_float=_float, parse_constant=_constant,
+                           object_pairs_hook=hook)
+        if _surrogates(value) or any(_surrogates(k) or _surrogates(v) for p in pairs for k, v in p):
+            raise NoReading
+        return value
+    except (ValueError, RecursionError):
+        raise NoReading
+
+
+def write_json(value):
+    return json.dumps(value, ensure_ascii=False, separators=(",", ":"), sort_keys=True).encode("utf-8")
+
+
+def need(condition):
+    if not condition:
+        raise NoReading
+
+
+def an_object(v):
+    need(isinstance(v, dict))
+    return v
+
+
+def a_text(v):
+    need(isinstance(v, str))
+    return v
+
+
+def an_integer(v, bits):
+    if v is None:
+        return 0
+    need(isinstance(v, int) and not isinstance(v, bool))
+    need(-(1 << (bits - 1)) <= v < (1 << (bits - 1)))
+    return v
+
+
+def a_flag(v):
+    if v is None:
+        return False
+    need(isinstance(v, bool))
+    return v
+
+
+def texts(v):
+    if v is None:
+        return []
+    need(isinstance(v, list))
+    return [a_text(i) for i in v]
+
+
+def required_list(v):
+    need(isinstance(v, list))
+    return v
+
+
+def a_hash(v):
+    h = read_hash(a_text(v))
+    need(h is not None)
+    return h
+
+
+def a_name(v):
+    need(is_name(a_text(v)))
+    return v
+
+
+def a_key(v):
+    key = key_of([a_text(e) for e in required_list(an_object(v).get("elements"))])
+    need(key is not None)
+    return key
+
+
+def a_meta(v, message_needed):
+    v = an_object(v)
+    message = v.get("message")
+    if message is None:
+        need(not message_needed)
+    else:
+        a_text(message)
+    properties = v.get("allProperties")
+    properties = {} if properties is None else {
+        k: [a_text(t) for t in required_list(i)] for k, i in an_object(properties).items()}
+    time = v.get("authorTime")
+    if time is not None:
+        time = read_instant(a_text(time))
+        need(time is not None)
+    return {"message": message, "authors": texts(v.get("authors")),
+            "signed": texts(v.get("allSignedOffBy")), "properties": properties,
+            "author_time": time}
+
+
+def a_content(v, key):
+    v = an_object(v)
+    kind = a_text(v.get("type"))
+    given = v.get("id")
+    if given is not None:
+        given = read_uuid(a_text(given))
+        need(given is not None)
+    out = {"type": kind}
+    if kind == ICEBERG_TABLE:
+        out["metadataLocation"] = a_text(v.get("metadataLocation"))
+        out["snapshotId"] = an_integer(v.get("snapshotId"), 64)
+        for name in ("schemaId", "specId", "sortOrderId"):
+            out[name] = an_integer(v.get(name), 32)
+    elif kind == ICEBERG_VIEW:
+        out["metadataLocation"] = a_text(v.get("metadataLocation"))
+        out["versionId"] = an_integer(v.get("versionId"), 64)
+        out["schemaId"] = an_integer(v.get("schemaId"), 32)
+    elif kind == DELTA_LAKE_TABLE:
+        out["metadataLocationHistory"] = texts(v.get("metadataLocationHistory"))
+        out["checkpointLocationHistory"] = texts(v.get("checkpointLocationHistory"))
+        last = v.get("lastCheckpoint")
+        out["lastCheckpoint"] = None if last is None else a_text(last)
+    elif kind == NAMESPACE:
+        out["elements"] = [a_text(e) for e in required_list(v.get("elements"))]
+        properties = v.get("properties")
+        out["properties"] = {} if properties is None else {
+            k: a_text(t) for k, t in an_object(properties).items()}
+        need(tuple(out["elements"]) == key)
+    else:
+        raise NoReading
+    return out, given
+
+
+def an_operation(v):
+    v = an_object(v)
+    what = a_text(v.get("type"))
+    need(what in ("PUT", "DELETE", "UNCHANGED"))
+    key = a_key(v.get("key"))
+    if what != "PUT":
+        return Operation(what, key)
+    content, given = a_content(v.get("content"), key)
+    return Operation(what, key, content, given)
+
+
+def a_source(v):
+    v = an_object(v)
+    kind = a_text(v.get("type"))
+    if kind == "DETACHED":
+        return kind, None, a_hash(v.get("hash"))
+    need(kind in (BRANCH, TAG))
+    h = v.get("hash")
+    return kind, a_name(v.get("name")), None if h is None else a_hash(h)
+
+
+def a_mode(v):
+    need(a_text(v) in (NORMAL, FORCE, DROP))
+    return v
+
+
+def modes(v):
+    default = v.get("defaultKeyMergeMode")
+    default = NORMAL if default is None else a_mode(default)
+    found = {}
+    given = v.get("keyMergeModes")
+    for item in [] if given is None else required_list(given):
+        item = an_object(item)
+        key = a_key(item.get("key"))
+        need(key not in found)
+        need(item.get("expectedTargetContent") is None and item.get("resolvedContent") is None)
+        found[key] = a_mode(item.get("mergeBehavior"))
+    return default, found
+
+
+# Paths and queries.
+
+def percent_decoded(b):
+    return re.sub(rb"%([0-9A-Fa-f]{2})", lambda m: bytes((int(m.group(1), 16),)), b)
+
+
+def query_pairs(b):
+    out = []
+    for piece in b.split(b"&"):
+        if piece:
+            name, _, value = piece.partition(b"=")
+            out.append(tuple(percent_decoded(p.replace(b"+", b" ")).decode("utf-8", "replace")
+                             for p in (name, value)))
+    return out
+
+
+ROUTES = [
+    ("config", rb"/api/v2/config\Z", ("GET",)),
+    ("trees", rb"/api/v2/trees\Z", ("GET", "POST")),
+    ("tree", rb"/api/v2/trees/([^/]+)\Z", ("GET", "PUT", "DELETE")),
+    ("entries", rb"/api/v2/trees/([^/]+)/entries\Z", ("GET",)),
+    ("history", rb"/api/v2/trees/([^/]+)/history\Z", ("GET",)),
+    ("contents", rb"/api/v2/trees/([^/]+)/contents\Z", ("GET", "POST")),
+    ("content", rb"/api/v2/trees/([^/]+)/contents/([^/]+)\Z", ("GET",)),
+    ("commit", rb"/api/v2/trees/([^/]+)/history/commit\Z", ("POST",)),
+    ("merge", rb"/api/v2/trees/([^/]+)/history/merge\Z", ("POST",)),
+    ("transplant", rb"/api/v2/trees/([^/]+)/history/transplant\Z", ("POST",)),
+]
+
+
+def route_of(path):
+    for name, pattern, methods in ROUTES:
+        m = re.match(pattern, path, re.DOTALL)
+        if m:
+            return name, methods, m.groups()
+    raise Refused("NO_ROUTE", "no such path")
+
+
+def decoded(segment):
+    try:
+        return percent_decoded(segment).decode("utf-8")
+    except UnicodeDecodeError:
+        raise bad("bad path")
+
+
+def read_reference(s, changing):
+    """A reference in a path: its name or None, and its hash or None."""
+    name, at, rest = s.partition("@")
+    found = None
+    if at:
+        found = read_hash(rest)
+        if found is None:
+            raise bad("bad path")
+    if name == "-":
+        return DEFAULT_BRANCH, found
+    if name == "" and at and not changing:
+        return None, found
+    if not is_name(name):
+        raise bad("bad path")
+    return name, found
+
+
+class Query:
+    def __init__(self, b):
+        self.pairs = query_pairs(b)
+
+    def first(self, name):
+        return next((v for n, v in self.pairs if n == name), None)
+
+    def read(self, name, reader):
+        v = self.first(name)
+        if v is None:
+            return None
+        found = reader(v)
+        if found is None:
+            raise bad("bad query")
+        return found
+
+    def keys(self):
+        out = []
+        for n, v in self.pairs:
+            if n == "key":
+                key = key_of_path(v)
+                if key is None:
+                    raise bad("bad query")
+                out.append(key)
+        return out
+
+    def page_size(self):
+        n = self.read("max-records", lambda v: int(v) if DIGITS.match(v) else None)
+        return 200 if n in (None, 0) else min(n, 1000)
+
+    def kind(self):
+        return self.read("type", lambda v: v if v in (BRANCH, TAG) else None)
+
+
+def entries_token(s):
+    if len(s) < 68 or s[:2] != "e." or s[66] != ".":
+        return None
+    h, key = read_hash(s[2:66]), key_of_path(s[67:])
+    return None if h is None or key is None else (h, key)
+
+
+# Replies.
+
+def key_json(key):
+    return {"elements": list(key)}
+
+
+def reference_json(shown):
+    kind, name, h = shown
+    out = {"hash": h.hex(), "type": kind}
+    if name is not None:
+        out["name"] = name
+    return out
+
+
+def content_json(kept):
+    content, content_id = kept
+    out = {k: v for k, v in content.items() if v is not None}
+    out["id"] = write_uuid(content_id)
+    return out
+
+
+def conflict_json(conflict):
+    key, what = conflict
+    if key is None:
+        return {"conflictType": what, "message": what}
+    return {"conflictType": what, "key": key_json(key), "message": what + ": " + key_path(key)}
+
+
+def refusal_json(r):
+    status = STATUS[r.kind]
+    out = {"errorCode": r.kind, "message": r.message, "reason": PHRASES[status], "status": status}
+    if r.kind == "REFERENCE_CONFLICT":
+        out["errorDetails"] = {"conflicts": [conflict_json(c) for c in r.details],
+                               "type": "REFERENCE_CONFLICTS"}
+    if r.kind == "DOWN":
+        out["errorDetails"] = {"faults": r.details, "type": "DOWN"}
+    if r.kind == "LIMIT":
+        out["errorDetails"] = {"limit": r.details[0], "number": r.details[1], "type": "LIMIT"}
+    return out
+
+
+def rendered(status, body, place=None, allow=None, close=False, head=False):
+    out = "HTTP/1.1 %d %s\r\nContent-Type: application/json\r\n" % (status, PHRASES[status])
+    if allow is not None:
+        out += "Allow: %s\r\n" % ", ".join(allow)
+    if place is not None:
+        out += "Catalogue-Place: %d\r\n" % place
+    if not head:
+        out += "Content-Length: %d\r\n" % len(body)
+    if close:
+        out += "Connection: close\r\n"
+    return (out + "\r\n").encode("ascii") + (b"" if head else body)
+
+
+class Session:
+    def __init__(self, catalogue):
+        self.catalogue = catalogue
+        self.faults = None
+
+    def answer(self, method, target, fields, body, moment, close=False):
+        """The reply to one request; `moment` is what the clock says if it is asked."""
+        c = self.catalogue
+        self.outcome = None
+        allow = place = None
+        self.methods = None
+        self.on_state = False
+        try:
+            value = self.reply(method, target, fields, body, moment)
+            status, place = 200, c.place
+            self.outcome = "OK"
+        except Refused as r:
+            value, status = refusal_json(r), STATUS[r.kind]
+            self.outcome = r.kind if r.kind != "BAD_REQUEST" else r.message
+            self.refused = r
+            if self.on_state:
+                place = c.place
+            if r.kind == "WRONG_METHOD":
+                allow = self.methods
+        return rendered(status, write_json(value), place, allow, close, method == "HEAD")
+
+    def reply(self, method, target, fields, body, moment):
+        path, _, query = target.partition(b"?")
+        self.route, self.methods, parts = route_of(path)
+        if method not in self.methods:
+            raise Refused("WRONG_METHOD", "method not allowed")
+        for name, value in fields:
+            if name.lower() == "content-encoding" and value.lower() != "identity":
+                raise Refused("ENCODING", "encoding not supported")
+        changing = method in ("PUT", "DELETE") or self.route in ("commit", "merge", "transplant")
+        place = [decoded(p) for p in parts]
+        where = key = None
+        if place:
+            where = read_reference(place[0], changing)
+        if len(place) == 2:
+            key = key_of_path(place[1])
+            if key is None:
+                raise bad("bad path")
+        query = Query(query)
+        call = getattr(self, "%s_%s" % (method.lower(), self.route))
+        try:
+            # Each of these reads what is left of the bytes, and gives the call on the state.
+            do = call(where, key, query, body, moment)
+        except NoReading:
+            raise bad("bad body")
+        self.on_state = True
+        if self.faults is not None and (changing or self.route == "trees" and method == "POST"):
+            raise Refused("DOWN", "store is down", self.faults)
+        return do()
+
+    def get_config(self, where, key, query, body, moment):
+        return lambda: {
+            "actualApiVersion": 2, "defaultBranch": DEFAULT_BRANCH, "maxSupportedApiVersion": 2,
+            "minSupportedApiVersion": 2, "noAncestorHash": NO_ANCESTOR.hex()}
+
+    def paged(self, out, more, write):
+        out["hasMore"] = more is not None
+        if more is not None:
+            out["token"] = write(more)
+        return out
+
+    def get_trees(self, where, key, query, body, moment):
+        size = query.page_size()
+        after = query.read("page-token",
+                           lambda v: v[2:] if v[:2] == "r." and is_name(v[2:]) else None)
+
+        def do():
+            page, more = self.catalogue.list_references(after, size)
+            return self.paged({"references": [reference_json(r) for r in page]}, more,
+                              lambda n: "r." + n)
+        return do
+
+    def post_trees(self, where, key, query, body, moment):
+        name = query.read("name", lambda v: v if is_name(v) else None)
+        kind = query.kind()
+        if name is None or kind is None:
+            raise bad("bad query")
+        source = a_source(read_json(body))
+        return lambda: {"reference": reference_json(
+            self.catalogue.create(name, kind, source, moment))}
+
+    def get_tree(self, where, key, query, body, moment):
+        c = self.catalogue
+        return lambda: {"reference": reference_json(c.shown(where[0], c.resolve(*where)))}
+
+    def put_tree(self, where, key, query, body, moment):
+        kind = query.kind()
+        source = a_source(read_json(body))
+        return lambda: {"reference": reference_json(
+            self.catalogue.assign(where[0], kind, where[1], source, moment))}
+
+    def delete_tree(self, where, key, query, body, moment):
+        kind = query.kind()
+        return lambda: {"reference": reference_json(
+            self.catalogue.delete(where[0], kind, where[1], moment))}
+
+    def get_entries(self, where, key, query, body, moment):
+        size = query.page_size()
+        token = query.read("page-token", entries_token)
+        least = query.read("min-key", key_of_path)
+        greatest = query.read("max-key", key_of_path)
+        front = query.read("prefix-key", key_of_path)
+        keys = query.keys()
+
+        def keeps(k):
+            return ((least is None or key_order(k) >= key_order(least))
+                    and (greatest is None or key_order(k) <= key_order(greatest))
+                    and (front is None or k[:len(front)] == front)
+                    and (not keys or k in keys))
+
+        def do():
+            shown, page, more = self.catalogue.entries_page(where[0], where[1], token, keeps, size)
+            out = {"effectiveReference": reference_json(shown),
+                   "entries": [{"contentId": write_uuid(e[1]), "name": key_json(k), "type": e[0]}
+                               for k, e in page]}
+            return self.paged(out, more, lambda m: "e.%s.%s" % (m[0].hex(), key_path(m[1])))
+        return do
+
+    def get_history(self, where, key, query, body, moment):
+        size = query.page_size()
+        token = query.read("page-token", lambda v: read_hash(v[2:]) if v[:2] == "h." else None)
+        until = query.read("limit-hash", read_hash)
+        fetch = query.read("fetch", lambda v: v if v in ("MINIMAL", "ALL") else None)
+
+        def do():
+            page, more = self.catalogue.history_page(where[0], where[1], token, until, size)
+            out = {"logEntries": [self.log_entry(h, fetch == "ALL") for h in page]}
+            return self.paged(out, more, lambda h: "h." + h.hex())
+        return do
+
+    def log_entry(self, h, with_operations):
+        commit = self.catalogue.commits[h]
+        parents = [commit.parent] + ([] if commit.merge_parent is None else [commit.merge_parent])
+        meta = {"message": commit.meta["message"], "authors": commit.meta["authors"],
+                "allSignedOffBy": commit.meta["signed"],
+                "allProperties": commit.meta["properties"],
+                "commitTime": write_instant(commit.time), "hash": h.hex(),
+                "parentCommitHashes": [p.hex() for p in parents]}
+        if commit.meta["author_time"] is not None:
+            meta["authorTime"] = write_instant(commit.meta["author_time"])
+        out = {"commitMeta": meta, "parentCommitHash": commit.parent.hex()}
+        if with_operations:
+            out["operations"] = [self.shown_operation(k, e) for k, e in commit.ops]
+        return out
+
+    def shown_operation(self, key, entry):
+        if entry is None:
+            return {"key": key_json(key), "type": "DELETE"}
+        out = {"key": key_json(key), "type": "PUT"}
+        kept = self.catalogue.contents.get(entry[2])
+        if kept is not None:
+            out["content"] = content_json(kept)
+        return out
+
+    def get_contents(self, where, key, query, body, moment):
+        return self.contents_reply(where, query.keys())
+
+    def post_contents(self, where, key, query, body, moment):
+        v = an_object(read_json(body))
+        return self.contents_reply(where, [a_key(k) for k in required_list(v.get("requestedKeys"))])
+
+    def contents_reply(self, where, keys):
+        def do():
+            shown, found = self.catalogue.contents_of(where[0], where[1], keys)
+            return {"contents": [{"content": content_json(v), "key": key_json(k)}
+                                 for k, v in found],
+                    "effectiveReference": reference_json(shown)}
+        return do
+
+    def get_content(self, where, key, query, body, moment):
+        def do():
+            shown, kept = self.catalogue.content(where[0], where[1], key)
+            return {"content": content_json(kept), "effectiveReference": reference_json(shown)}
+        return do
+
+    def post_commit(self, where, key, query, body, moment):
+        v = an_object(read_json(body))
+        meta = a_meta(v.get("commitMeta"), True)
+        operations = [an_operation(o) for o in required_list(v.get("operations"))]
+        need(1 <= len(operations) <= 10000)
+        need(len({o.key for o in operations}) == len(operations))
+        given = [o.given_id for o in operations if o.given_id is not None]
+        need(len(set(given)) == len(given))
+
+        def do():
+            added, shown = self.catalogue.commit(where[0], where[1], meta, operations, moment)
+            return {"addedContents": [{"contentId": write_uuid(i), "key": key_json(k)}
+                                      for k, i in added],
+                    "targetBranch": reference_json(shown)}
+        return do
+
+    def merge_reply(self, found):
+        shown = self.catalogue.shown(found["name"], found["new"])
+        details = []
+        for key, mode, conflict in found["details"]:
+            detail = {"key": key_json(key), "mergeBehavior": mode}
+            if conflict is not None:
+                detail["conflict"] = conflict_json((key, conflict))
+            details.append(detail)
+        out = {"details": details, "effectiveTargetHash": found["old"].hex(),
+               "resultantTargetHash": found["new"].hex(), "targetBranch": reference_json(shown),
+               "wasApplied": found["applied"], "wasSuccessful": found["successful"]}
+        if "base" in found:
+            out["commonAncestor"] = found["base"].hex()
+        return out
+
+    def post_merge(self, where, key, query, body, moment):
+        v = an_object(read_json(body))
+        from_name = a_name(v.get("fromRefName"))
+        from_hash = a_hash(v.get("fromHash"))
+        given = v.get("commitMeta")
+        meta = a_meta({} if given is None else given, False)
+        message = v.get("message")
+        if message is not None:
+            a_text(message)
+        if meta["message"] is None:
+            meta["message"] = message
+        if meta["message"] is None:
+            meta["message"] = "Merge %s into %s" % (from_name, where[0])
+        default, of_keys = modes(v)
+        dry_run = a_flag(v.get("dryRun"))
+        as_result = a_flag(v.get("returnConflictAsResult"))
+        command = (where[0], where[1], from_name, from_hash, meta, default, of_keys)
+
+        def do():
+            return self.merge_reply(self.catalogue.merge(
+                where[0], where[1], from_name, from_hash, meta,
+                lambda k: of_keys.get(k, default), dry_run, as_result, moment, command))
+        return do
+
+    def post_transplant(self, where, key, query, body, moment):
+        v = an_object(read_json(body))
+        from_name = a_name(v.get("fromRefName"))
+        hashes = [a_hash(h) for h in required_list(v.get("hashesToTransplant"))]
+        need(1 <= len(hashes) <= 100)
+        default, of_keys = modes(v)
+        dry_run = a_flag(v.get("dryRun"))
+        as_result = a_flag(v.get("returnConflictAsResult"))
+        command = (where[0], where[1], from_name, hashes, default, of_keys)
+
+        def do():
+            return self.merge_reply(self.catalogue.transplant(
+                where[0], where[1], from_name, hashes, lambda k: of_keys.get(k, default),
+                dry_run, as_result, moment, command))
+        return do
