@@ -162,10 +162,18 @@ class Comparison:
     def step(self, seed, number, maker, side, program):
         kind, method, target, fields, body = maker.one()
         self.request = maker.wire(method, target, fields, body)
-        program.send(self.request)
+        at = 0
+        while maker.chance(0.04) and at < len(self.request) - 1:
+            # In pieces.
+            upto = maker.rng.randrange(at + 1, len(self.request))
+            program.child.stdin.write(self.request[at:upto])
+            self.extra["pieces before the last"] += 1
+            time.sleep(0.003)
+            at = upto
+        program.send(self.request[at:])
         got = program.reply(method != "HEAD")
         moment = self.moment_of(program, got, target)
-        wanted = side.answer(method, target, fields, body, moment)
+        wanted = side.answer(method, target, fields, body, moment or 0)
         self.count(kind, side)
         if len(side.catalogue.log) == len(self.lines):
             self.lines.append(line_of(side.catalogue))

@@ -74,7 +74,7 @@ class Row(compare.Comparison):
         self.program.send(wire)
         got = self.program.reply(method != "HEAD")
         moment = self.moment_of(self.program, got, target)
-        wanted = self.side.answer(method, target, list(fields), body, moment, close)
+        wanted = self.side.answer(method, target, list(fields), body, moment or 0, close)
         self.count(self.name, self.side)
         self.same(self.name, self.compared, self.side, wanted, got)
         value = json.loads(wanted.partition(b"\r\n\r\n")[2] or b"null")
@@ -287,6 +287,60 @@ class Row(compare.Comparison):
         for request in compare.TOO_LARGE:
             self.bytes_once(line + b"\r\n" + request + line + b"\r\n", config + compare.LARGE, 8)
 
+    def row_targets(self):
+        """Each byte in a path and in a query, as it is and escaped."""
+        for b in range(0x21, 0x7f):
+            c = bytes((b,))
+            for target in (b"/" + c, b"/api/v2/trees/main/contents/" + c, b"/api/v2/trees/m" + c + b"n",
+                           b"/api/v2/config" + c):
+                self.ask("GET", target)
+            if self.program.sent > 900:
+                self.end()
+                self.program = compare.Program(self.options.program, self.path)
+        for b in range(256):
+            for target in (b"/api/v2/trees/main/contents/x%%%02x" % b, b"/api/v2/trees/x%%%02Xy" % b,
+                           b"/api/v2/trees/main/entries?min-key=%%%02x" % b):
+                self.ask("GET", target)
+            if self.program.sent > 900:
+                self.end()
+                self.program = compare.Program(self.options.program, self.path)
+        for text in ("\u00e9", "\u20ac", "\U0001f600", "\x80", "\u00a0", "\ufeff"):
+            for where in ("/", "/api/v2/trees/", "/api/v2/trees/main/contents/", "/api/v2/trees/main/entries?key="):
+                self.ask("GET", where + text)
+        self.end()
+        line = b"GET /api/v2/config HTTP/1.1\r\n"
+        config = replies.Session(rules.Catalogue()).answer("GET", b"/api/v2/config", [], b"", 0)
+        for c in (b"\x00", b"\x01", b"\t", b"\x0b", b"\x0c", b"\x1f", b"\x7f", b"\x80", b"\xc3", b"\xff", b"\xed\xa0\x80"):
+            self.bytes_once(line + b"\r\nGET /x" + c + b"y HTTP/1.1\r\n\r\n", config + compare.NO_REQUEST, 8)
+
+    def row_chunks(self):
+        line = b"POST /api/v2/trees/main/contents HTTP/1.1\r\nTransfer-Encoding: chunked\r\n\r\n"
+        body = b'{"requestedKeys":[]}'
+        side = replies.Session(rules.Catalogue())
+        good = side.answer("POST", b"/api/v2/trees/main/contents", [], body, 0)
+        bad_body = side.answer("POST", b"/api/v2/trees/main/contents", [], b"", 0)
+        bad, large = compare.NO_REQUEST, compare.LARGE
+        self.end()
+        one = lambda size: size + b"\r\n" + body + b"\r\n0\r\n\r\n"
+        raw = lambda n: b"14;" + b"x" * (n - len(one(b"14;"))) + one(b"")[0:]
+        for sent, wanted, status in (
+                (one(b"14"), good, 0), (one(b"0014"), good, 0), (one(b"0" * 14 + b"14"), good, 0),
+                (one(b"0" * 15 + b"14"), bad, 8), (one(b"14 "), good, 0), (one(b"14\t ;a=b"), good, 0), (one(b"14;"), good, 0),
+                (one(b"14;\xff\x01\""), good, 0), (one(b" 14"), bad, 8), (one(b""), bad, 8), (one(b";a"), bad, 8),
+                (one(b"1 4"), bad, 8), (one(b"0x14"), bad, 8), (one(b"-1"), bad, 8), (one(b"14 a"), bad, 8),
+                (b"f" * 16 + b"\r\n", large, 8), (b"f" * 17 + b"\r\n", bad, 8), (b"100000\r\n" + body, bad, 8),
+                (b"100001\r\n", large, 8), (b"100001", bad, 8), (b"14\n" + body + b"\r\n0\r\n\r\n", bad, 8),
+                (b"14\r\n" + body + b"\n0\r\n\r\n", bad, 8), (b"14\r\n" + body + b"0\r\n\r\n", bad, 8),
+                (b"14\r\n" + body + b"\r\n0\r\nX: y\r\n\r\n", bad, 8), (b"0\r\n\r\n", bad_body, 0),
+                (b"0;x\r\n\r\n", bad_body, 0), (b"0\r\n", bad, 8), (b"0", bad, 8),
+                (b"14\r\n" + body + b"\r\nfffed\r\n", large, 8),
+                (b"14\r\n" + body + b"\r\nfffec\r\n" + b" " * 0xfffec + b"\r\n0\r\n\r\n", good, 0),
+                (b"100000\r\n" + body + b" " * (0x100000 - len(body)) + b"\r\n0\r\n\r\n", good, 0),
+                (raw(2097152), good, 0), (raw(2097153), large, 8), (raw(2097152)[:-1], bad, 8)):
+            self.bytes_once(line + sent, wanted, status)
+        # The next request begins after the last line.
+        self.bytes_once((line + one(b"14")) * 3, good * 3, 0)
+
     def row_bodies(self):
         body = b'{"requestedKeys":[]}'
         where = "/api/v2/trees/main/contents"
@@ -338,6 +392,36 @@ class Row(compare.Comparison):
                   "-000001-01-01T00:00:00Z", "now", "1706933106"):
             self.commit("main", {"type": "UNCHANGED", "key": {"elements": ["k"]}}, authorTime=t)
             self.get("trees/main/history?max-records=1")
+        self.end()
+
+    def row_many_instants(self):
+        """Texts near instants, by changes of a few places."""
+        rng = random.Random(8)
+        dates = ["2024-02-29", "20240229", "2023-02-29", "+002024-12-31", "-000001-01-01", "1970-01-01", "9999-12-30",
+                 "+0020240601", "2024-0601", "202406-01", "-000000-01-01", "+012024-01-01", "0000-01-01"]
+        times = ["04:05:06", "040506", "04", "04:05", "0405", "23:59:60", "235960.5", "04:05:06.123456789", "04:0506",
+                 "0405:06", "04:05:06,1", "24:00", "04:05.5", "22:00:00.9999999", "00:00"]
+        offsets = ["Z", "z", "+01", "-01", "+01:30", "+0130", "-01:30:15", "+013015", "+01:30:15.5", "-01:30:15.4999999999",
+                   "+25:59", "+25:59:59", "+25:59:59.5", "-00", "-00:00", "", "+1", "+01:", "\u221201", "+26", "+01:60",
+                   "+0130:15", "+01:3015", "+01:30:15,5", "+01:30:60"]
+        after = ["", "", "", "[UTC]", "[Europe/Paris]", "[!UTC]", "[+01:00]", "[-01]", "[!+0100]", "[+01:00:00]", "[u-ca=iso8601]",
+                 "[UTC][u-ca=iso8601]", "[!u-ca=x]", "[a=b][c=d-e]", "[]", "[UTC", "[Etc/GMT+1]", "[a/b/]", "[U=x]", "[_x=1]",
+                 "[1a=b]", "[a=b-]", "[a=][b]", "[UTC][UTC]", " ", "x", "[a/b=c]", "[.]", "[+30]", "[+25:59]", "[a-b]", "[a=b]x"]
+        for i in range(420):
+            good = rng.random() < 0.7
+            t = rng.choice(dates[:2] if good else dates) + rng.choice("TTTt " if good else "T _") + (
+                rng.choice(times[:11] if good else times)) + rng.choice(offsets[:13] if good else offsets) + (
+                rng.choice(after[:12] if good else after))
+            if rng.random() < 0.15:
+                at = rng.randrange(len(t))
+                t = t[:at] + rng.choice("0123456789:-+.,TZ[]! ") * rng.randrange(2) + t[at + rng.randrange(2):]
+            self.commit("main", {"type": "UNCHANGED", "key": {"elements": ["k"]}}, authorTime=t)
+            if self.side.outcome == "OK":
+                self.get("trees/main/history?max-records=1")
+            if self.program.sent > 900:
+                self.end()
+                self.program = compare.Program(self.options.program, self.path)
+                self.c.opened()
         self.end()
 
     def row_thousand(self):
@@ -523,6 +607,22 @@ class Row(compare.Comparison):
         self.ask("DELETE", "/api/v2/trees/r00000")
         self.create("two")
         self.create("three")
+        self.end()
+
+    def row_pages_of_a_thousand(self):
+        c = rules.Catalogue()
+        for i in range(1003):
+            c.create("r%04d" % i, "TAG", ("DETACHED", None, NO_ANCESTOR), i)
+        for i in range(1001):
+            c.commit("main", None, plain_meta(), [rules.Operation("UNCHANGED", ("k",))], 5000 + i)
+        c.commit("main", None, plain_meta(), [put(("k%04d" % i,)) for i in range(1100)], 9000)
+        self.go_on(c)
+        for what in ("trees", "trees/main/entries", "trees/main/history"):
+            for q in ("?max-records=1000", "?max-records=1001", "?max-records=4294967297", "?max-records=999"):
+                self.pages(what + q)
+        self.get("trees/main/contents?" + "&".join("key=k%04d" % i for i in range(0, 1100, 3)))
+        self.ask("POST", "/api/v2/trees/main/contents",
+                 {"requestedKeys": [{"elements": ["k%04d" % i]} for i in range(1099, -1, -1)]})
         self.end()
 
     def row_same_commit_twice(self):

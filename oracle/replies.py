@@ -7,11 +7,11 @@
 import json
 import re
 
+import instants
+
 from catalogue import (
     BRANCH, TAG, ICEBERG_TABLE, ICEBERG_VIEW, DELTA_LAKE_TABLE, NAMESPACE, NORMAL, FORCE, DROP,
     NO_ANCESTOR, DEFAULT_BRANCH, Operation, Refused, bad, key_order, key_path)
-
-GREATEST_MOMENT = 253402207200999999
 
 STATUS = {
     "BAD_REQUEST": 400, "REFERENCE_NOT_FOUND": 404, "REFERENCE_ALREADY_EXISTS": 409,
@@ -71,63 +71,8 @@ def write_uuid(b):
     return "-".join((h[:8], h[8:12], h[12:16], h[16:20], h[20:]))
 
 
-# Instants. What is read here is a plain family of what may be read.
-
-INSTANT = re.compile(
-    r"([0-9]{4})-([0-9]{2})-([0-9]{2})[Tt ]([0-9]{2}):([0-9]{2})(?::([0-9]{2})(?:[.,]([0-9]{1,9}))?)?"
-    r"(?:[Zz]|([+-])([0-9]{2})(?::?([0-9]{2}))?)\Z")
-
-
-def days_before(year, month, day):
-    """Days from 1970-01-01 to a date of the Gregorian calendar."""
-    year -= month <= 2
-    era, year_of_era = divmod(year, 400)
-    day_of_year = (153 * ((month + 9) % 12) + 2) // 5 + day - 1
-    return era * 146097 + year_of_era * 365 + year_of_era // 4 - year_of_era // 100 + day_of_year - 719468
-
-
-def days_of(year, month):
-    if month == 2:
-        return 29 if year % 4 == 0 and (year % 100 != 0 or year % 400 == 0) else 28
-    return 30 if month in (4, 6, 9, 11) else 31
-
-
-def read_instant(s):
-    m = INSTANT.match(s)
-    if not m:
-        return None
-    year, month, day, hour, minute = (int(m.group(i)) for i in range(1, 6))
-    second = int(m.group(6) or 0)
-    if not (1 <= month <= 12 and 1 <= day <= days_of(year, month)):
-        return None
-    if hour > 23 or minute > 59 or second > 60:
-        return None
-    second = min(second, 59)
-    offset = 0
-    if m.group(8):
-        offset = int(m.group(9)) * 60 + int(m.group(10) or 0)
-        if int(m.group(9)) > 25 or int(m.group(10) or 0) > 59:
-            return None
-        offset = offset if m.group(8) == "+" else -offset
-    nanos = int((m.group(7) or "0").ljust(9, "0"))
-    seconds = days_before(year, month, day) * 86400 + hour * 3600 + minute * 60 + second - offset * 60
-    micros = seconds * 1000000 + nanos // 1000
-    return micros if 0 <= micros <= GREATEST_MOMENT else None
-
-
-def write_instant(micros):
-    days, rest = divmod(micros, 86400 * 1000000)
-    seconds, fraction = divmod(rest, 1000000)
-    # The date that is so many days after 1970-01-01.
-    days += 719468
-    era, day_of_era = divmod(days, 146097)
-    year_of_era = (day_of_era - day_of_era // 1460 + day_of_era // 36524 - day_of_era // 146096) // 365
-    day_of_year = day_of_era - (365 * year_of_era + year_of_era // 4 - year_of_era // 100)
-    mp = (5 * day_of_year + 2) // 153
-    day, month = day_of_year - (153 * mp + 2) // 5 + 1, mp + 3 if mp < 10 else mp - 9
-    year = year_of_era + era * 400 + (month <= 2)
-    return "%04d-%02d-%02dT%02d:%02d:%02d.%06dZ" % (
-        year, month, day, seconds // 3600, seconds // 60 % 60, seconds % 60, fraction)
+read_instant = instants.read
+write_instant = instants.write
 
 
 # JSON.
