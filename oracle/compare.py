@@ -1,7 +1,7 @@
 #!/usr/bin/env python3
 """Compares the program's replies with the plain rules', on random sessions.
 
-    compare.py SEED SESSIONS [--program FILE] [--requests N] [--seconds N] [--log FILE]
+    compare.py SEED SESSIONS [--program FILE] [--requests N] [--seconds N] [--record FILE]
 
 Each session starts a new journal, sends requests one by one to `nessie script`,
 and compares each reply's bytes with the rules'. The time of a commit is asked of
@@ -15,6 +15,7 @@ import argparse
 import collections
 import json
 import os
+import pickle
 import random
 import select
 import shutil
@@ -108,9 +109,14 @@ class Comparison:
         self.sessions = 0
         self.compared = 0
         self.stopping = False
+        self.recorded = []
 
     def stop(self):
         self.stopping = True
+
+    def note(self, what):
+        if self.options.record:
+            self.recorded[-1].append(what)
 
     def difference(self, kind, where, request, wanted, got):
         self.differences[kind] += 1
@@ -131,6 +137,7 @@ class Comparison:
             maker = requests.Requests(rng, c)
             side = replies.Session(c)
             self.lines = [line_of(c)]
+            self.recorded.append([])
             count = rng.choice([40, 120, 250, self.options.requests])
             program = Program(self.options.program, path)
             alive = True
@@ -142,6 +149,7 @@ class Comparison:
                         self.difference("end of a session", (seed, number), None, (b"", 0), (rest, status))
                     program = Program(self.options.program, path)
                     c.opened()
+                    self.note(None)
                 if not self.step(seed, number, maker, side, program):
                     return
             if rng.random() < 0.5:
@@ -174,6 +182,7 @@ class Comparison:
         got = program.reply(method != "HEAD")
         moment = self.moment_of(program, got, target)
         wanted = side.answer(method, target, fields, body, moment or 0)
+        self.note((method, target, fields, body, moment or 0, got))
         self.count(kind, side)
         if len(side.catalogue.log) == len(self.lines):
             self.lines.append(line_of(side.catalogue))
@@ -188,6 +197,7 @@ class Comparison:
                 self.request = request
                 got = program.reply(True)
                 wanted = side.answer("GET", target + rest, [], b"", 0)
+                self.note(("GET", target + rest, [], b"", 0, got))
                 self.extra["history of a new commit"] += 1
                 self.same("new commit", (seed, number), side, wanted, got)
         return True
@@ -417,6 +427,7 @@ def main():
         os.path.dirname(os.path.abspath(__file__)), "../crates/nessie/out/nessie"))
     parser.add_argument("--requests", type=int, default=600)
     parser.add_argument("--seconds", type=int, default=10 ** 9)
+    parser.add_argument("--record", help="a file that requests and replies are kept in, for sensitivity.py")
     options = parser.parse_args()
     options.program = os.path.abspath(options.program)
     comparison = Comparison(options)
@@ -430,6 +441,9 @@ def main():
             print("-- %d sessions, %d requests, %d differences" % (
                 comparison.sessions, comparison.compared, sum(comparison.differences.values())), flush=True)
     comparison.report()
+    if options.record:
+        with open(options.record, "wb") as f:
+            pickle.dump(comparison.recorded, f)
     return 1 if comparison.differences else 0
 
 

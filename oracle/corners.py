@@ -6,6 +6,7 @@
 
 import argparse
 import copy
+import itertools
 import json
 import os
 import random
@@ -457,6 +458,122 @@ class Row(compare.Comparison):
             self.compared += 1
             if (got.stdout, got.returncode) != wanted:
                 self.difference((self.name, words), None, words, wanted, (got.stdout, got.returncode))
+
+    def row_streams(self):
+        """Files and streams that fail: the status, and what is written."""
+        self.end()
+        request = b"GET /api/v2/config HTTP/1.1\r\n\r\n"
+        config = replies.Session(rules.Catalogue()).answer("GET", b"/api/v2/config", [], b"", 0)
+        folder = os.path.dirname(self.path)
+        fault, usage = b"nessie: disk fault\n", b"nessie: usage\n"
+
+        def run(what, words, wanted, status, stdin=None, full=False):
+            with open("/dev/full", "wb") as sink:
+                got = subprocess.run([self.options.program, *words], stdout=sink if full else subprocess.PIPE,
+                                     **(dict(stdin=stdin) if hasattr(stdin, "fileno") else dict(input=stdin or b"")))
+            self.compared += 1
+            if ((got.stdout or b""), got.returncode) != (wanted, status):
+                self.difference((self.name, what), None, words, (wanted, status), (got.stdout, got.returncode))
+
+        none = os.path.join(folder, "none", "j")
+        for word in ("script", "check"):
+            run("no folder, " + word, (word, none), fault, 2, request)
+            run("a folder, " + word, (word, folder), fault, 2, request)
+        run("a full output, script", ("script", self.path), b"", 6, request, True)
+        run("a full output, no request", ("script", self.path), b"", 0, b"", True)
+        run("a full output, check", ("check", self.path), b"", 6, b"", True)
+        run("a full output, drill", ("drill", "--seed", "1", "--commits", "1"), b"", 6, b"", True)
+        run("a full output, usage", ("x",), b"", 1, b"", True)
+        run("a full output, no folder", ("check", none), b"", 6, b"", True)
+        class Folder:
+            def __init__(self):
+                self.fd = os.open(folder, os.O_RDONLY)
+
+            def fileno(self):
+                return self.fd
+        run("no input, script", ("script", self.path), b"", 5, Folder())
+        run("no input, check", ("check", self.path), b"entries 0 references 1 commits 0 contents 0 head %s\n"
+            % NO_ANCESTOR.hex().encode(), 0, Folder())
+        run("a file, script", ("script", self.path), config, 0, request)
+        new = os.path.join(folder, "new")
+        open(new, "wb").close()
+        run("an empty file", ("check", new), b"entries 0 references 1 commits 0 contents 0 head %s\n"
+            % NO_ANCESTOR.hex().encode(), 0)
+        with open(new, "rb") as f:
+            if f.read() != journal.HEADER + b"\0":
+                self.difference((self.name, "a new file"), None, None, None, None)
+
+    def fresh_program(self):
+        if self.program.sent > 880:
+            self.end()
+            self.program = compare.Program(self.options.program, self.path)
+            self.c.opened()
+
+    def row_orders_of_refusals(self):
+        """Requests with several faults at once: which is told."""
+        rng = random.Random(4)
+        self.commit("main", table(("t",)))
+        old = self.head()
+        self.commit("main", table(("u",)))
+        self.create("dev", at=old)
+        self.create("v", kind="TAG")
+        self.commit("dev", table(("d",)))
+        off, unknown = self.head("dev"), "a" * 64
+        h0 = NO_ANCESTOR.hex()
+        conflict = table(("t",))
+        names = ("main", "v", "none", "-")
+        for name, at, op in itertools.product(names, (None, self.head(), old, off, unknown, h0), (
+                [{"type": "UNCHANGED", "key": {"elements": ["k"]}}], [conflict], [conflict, conflict])):
+            self.commit(name + ("@" + at if at else ""), *op)
+            self.fresh_program()
+        hashes = (None, old, off, unknown)
+        for name, at, of, source in itertools.product(names, hashes, ("dev", "v", "none", "main"), (old, off, unknown, h0)):
+            self.merge(name + ("@" + at if at else ""), of, source, dryRun=True)
+            self.fresh_program()
+        lists = ([old], [off], [unknown], [h0], [old, old], [h0, unknown], [h0, old], [off, old], [old, off], [old, off, h0])
+        for name, at, of, found in itertools.product(names[:3], hashes, ("dev", "v", "none"), lists):
+            self.transplant(name + ("@" + at if at else ""), of, found, dryRun=True)
+            self.fresh_program()
+        for name, source, of, at in itertools.product(("main", "v", "none"), ("main", "v", "none"), ("BRANCH", "TAG"), hashes):
+            self.create(name, source, at, "BRANCH", of)
+            if "none" in self.c.references:
+                self.ask("DELETE", "/api/v2/trees/none")
+            self.fresh_program()
+        sources = [{"type": of, "name": n, "hash": at} for of in ("BRANCH", "TAG") for n in ("main", "v", "none")
+                   for at in hashes] + [{"type": "DETACHED", "hash": at} for at in hashes[1:] + (h0,)]
+        every = list(itertools.product(("dev", "v", "none", "main", "-"), ("", "?type=BRANCH", "?type=TAG"),
+                                       (None, "head", old, off, unknown, h0), sources))
+        for name, kind, at, source in rng.sample(every, 420):
+            if at == "head":
+                at = self.head(name) if name in self.c.references else h0
+            self.ask("PUT", "/api/v2/trees/" + name + ("@" + at if at else "") + kind, source)
+            self.fresh_program()
+        for name, kind, at in itertools.product(("dev", "v", "none", "main", "-"), ("", "?type=BRANCH", "?type=TAG"),
+                                                (None, "head", old, off, unknown, h0)):
+            if at == "head":
+                at = self.head(name) if name in self.c.references else h0
+            self.ask("DELETE", "/api/v2/trees/" + name + ("@" + at if at else "") + kind)
+            for lost in ("dev", "v"):
+                if lost not in self.c.references:
+                    self.create(lost, at=old, kind="TAG" if lost == "v" else "BRANCH")
+            self.fresh_program()
+        # By the bytes.
+        good = json.dumps({"type": "BRANCH", "name": "main"}).encode()
+        for method, path, query, encoding, body in itertools.product(
+                ("PUT", "POST", "DELETE", "GET", "HEAD", "PATCH"), ("trees/none", "trees/a..b", "trees/%FF", "nowhere", "trees"),
+                ("", "?type=x", "?type=TAG", "?name=x&type=TAG"), (None, "gzip", "identity"), (good, b"{}")):
+            if rng.random() < 0.5:
+                self.ask(method, "/api/v2/" + path + query, body, [] if encoding is None else [("Content-Encoding", encoding)])
+                self.fresh_program()
+        for path, query in itertools.product(
+                ("trees/main", "trees/none", "trees/a..b", "trees/main@" + unknown, "trees/@" + unknown, "trees/@" + old,
+                 "trees/main@" + off), ("", "x=", "max-records=x", "page-token=e.%s.t" % unknown, "page-token=e.%s.t" % old,
+                                        "page-token=h." + unknown, "page-token=h." + off, "limit-hash=" + off,
+                                        "limit-hash=%s&page-token=h.%s" % (old, off), "limit-hash=x", "fetch=x", "key=.")):
+            for rest in ("/entries", "/history", "", "/contents"):
+                self.get(path + rest + "?" + query)
+                self.fresh_program()
+        self.end()
 
     def row_drill(self):
         self.end()
