@@ -56,6 +56,7 @@ class Row(compare.Comparison):
     def begin(self, name, path):
         self.name = name
         self.path = path
+        self.unopened = False
         self.c = rules.Catalogue()
         self.side = replies.Session(self.c)
         self.program = compare.Program(self.options.program, path)
@@ -575,6 +576,65 @@ class Row(compare.Comparison):
                 self.fresh_program()
         self.end()
 
+    def row_members(self):
+        """Each member of each body absent, and of each other type."""
+        junk = [None, True, 0, -1, 1.5, "", "x", [], {}, ["a"], [None], {"a": 1}, {"elements": ["t"]}]
+        key = {"elements": ["t"]}
+        self.commit("main", table(("t",)), table(("n",), kind="NAMESPACE"))
+        at = self.head()
+        self.create("dev")
+        self.commit("dev", table(("u",)))
+        dev = self.head("dev")
+        meta = {"message": "m", "authors": ["a"], "allSignedOffBy": ["b"], "allProperties": {"p": ["q"]},
+                "authorTime": "2024-02-03T04:05:06Z"}
+        contents = [
+            {"type": "ICEBERG_TABLE", "metadataLocation": "m", "snapshotId": 1, "schemaId": 2, "specId": 3, "sortOrderId": 4,
+             "id": "00000000-0000-0001-0000-000000000009", "metadata": {}},
+            {"type": "ICEBERG_VIEW", "metadataLocation": "m", "versionId": 1, "schemaId": 2, "sqlText": "s", "dialect": "d"},
+            {"type": "DELTA_LAKE_TABLE", "metadataLocationHistory": ["a"], "checkpointLocationHistory": ["b"],
+             "lastCheckpoint": "c"},
+            {"type": "NAMESPACE", "elements": ["t"], "properties": {"p": "q"}}]
+        modes = {"defaultKeyMergeMode": "NORMAL", "keyMergeModes": [{"key": {"elements": ["u"]}, "mergeBehavior": "DROP",
+                                                                     "expectedTargetContent": None, "resolvedContent": None}],
+                 "dryRun": True, "returnConflictAsResult": False, "fetchAdditionalInfo": True, "message": "m"}
+        commit = "/api/v2/trees/main/history/commit"
+        bodies = [("POST", commit, {"commitMeta": {"message": "m"}, "operations": [{"type": "PUT", "key": key, "content": c}]})
+                  for c in contents]
+        bodies += [
+            ("POST", commit, {"commitMeta": meta, "operations": [{"type": "DELETE", "key": {"elements": ["none"]}, "content": 1}]}),
+            ("POST", commit, {"commitMeta": {"message": ""}, "operations": [{"type": "DELETE", "key": {"elements": ["z"]}},
+                                                                            {"type": "UNCHANGED", "key": {"elements": ["y"]}}]}),
+            ("POST", "/api/v2/trees?name=main&type=BRANCH", {"type": "BRANCH", "name": "main", "hash": at}),
+            ("POST", "/api/v2/trees?name=main&type=TAG", {"type": "DETACHED", "hash": at, "name": "x"}),
+            ("PUT", "/api/v2/trees/main@" + "a" * 64, {"type": "BRANCH", "name": "main", "hash": at}),
+            ("PUT", "/api/v2/trees/main@" + "a" * 64, {"type": "DETACHED", "hash": at, "name": "x", "metadata": {}}),
+            ("POST", "/api/v2/trees/main/contents", {"requestedKeys": [key, {"elements": ["n"]}]}),
+            ("POST", "/api/v2/trees/main/history/merge",
+             dict(modes, fromRefName="dev", fromHash=dev, commitMeta=meta)),
+            ("POST", "/api/v2/trees/main/history/transplant",
+             dict(modes, fromRefName="dev", hashesToTransplant=[dev], commitMeta={"message": 1}))]
+
+        def places(v, put, drop):
+            yield put, drop
+            for k in (v if isinstance(v, dict) else range(len(v)) if isinstance(v, list) else ()):
+                yield from places(v[k], lambda n, k=k: v.__setitem__(k, n), lambda k=k: v.__delitem__(k))
+
+        for method, target, body in bodies:
+            count = sum(1 for _ in places(body, None, None))
+            for i in range(count):
+                for value in junk + [places]:
+                    box = [copy.deepcopy(body)]
+                    put, drop = list(places(box[0], lambda n: box.__setitem__(0, n), None))[i]
+                    if value is places:
+                        if drop is None:
+                            continue
+                        drop()
+                    else:
+                        put(value)
+                    self.ask(method, target, json.dumps(box[0]).encode())
+                    self.fresh_program()
+        self.end()
+
     def row_drill(self):
         self.end()
         for seed, commits in ((0, 1), (0, 2), (7, 1000), ((1 << 64) - 1, 300), (1 << 63, 40), (12345678901234567890, 500),
@@ -711,6 +771,9 @@ class Row(compare.Comparison):
         self.end()
 
     def row_last_references(self):
+        # Opening takes minutes in a program that is built with checks, so the file isn't opened again.
+        compare.WAIT = 1200
+        self.unopened = True
         c = rules.Catalogue()
         for i in range(65533):
             c.create("r%05d" % i, "TAG" if i % 2 else "BRANCH", ("BRANCH", "main", None), 7)
@@ -984,7 +1047,7 @@ class Row(compare.Comparison):
         try:
             self.begin(name, os.path.join(folder, "j"))
             getattr(self, "row_" + name)()
-            if self.c.log or os.path.exists(self.path):
+            if not self.unopened:
                 self.files(1, self.c, self.path)
         except compare.Stopped as e:
             self.difference((name, "stopped"), None, self.request, None, str(e))

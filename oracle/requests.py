@@ -11,7 +11,7 @@ from replies import write_uuid
 KEYS = [("a",), ("b",), ("a", "b"), ("a", "b", "c"), ("a.b",), ("a.b", "c"), ("a", "b.c"), ("t",),
         ("n",), ("n", "t"), ("n", "\u00e9 x"), ("n", "m"), ("n", "m", "t%2E"), ("t0",), ("T",), ("a!",),
         ("\uffee",), ("\U0001f600",)]
-NAMES = ["main", "dev", "rel/1.0", "v", "w-x_y"]
+NAMES = ["main", "dev", "rel/1.0", "Rel", "w-x_y"]
 ABSENT_NAMES = ["none", "Main", "de", "dev2", "m" * 128]
 BAD_NAMES = ["1a", "a..b", "a.", "a/", "", "-a", "a b", "m" * 129, "\u00e9", "a%", "-"]
 TEXTS = ["m1", "m2", "", "s3://x/\u00e9.json", "q\"\\\n\x7f", "\U0001f600", "nul\x00"]
@@ -269,6 +269,16 @@ class Requests:
                                     "content": self.content(kind, new, write_uuid(there[1]))})
                         now[new] = (kind, None, None)
             ops.append(op)
+        if self.chance(0.05):
+            # A key with all below it.
+            top = self.pick(KEYS)
+            for key in entries:
+                if key not in used and (key == top or is_child(key, top)) and self.chance(0.95):
+                    used.add(key)
+                    ops.append({"type": "DELETE", "key": self.key_json(key)})
+        given = [o for o in ops if o.get("content") and isinstance(o["content"], dict) and o["content"].get("id")]
+        if len(given) > 1 and self.chance(0.06):
+            given[0]["content"]["id"] = given[1]["content"]["id"]
         if not ops:
             ops.append({"type": "UNCHANGED", "key": self.key_json(self.pick(KEYS))})
         if self.chance(0.02):
@@ -284,7 +294,10 @@ class Requests:
     def source(self):
         r = self.rng.random()
         if r < 0.2:
-            return {"type": "DETACHED", "hash": self.hex(self.hash_for(self.name()))}
+            out = {"type": "DETACHED", "hash": self.hex(self.hash_for(self.name()))}
+            if self.chance(0.1):
+                out["name"] = self.pick(JUNK)
+            return out
         name = self.name()
         own = self.c.references.get(name)
         kind = own[0] if own and self.chance(0.93) else self.pick([BRANCH, TAG])
@@ -345,7 +358,7 @@ class Requests:
         elif r < 0.14:
             hashes.insert(self.rng.randrange(len(hashes) + 1), self.hex(self.hash_for(name, 0.1)))
         elif r < 0.15:
-            hashes.append(NO_ANCESTOR.hex())
+            hashes = self.pick([hashes + [NO_ANCESTOR.hex()], [NO_ANCESTOR.hex()] + hashes])
         elif r < 0.16 and hashes:
             hashes.append(hashes[0])
         elif r < 0.165:
