@@ -520,18 +520,18 @@ class Row(compare.Comparison):
         self.create("v", kind="TAG")
         self.commit("dev", table(("d",)))
         off, unknown = self.head("dev"), "a" * 64
-        h0 = NO_ANCESTOR.hex()
+        nothing = NO_ANCESTOR.hex()
         conflict = table(("t",))
         names = ("main", "v", "none", "-")
-        for name, at, op in itertools.product(names, (None, self.head(), old, off, unknown, h0), (
+        for name, at, op in itertools.product(names, (None, self.head(), old, off, unknown, nothing), (
                 [{"type": "UNCHANGED", "key": {"elements": ["k"]}}], [conflict], [conflict, conflict])):
             self.commit(name + ("@" + at if at else ""), *op)
             self.fresh_program()
         hashes = (None, old, off, unknown)
-        for name, at, of, source in itertools.product(names, hashes, ("dev", "v", "none", "main"), (old, off, unknown, h0)):
+        for name, at, of, source in itertools.product(names, hashes, ("dev", "v", "none", "main"), (old, off, unknown, nothing)):
             self.merge(name + ("@" + at if at else ""), of, source, dryRun=True)
             self.fresh_program()
-        lists = ([old], [off], [unknown], [h0], [old, old], [h0, unknown], [h0, old], [off, old], [old, off], [old, off, h0])
+        lists = ([old], [off], [unknown], [nothing], [old, old], [nothing, unknown], [nothing, old], [off, old], [old, off], [old, off, nothing])
         for name, at, of, found in itertools.product(names[:3], hashes, ("dev", "v", "none"), lists):
             self.transplant(name + ("@" + at if at else ""), of, found, dryRun=True)
             self.fresh_program()
@@ -541,18 +541,18 @@ class Row(compare.Comparison):
                 self.ask("DELETE", "/api/v2/trees/none")
             self.fresh_program()
         sources = [{"type": of, "name": n, "hash": at} for of in ("BRANCH", "TAG") for n in ("main", "v", "none")
-                   for at in hashes] + [{"type": "DETACHED", "hash": at} for at in hashes[1:] + (h0,)]
+                   for at in hashes] + [{"type": "DETACHED", "hash": at} for at in hashes[1:] + (nothing,)]
         every = list(itertools.product(("dev", "v", "none", "main", "-"), ("", "?type=BRANCH", "?type=TAG"),
-                                       (None, "head", old, off, unknown, h0), sources))
+                                       (None, "head", old, off, unknown, nothing), sources))
         for name, kind, at, source in rng.sample(every, 420):
             if at == "head":
-                at = self.head(name) if name in self.c.references else h0
+                at = self.head(name) if name in self.c.references else nothing
             self.ask("PUT", "/api/v2/trees/" + name + ("@" + at if at else "") + kind, source)
             self.fresh_program()
         for name, kind, at in itertools.product(("dev", "v", "none", "main", "-"), ("", "?type=BRANCH", "?type=TAG"),
-                                                (None, "head", old, off, unknown, h0)):
+                                                (None, "head", old, off, unknown, nothing)):
             if at == "head":
-                at = self.head(name) if name in self.c.references else h0
+                at = self.head(name) if name in self.c.references else nothing
             self.ask("DELETE", "/api/v2/trees/" + name + ("@" + at if at else "") + kind)
             for lost in ("dev", "v"):
                 if lost not in self.c.references:
@@ -633,6 +633,25 @@ class Row(compare.Comparison):
                         put(value)
                     self.ask(method, target, json.dumps(box[0]).encode())
                     self.fresh_program()
+        self.end()
+
+    def row_closing(self):
+        """Requests of all sorts after which the session ends."""
+        close = [("Connection", "close")]
+        self.commit("main", table(("t",)))
+        refused = json.dumps({"commitMeta": {"message": "m"}, "operations": [table(("t",))]}).encode()
+        for method, target, body in (
+                ("POST", "trees?name=dev&type=BRANCH", {"type": "BRANCH", "name": "main"}),
+                ("PUT", "trees/dev", {"type": "DETACHED", "hash": NO_ANCESTOR.hex()}), ("DELETE", "trees/dev", b""),
+                ("POST", "trees/main/history/commit", refused), ("HEAD", "config", b""), ("HEAD", "nowhere", b""),
+                ("GET", "nowhere", b""), ("PATCH", "trees", b"x"), ("GET", "trees/main/contents/t", b""),
+                ("GET", "trees/a..b", b""), ("GET", "trees/none", b"")):
+            self.ask(method, "/api/v2/" + target, body, close, close=True)
+            self.end()
+            self.program = compare.Program(self.options.program, self.path)
+            self.c.opened()
+            self.get("trees")
+        self.ask("POST", "/api/v2/trees/main/contents", b"{}", [("Content-Encoding", "gzip")] + close, close=True)
         self.end()
 
     def row_drill(self):
@@ -719,10 +738,8 @@ class Row(compare.Comparison):
                 self.difference((self.name, what, "changed the file"), None, None, None, None)
 
     def written(self, payloads):
-        out = journal.HEADER
-        for p in payloads:
-            out += b"\x01" + len(p).to_bytes(4, "big") + p
-        return out + b"\x00"
+        frames = [b"\x01" + len(p).to_bytes(4, "big") + p for p in payloads]
+        return journal.HEADER + b"".join(frames) + b"\x00"
 
     def of_log(self, c):
         return [journal.payload(e, e[3]) for e in c.log]
@@ -868,7 +885,7 @@ class Row(compare.Comparison):
         last("create, no such source", illegal, 1, 0, text("w") + u8(1) + name("x") + option(None, hash_), first)
         last("create, off the chain", illegal, 1, 0, text("w") + u8(1) + name("v") + option(second, hash_), second)
         last("create, unknown", illegal, 1, 0, text("w") + u8(1) + name(None) + option(bytes(32), hash_), bytes(32))
-        last("create, H0", state(lambda o: o.create("w", "TAG", ("DETACHED", None, NO_ANCESTOR), 5))[0], 1, 0,
+        last("create at no ancestor", state(lambda o: o.create("w", "TAG", ("DETACHED", None, NO_ANCESTOR), 5))[0], 1, 0,
              text("w") + u8(2) + name(None) + option(NO_ANCESTOR, hash_), NO_ANCESTOR)
         last("place 4", illegal, 1, 0, text("w") + u8(1) + name("main") + option(first, hash_), first, place=4)
         last("place 6", illegal, 1, 0, text("w") + u8(1) + name("main") + option(first, hash_), first, place=6)
@@ -999,13 +1016,13 @@ class Row(compare.Comparison):
         merge("merge", None)
         merge("merge, default 3", damaged, default=3)
         merge("merge, force", None, default=0)
-        merge("merge at H0", None, path=NO_ANCESTOR)
+        merge("merge at no ancestor", None, path=NO_ANCESTOR)
         merge("merge at another", illegal, path=first, plain=False)
         merge("merge into a tag", illegal, branch="v", plain=False)
         merge("merge of none", illegal, source="none", plain=False)
         merge("merge of an unknown", illegal, from_hash=bytes(32), plain=False)
         merge("merge without changes", illegal, branch="main", from_hash=first, plain=False)
-        merge("merge of H0", illegal, from_hash=NO_ANCESTOR, plain=False)
+        merge("merge of no ancestor", illegal, from_hash=NO_ANCESTOR, plain=False)
         merge("merge, a mode", None, modes=u32(1) + key_bytes(("q",)) + u8(2))
         merge("merge, mode 3", damaged, modes=u32(1) + key_bytes(("q",)) + u8(3))
         merge("merge, modes' order", damaged, modes=u32(2) + key_bytes(("q",)) + u8(2) + key_bytes(("p",)) + u8(2))
@@ -1030,7 +1047,7 @@ class Row(compare.Comparison):
         transplant("transplant of one", None, [first])
         transplant("transplant of none", illegal, [])
         transplant("transplant of 101", illegal, [first] * 101)
-        transplant("transplant of H0", illegal, [NO_ANCESTOR])
+        transplant("transplant of no ancestor", illegal, [NO_ANCESTOR])
         transplant("transplant, order", illegal, [second, first])
         transplant("transplant, nothing left to change", illegal, [second])
         transplant("transplant, no change", illegal, [first], branch="main")
