@@ -27,8 +27,8 @@ import time
 
 import catalogue as rules
 import journal
+import random_requests
 import replies
-import requests
 
 WAIT = 60
 
@@ -134,7 +134,7 @@ class Comparison:
         try:
             path = os.path.join(folder, "j")
             c = rules.Catalogue()
-            maker = requests.Requests(rng, c)
+            maker = random_requests.Requests(rng, c)
             side = replies.Session(c)
             self.lines = [line_of(c)]
             self.recorded.append([])
@@ -376,8 +376,8 @@ class Comparison:
     def report(self):
         print("sessions %d, requests compared %d" % (self.sessions, self.compared))
         for title, counter in (("kinds", self.kinds), ("outcomes", self.outcomes), ("conflicts", self.conflicts),
-                               ("also", self.extra), ("DIFFERENCES", self.differences)):
-            print(title)
+                               ("also", self.extra), ("differences", self.differences)):
+            print(title if counter else "no " + title)
             for k in sorted(counter, key=str):
                 print("   %-60s %d" % (k if isinstance(k, str) else " / ".join(map(str, k)), counter[k]))
         sys.stdout.flush()

@@ -21,8 +21,8 @@ import catalogue as rules
 import compare
 import drill
 import journal
+import random_requests
 import replies
-import requests
 from catalogue import NO_ANCESTOR
 
 
@@ -683,7 +683,7 @@ class Row(compare.Comparison):
             path = "%s-%d" % (self.path, size)
             c = rules.Catalogue()
             side = replies.Session(c)
-            maker = requests.Requests(random.Random(seed), c)
+            maker = random_requests.Requests(random.Random(seed), c)
             self.program = program = compare.Program(self.options.program, path, before)
             after = 0
             lines = [compare.line_of(c)]
