@@ -24,7 +24,7 @@ use cat_state::catalogue::Catalogue;
 use std::alloc::Global;
 
 /// What a call makes of a head.
-#[derive(Debug, Drop)]
+#[derive(Drop)]
 pub enum Work {
     /// A commit's operations, judged.
     Judged(Judged),
@@ -33,7 +33,7 @@ pub enum Work {
 }
 
 /// What a call makes of a head of its branch.
-#[derive(Debug, Drop)]
+#[derive(Drop)]
 pub struct Built {
     pub head: Hash,
     pub work: Work,

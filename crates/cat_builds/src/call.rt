@@ -19,7 +19,7 @@ use cat_state::catalogue::Catalogue;
 use std::alloc::Global;
 
 /// A call that opens a draft, with what its draft gives.
-#[derive(Debug, Drop)]
+#[derive(Drop)]
 pub enum Call<'a> {
     /// A commit, with its operations and contents as the draft gives them their ids.
     Commit(&'a CommitRequest, Given),

@@ -20,7 +20,7 @@ use cat_state::records::content_hash;
 use std::alloc::Global;
 
 /// The operations and the contents of a request, with their ids, and the hashes of the contents.
-#[derive(Debug, Drop)]
+#[derive(Drop)]
 pub struct Given {
     pub ops: Seq<Op>,
     pub contents: Seq<Content>,

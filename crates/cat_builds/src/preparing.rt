@@ -33,7 +33,7 @@ use cat_state::records::{NewCommit, commit_record};
 use std::alloc::Global;
 
 /// What a commit adds if nothing of its hashes is kept.
-#[derive(Debug, Drop)]
+#[derive(Drop)]
 pub struct Prepared {
     /// Those of the request's contents.
     pub hashes: Vec<Hash>,

@@ -15,7 +15,7 @@ use std::alloc::{AllocError, Global};
 use std::marker::Model;
 
 /// Pairs whose keys ascend and are distinct, at most 4,294,967,295 of them.
-#[derive(Debug, PartialEq, Eq, Drop)]
+#[derive(PartialEq, Drop)]
 pub struct Ascending<K: Ord, V> {
     pairs: Seq<(K, V)>,
 }

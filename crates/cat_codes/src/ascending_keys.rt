@@ -16,7 +16,7 @@ use std::alloc::{AllocError, Global};
 use std::marker::Model;
 
 /// Keys that ascend and are distinct, at most 4,294,967,295 of them.
-#[derive(Debug, PartialEq, Eq, Drop)]
+#[derive(Drop)]
 pub struct AscendingKeys<K: Ord> {
     keys: Seq<K>,
 }

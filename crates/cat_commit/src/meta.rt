@@ -21,7 +21,7 @@ use serde_json::Value;
 use std::alloc::Global;
 
 /// What JSON says of a commit that may get its message elsewhere.
-#[derive(Debug, PartialEq, Eq, Drop)]
+#[derive(Drop)]
 pub struct GivenMeta {
     pub message: Option<Text>,
     pub authors: Seq<Text>,

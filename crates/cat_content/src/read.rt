@@ -17,7 +17,7 @@ use serde_json::Value;
 use std::alloc::Global;
 
 /// A content as a request gives it. Without an id it is new.
-#[derive(Debug, PartialEq, Eq, Drop)]
+#[derive(Drop)]
 pub struct Given {
     /// The id, which the server gives to a new content.
     pub id: Option<ContentId>,

@@ -7,7 +7,7 @@ ghost use Rattle.cat_core.specs.Stored.{draft_held, opening_at};
 use cat_names::hash::Hash;
 
 /// A draft's number, its caller, and the place of its opening.
-#[derive(Clone, Copy, Debug)]
+#[derive(Clone, Copy)]
 pub(crate) struct Ticket {
     pub(crate) number: u64,
     pub(crate) caller: u32,
@@ -23,7 +23,7 @@ pub(crate) struct OpenDraft {
 }
 
 /// Whose append failed, and at which count of faults.
-#[derive(Clone, Copy, Debug)]
+#[derive(Clone, Copy)]
 pub(crate) struct Fallen {
     pub(crate) caller: u32,
     pub(crate) count: u64,

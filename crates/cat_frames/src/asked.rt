@@ -9,7 +9,7 @@ use cat_model::op::Op;
 use std::alloc::{AllocError, Global};
 
 /// Operations, and the contents of the PUTs among them.
-#[derive(Debug, Drop)]
+#[derive(Drop)]
 pub(crate) struct Asked {
     pub(crate) ops: Seq<Op>,
     pub(crate) contents: Seq<Content>,

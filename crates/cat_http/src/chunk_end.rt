@@ -7,7 +7,7 @@ use crate::fill::{Filled, read_until};
 use cat_io::Source;
 
 /// What reading the end of a chunk's data gave.
-#[derive(Clone, Copy, Debug, PartialEq, Eq)]
+#[derive(Clone, Copy)]
 pub enum EndRead {
     Whole,
     Cut,

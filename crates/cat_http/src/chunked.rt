@@ -11,7 +11,7 @@ use cat_io::Source;
 pub const RAW_LIMIT: usize = 2097152;
 
 /// What reading a body in chunks gave.
-#[derive(Clone, Copy, Debug, PartialEq, Eq)]
+#[derive(Clone, Copy)]
 pub enum ChunkedRead {
     /// How long the body is, and where the next bytes stand.
     Whole(usize, usize),

@@ -9,7 +9,7 @@ ghost use Rattle.cat_http.specs.Fields.{is_named, has_field, first_value, is_rep
 use httparse::spans::HeaderSpan;
 
 /// What a head says of its body.
-#[derive(Clone, Copy, Debug, PartialEq, Eq)]
+#[derive(Clone, Copy)]
 pub enum BodyLength {
     Bytes(usize),
     Chunked,

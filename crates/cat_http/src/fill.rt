@@ -6,7 +6,7 @@ ghost use Rattle.cat_http.specs.Streams.{KeepsStream};
 use cat_io::Source;
 
 /// What one read gave.
-#[derive(Clone, Copy, Debug, PartialEq, Eq)]
+#[derive(Clone, Copy)]
 pub enum Filled {
     More,
     End,

@@ -15,7 +15,7 @@ use httparse::spans::{HeaderSpan, RequestSpans};
 pub const BUFFER_LEN: usize = 2113538;
 
 /// What reading a request gave.
-#[derive(Clone, Copy, Debug, PartialEq, Eq)]
+#[derive(Clone, Copy)]
 pub enum Outcome {
     /// The head, where the body ends, and where the next bytes stand.
     Request(RequestSpans, usize, usize),

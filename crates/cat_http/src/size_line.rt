@@ -8,7 +8,7 @@ use cat_io::Source;
 use httparse::{Status, parse_chunk_size};
 
 /// What reading a chunk's size line gave.
-#[derive(Clone, Copy, Debug, PartialEq, Eq)]
+#[derive(Clone, Copy)]
 pub enum SizeRead {
     /// How long the line is, and the size that it says.
     Found(usize, u64),

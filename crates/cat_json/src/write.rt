@@ -38,7 +38,7 @@ pub fn to_text<F: WriteForm>(alloc: Global, value: &F::Of) -> Result<String, NoM
 }
 
 /// An object that is being made, member by member. A member takes the place of one of its name.
-#[derive(Debug, Drop)]
+#[derive(Drop)]
 pub struct Object {
     /// The members so far.
     pub members: Map<String, Value>,

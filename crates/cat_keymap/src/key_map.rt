@@ -28,7 +28,7 @@ use std::marker::Model;
 use std::sync::Arc;
 
 /// The entries of keys, keys ascending. Copies share their pairs.
-#[derive(Debug, Drop)]
+#[derive(Drop)]
 pub struct KeyMap {
     pairs: Option<Arc<Vec<(ContentKey, Entry)>>>,
 }

@@ -20,7 +20,7 @@ use cat_names::key::ContentKey;
 use std::alloc::Global;
 
 /// A part of a listing.
-#[derive(Debug, Drop)]
+#[derive(Drop)]
 pub struct ListingPart {
     pub pairs: Seq<(ContentKey, Entry)>,
     /// Whether the listing goes on after them.

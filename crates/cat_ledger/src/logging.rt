@@ -21,7 +21,7 @@ use cat_state::failure::Failure;
 use std::alloc::Global;
 
 /// Who makes a call, the number of its draft, 0 where it opens none, and when.
-#[derive(Clone, Copy, Debug)]
+#[derive(Clone, Copy)]
 pub struct Turn {
     pub(crate) caller: u32,
     pub(crate) draft: u64,

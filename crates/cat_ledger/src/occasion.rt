@@ -7,7 +7,7 @@ use cat_model::moment::Moment;
 
 /// Who makes a call, when, and the number of the draft that it opens, if it opens one: the next, or
 /// one that is given.
-#[derive(Clone, Copy, Debug)]
+#[derive(Clone, Copy)]
 pub struct Occasion {
     pub(crate) caller: u32,
     pub(crate) moment: Moment,

@@ -15,7 +15,7 @@ use cat_names::key::ContentKey;
 use std::alloc::Global;
 
 /// What is done with a key.
-#[derive(Clone, Copy, Debug, PartialEq, Eq)]
+#[derive(Clone, Copy)]
 pub(crate) enum Decision {
     /// The target's entry stays.
     Keeps,
@@ -26,7 +26,7 @@ pub(crate) enum Decision {
 }
 
 /// A key that the source changed, and what is done with it.
-#[derive(Debug, Drop)]
+#[derive(Drop)]
 pub(crate) struct Decided {
     pub(crate) key: ContentKey,
     pub(crate) behaviour: Behaviour,

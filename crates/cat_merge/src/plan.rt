@@ -24,7 +24,7 @@ use cat_names::key::ContentKey;
 use std::alloc::Global;
 
 /// What a merge would do.
-#[derive(Debug, Drop)]
+#[derive(Drop)]
 pub struct Plan {
     /// Of each key that the source changed since the base, ascending.
     pub details: Seq<Detail>,
@@ -37,7 +37,7 @@ pub struct Plan {
 }
 
 /// A plan, and what is said of the commit that it makes.
-#[derive(Debug, Drop)]
+#[derive(Drop)]
 pub struct Planned {
     /// The other parent, where a commit is merged.
     pub merge_parent: Option<Hash>,

@@ -15,7 +15,7 @@ use cat_model::merging::Modes;
 use std::alloc::Global;
 
 /// What a commit changed: from the map at its parent to the map at it.
-#[derive(Debug, Drop)]
+#[derive(Drop)]
 pub struct Step {
     pub base: KeyMap,
     pub source: KeyMap,

@@ -8,7 +8,7 @@ use cat_names::key::ContentKey;
 use cat_names::ref_name::RefName;
 
 /// A page of the references by ascending names: the first one, or the one after a name.
-#[derive(Debug, PartialEq, Eq, Drop)]
+#[derive(Drop)]
 pub struct ReferencesAsk {
     /// The most references of the page, 1 to 1,000.
     pub limit: u32,
@@ -17,7 +17,7 @@ pub struct ReferencesAsk {
 }
 
 /// A page of the entries at a commit, keys ascending: the first one, or the one after a key.
-#[derive(Debug, PartialEq, Eq, Drop)]
+#[derive(Drop)]
 pub struct EntriesAsk {
     pub at: Pointer,
     pub filter: Filter,
@@ -28,7 +28,7 @@ pub struct EntriesAsk {
 }
 
 /// A page of a chain, the newest commit first: from the head, or from a commit.
-#[derive(Debug, PartialEq, Eq, Drop)]
+#[derive(Drop)]
 pub struct HistoryAsk {
     pub at: Pointer,
     /// The last commit that is asked for; none asks for the whole chain.
@@ -42,21 +42,21 @@ pub struct HistoryAsk {
 }
 
 /// The contents of keys at a commit.
-#[derive(Debug, PartialEq, Eq, Drop)]
+#[derive(Drop)]
 pub struct ContentsAsk {
     pub at: Pointer,
     pub keys: Seq<ContentKey>,
 }
 
 /// The content of a key at a commit.
-#[derive(Debug, PartialEq, Eq, Drop)]
+#[derive(Drop)]
 pub struct ContentAsk {
     pub at: Pointer,
     pub key: ContentKey,
 }
 
 /// What a reading call asks for.
-#[derive(Debug, PartialEq, Eq, Drop)]
+#[derive(Drop)]
 pub enum Ask {
     /// What the server is: its versions, its default branch, the hash without ancestor.
     Config,

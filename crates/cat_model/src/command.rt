@@ -10,7 +10,7 @@ use cat_names::hash::Hash;
 use cat_names::ref_name::RefName;
 
 /// Makes a reference at a source.
-#[derive(Debug, PartialEq, Eq, Drop)]
+#[derive(Drop)]
 pub struct Create {
     pub name: RefName,
     pub kind: Kind,
@@ -21,7 +21,7 @@ pub struct Create {
 }
 
 /// Moves a reference to a source.
-#[derive(Debug, PartialEq, Eq, Drop)]
+#[derive(Drop)]
 pub struct Assign {
     pub name: RefName,
     /// What the request says of the reference's kind.
@@ -35,7 +35,7 @@ pub struct Assign {
 }
 
 /// Removes a reference.
-#[derive(Debug, PartialEq, Eq, Drop)]
+#[derive(Drop)]
 pub struct Delete {
     pub name: RefName,
     /// What the request says of the reference's kind.
@@ -45,7 +45,7 @@ pub struct Delete {
 }
 
 /// Commits operations on a branch.
-#[derive(Debug, PartialEq, Eq, Drop)]
+#[derive(Drop)]
 pub struct CommitRequest {
     pub branch: RefName,
     /// The commit that the request was made against; none for the branch's head.
@@ -58,7 +58,7 @@ pub struct CommitRequest {
 }
 
 /// Merges a commit of a reference into a branch.
-#[derive(Debug, PartialEq, Eq, Drop)]
+#[derive(Drop)]
 pub struct Merge {
     pub branch: RefName,
     /// A commit that has to be on the branch's chain; it has no other effect.
@@ -76,7 +76,7 @@ pub struct Merge {
 }
 
 /// Applies commits of a reference to a branch, one after another.
-#[derive(Debug, PartialEq, Eq, Drop)]
+#[derive(Drop)]
 pub struct Transplant {
     pub branch: RefName,
     /// A commit that has to be on the branch's chain; it has no other effect.
@@ -92,7 +92,7 @@ pub struct Transplant {
 }
 
 /// A call that may add an entry to the log.
-#[derive(Debug, PartialEq, Eq, Drop)]
+#[derive(Drop)]
 pub enum Command {
     Create(Create),
     Assign(Assign),

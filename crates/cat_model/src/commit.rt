@@ -17,7 +17,7 @@ use cat_names::key::ContentKey;
 use std::alloc::Global;
 
 /// What is said of a commit.
-#[derive(Clone, Debug, PartialEq, Eq, Drop)]
+#[derive(Clone, PartialEq, Drop)]
 pub struct Meta {
     pub message: Text,
     pub authors: Seq<Text>,
@@ -27,7 +27,7 @@ pub struct Meta {
 }
 
 /// A commit. A change of a key is its new entry, or none for a key that is deleted.
-#[derive(Clone, Debug, PartialEq, Eq, Drop)]
+#[derive(Clone, PartialEq, Drop)]
 pub struct Commit {
     pub parent: Hash,
     pub merge_parent: Option<Hash>,

@@ -21,7 +21,7 @@ pub enum ConflictKind {
 }
 
 /// A conflict at a key; an unexpected hash has none.
-#[derive(Clone, Debug, PartialEq, Eq, Drop)]
+#[derive(Clone, Debug, Drop)]
 pub struct Conflict {
     pub key: Option<ContentKey>,
     pub kind: ConflictKind,

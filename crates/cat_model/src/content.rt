@@ -19,7 +19,7 @@ use cat_names::key::{ContentKey, Element};
 use std::alloc::Global;
 
 /// The state of an Iceberg table.
-#[derive(Clone, Debug, PartialEq, Eq, Drop)]
+#[derive(Clone, Drop)]
 pub struct IcebergTable {
     /// Where the table's metadata file lies.
     pub metadata_location: Text,
@@ -30,7 +30,7 @@ pub struct IcebergTable {
 }
 
 /// The state of an Iceberg view.
-#[derive(Clone, Debug, PartialEq, Eq, Drop)]
+#[derive(Clone, Drop)]
 pub struct IcebergView {
     /// Where the view's metadata file lies.
     pub metadata_location: Text,
@@ -39,7 +39,7 @@ pub struct IcebergView {
 }
 
 /// The state of a Delta Lake table.
-#[derive(Clone, Debug, PartialEq, Eq, Drop)]
+#[derive(Clone, Drop)]
 pub struct DeltaLakeTable {
     /// Where the files of its log lie.
     pub metadata_locations: Seq<Text>,
@@ -50,14 +50,14 @@ pub struct DeltaLakeTable {
 }
 
 /// A namespace, which stands at the key of its elements alone.
-#[derive(Clone, Debug, PartialEq, Eq, Drop)]
+#[derive(Clone, Drop)]
 pub struct Namespace {
     pub elements: Seq<Text>,
     pub properties: Ascending<Text, Text>,
 }
 
 /// What a content is, by its type.
-#[derive(Debug, PartialEq, Eq, Drop)]
+#[derive(Drop)]
 pub enum Body {
     IcebergTable(IcebergTable),
     IcebergView(IcebergView),
@@ -66,7 +66,7 @@ pub enum Body {
 }
 
 /// What a key stands for, in full.
-#[derive(Debug, PartialEq, Eq, Drop)]
+#[derive(Drop)]
 pub struct Content {
     pub id: ContentId,
     pub body: Body,

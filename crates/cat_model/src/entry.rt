@@ -12,7 +12,7 @@ use cat_names::hash::{ContentId, Hash};
 use std::alloc::Global;
 
 /// A type of content.
-#[derive(Clone, Copy, Debug, PartialEq, Eq)]
+#[derive(Clone, Copy, PartialEq, Eq)]
 pub enum ContentKind {
     IcebergTable,
     IcebergView,
@@ -48,7 +48,7 @@ impl ContentKind {
 }
 
 /// What a key stands for.
-#[derive(Clone, Copy, Debug, PartialEq, Eq)]
+#[derive(Clone, Copy, PartialEq, Eq)]
 pub struct Entry {
     pub kind: ContentKind,
     pub id: ContentId,

@@ -4,7 +4,7 @@ use cat_codes::seq::Seq;
 use cat_names::key::ContentKey;
 
 /// What the keys of a listing must all meet.
-#[derive(Debug, PartialEq, Eq, Drop)]
+#[derive(Drop)]
 pub struct Filter {
     /// The least key, itself listed.
     pub min: Option<ContentKey>,

@@ -20,7 +20,7 @@ pub enum Quantity {
 }
 
 /// The most of each quantity.
-#[derive(Clone, Copy, Debug, PartialEq, Eq)]
+#[derive(Clone, Copy)]
 pub struct Limits {
     pub references: u64,
     pub log: u64,

@@ -5,7 +5,7 @@ use crate::moment::Moment;
 use cat_names::hash::Hash;
 
 /// An accepted call.
-#[derive(Debug, PartialEq, Eq, Drop)]
+#[derive(Drop)]
 pub struct LogEntry {
     /// How many entries there are with this one.
     pub place: u32,

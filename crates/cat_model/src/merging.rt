@@ -6,7 +6,7 @@ use cat_names::key::ContentKey;
 
 /// What a merge does with a key that the source changed since the base, by the names of the REST
 /// API.
-#[derive(Clone, Copy, Debug, PartialEq, Eq)]
+#[derive(Clone, Copy, PartialEq, Eq)]
 pub enum Behaviour {
     /// Takes the source's entry where the target still has the base's, else the key conflicts.
     Normal,
@@ -17,14 +17,14 @@ pub enum Behaviour {
 }
 
 /// The behaviour of the keys that have one of their own, and that of all others.
-#[derive(Clone, Debug, PartialEq, Eq, Drop)]
+#[derive(Clone, Drop)]
 pub struct Modes {
     pub default: Behaviour,
     pub keys: Ascending<ContentKey, Behaviour>,
 }
 
 /// What a merge found at a key that the source changed.
-#[derive(Clone, Debug, PartialEq, Eq, Drop)]
+#[derive(Clone, Drop)]
 pub struct Detail {
     pub key: ContentKey,
     pub behaviour: Behaviour,

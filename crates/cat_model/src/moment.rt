@@ -12,7 +12,7 @@ use std::alloc::Global;
 use std::marker::Model;
 
 /// Microseconds since 1970-01-01T00:00:00Z, up to 9999-12-30T22:00:00.999999Z.
-#[derive(Clone, Copy, Debug, PartialEq, Eq, PartialOrd, Ord)]
+#[derive(Clone, Copy, PartialEq, Eq)]
 pub struct Moment {
     micros: u64,
 }

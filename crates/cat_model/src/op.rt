@@ -8,7 +8,7 @@ use crate::entry::Entry;
 use cat_names::key::ContentKey;
 
 /// An operation on a key.
-#[derive(Debug, PartialEq, Eq, Drop)]
+#[derive(Drop)]
 pub enum Op {
     /// Sets the key. A fresh entry is a new content, whose id the server gives.
     Put {

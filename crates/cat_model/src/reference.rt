@@ -4,14 +4,14 @@ use cat_names::hash::Hash;
 use cat_names::ref_name::RefName;
 
 /// What may be done with a reference: commits are made on branches alone.
-#[derive(Clone, Copy, Debug, PartialEq, Eq)]
+#[derive(Clone, Copy, PartialEq, Eq)]
 pub enum Kind {
     Branch,
     Tag,
 }
 
 /// A named reference and the commit that it points at.
-#[derive(Clone, Debug, PartialEq, Eq, Drop)]
+#[derive(Clone, Drop)]
 pub struct Reference {
     pub name: RefName,
     pub kind: Kind,
@@ -20,14 +20,14 @@ pub struct Reference {
 
 /// What a request points at: a reference's head, a hash on a reference's chain, or a hash alone.
 /// At least one of the two is there.
-#[derive(Clone, Debug, PartialEq, Eq, Drop)]
+#[derive(Clone, Drop)]
 pub struct Pointer {
     pub name: Option<RefName>,
     pub hash: Option<Hash>,
 }
 
 /// The commit that a read was answered at: a reference's, or one that no reference was named for.
-#[derive(Debug, PartialEq, Eq, Drop)]
+#[derive(Drop)]
 pub enum Effective {
     Named(Reference),
     Detached(Hash),

@@ -45,7 +45,7 @@ pub enum Allowed {
 
 /// Why a call is refused. A refused call leaves references, commits, contents and log as they
 /// were.
-#[derive(Debug, PartialEq, Eq, Drop, Error)]
+#[derive(Debug, Drop, Error)]
 pub enum Refusal {
     /// The request has no reading, or asks for what can't be done.
     #[error("the request has no reading, or asks for what can't be done")]
@@ -109,7 +109,7 @@ pub enum Refusal {
 }
 
 /// A refusal, and the place of the state that it was decided on; none where no state was looked at.
-#[derive(Debug, PartialEq, Eq, Drop, Error)]
+#[derive(Debug, Drop, Error)]
 #[error("{why}")]
 pub struct Refused {
     pub place: Option<u32>,

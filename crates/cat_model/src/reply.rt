@@ -12,7 +12,7 @@ use cat_names::key::ContentKey;
 use cat_names::ref_name::RefName;
 
 /// A page of references.
-#[derive(Debug, PartialEq, Eq, Drop)]
+#[derive(Drop)]
 pub struct ReferencesPage {
     /// By ascending names.
     pub items: Seq<Reference>,
@@ -21,7 +21,7 @@ pub struct ReferencesPage {
 }
 
 /// A page of the entries at a commit.
-#[derive(Debug, PartialEq, Eq, Drop)]
+#[derive(Drop)]
 pub struct EntriesPage {
     pub effective: Effective,
     /// Keys ascending.
@@ -31,7 +31,7 @@ pub struct EntriesPage {
 }
 
 /// A change that a commit made.
-#[derive(Debug, PartialEq, Eq, Drop)]
+#[derive(Drop)]
 pub enum Change {
     /// A key was set, to a content that the catalogue may hold no longer.
     Put(ContentKey, Option<Content>),
@@ -40,7 +40,7 @@ pub enum Change {
 }
 
 /// A commit of a history.
-#[derive(Debug, PartialEq, Eq, Drop)]
+#[derive(Drop)]
 pub struct HistoryItem {
     pub hash: Hash,
     pub parent: Hash,
@@ -52,7 +52,7 @@ pub struct HistoryItem {
 }
 
 /// A page of a chain.
-#[derive(Debug, PartialEq, Eq, Drop)]
+#[derive(Drop)]
 pub struct HistoryPage {
     /// The newest commit first.
     pub items: Seq<HistoryItem>,
@@ -61,7 +61,7 @@ pub struct HistoryPage {
 }
 
 /// The contents of keys, and the commit that they were read at.
-#[derive(Debug, PartialEq, Eq, Drop)]
+#[derive(Drop)]
 pub struct ContentsReply {
     pub effective: Effective,
     /// In the order in which they were asked for, without keys that have none.
@@ -69,21 +69,21 @@ pub struct ContentsReply {
 }
 
 /// A content, and the commit that it was read at.
-#[derive(Debug, PartialEq, Eq, Drop)]
+#[derive(Drop)]
 pub struct ContentReply {
     pub effective: Effective,
     pub content: Content,
 }
 
 /// The ids that the server gave, in the request's order, and the branch with its new head.
-#[derive(Debug, PartialEq, Eq, Drop)]
+#[derive(Drop)]
 pub struct Committed {
     pub added: Seq<(ContentId, ContentKey)>,
     pub target: Reference,
 }
 
 /// What a merge or a transplant did or found.
-#[derive(Debug, PartialEq, Eq, Drop)]
+#[derive(Drop)]
 pub struct Merged {
     /// The commit that changes were reckoned from, for a merge.
     pub common_ancestor: Option<Hash>,
@@ -101,7 +101,7 @@ pub struct Merged {
 }
 
 /// What a call answers.
-#[derive(Debug, PartialEq, Eq, Drop)]
+#[derive(Drop)]
 pub enum Reply {
     Config,
     References(ReferencesPage),
@@ -117,7 +117,7 @@ pub enum Reply {
 }
 
 /// A reply, at the place of its entry, or of the state that was read.
-#[derive(Debug, PartialEq, Eq, Drop)]
+#[derive(Drop)]
 pub struct Told {
     pub place: u32,
     pub reply: Reply,

@@ -4,7 +4,7 @@ use crate::ask::Ask;
 use crate::command::Command;
 
 /// A reading call or a changing one.
-#[derive(Debug, PartialEq, Eq, Drop)]
+#[derive(Drop)]
 pub enum Wanted {
     Read(Ask),
     Change(Command),

@@ -8,7 +8,7 @@ use crate::token::Token;
 use cat_codes::seq::Seq;
 
 /// A page of a listing.
-#[derive(Debug, Drop)]
+#[derive(Drop)]
 pub struct Page<T> {
     pub items: Seq<T>,
     /// Where the listing goes on; none where nothing follows.

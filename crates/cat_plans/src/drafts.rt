@@ -5,7 +5,7 @@ use cat_model::command::Command;
 use cat_names::hash::Hash;
 
 /// What a call asks beside.
-#[derive(Clone, Copy, Debug)]
+#[derive(Clone, Copy)]
 pub(crate) struct Asked {
     /// That it is only tried.
     pub(crate) dry_run: bool,
@@ -14,7 +14,7 @@ pub(crate) struct Asked {
 }
 
 /// Plans upon a branch, each upon the one before.
-#[derive(Debug, Drop)]
+#[derive(Drop)]
 pub struct Draft {
     /// The commit that a merge's changes are reckoned from.
     pub(crate) ancestor: Option<Hash>,

@@ -13,7 +13,7 @@ use cat_model::reply::Merged;
 use cat_names::hash::Hash;
 
 /// Commits that are planned on a branch.
-#[derive(Debug, Drop)]
+#[derive(Drop)]
 pub struct Adding {
     /// Each upon the one before, the first upon the branch's head. Each changes something.
     pub planned: Vec<Planned>,
@@ -22,7 +22,7 @@ pub struct Adding {
 }
 
 /// What a call comes to, once nothing refuses it.
-#[derive(Debug, Drop)]
+#[derive(Drop)]
 pub enum Outcome {
     /// A reply without a change.
     Replied(Merged),

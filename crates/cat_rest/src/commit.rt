@@ -18,7 +18,7 @@ use serde_json::Value;
 use std::alloc::Global;
 
 /// What a commit request asks for, beside its branch.
-#[derive(Debug, PartialEq, Eq, Drop)]
+#[derive(Drop)]
 pub struct CommitBody {
     pub meta: Meta,
     pub ops: Seq<Op>,

@@ -21,7 +21,7 @@ use serde_json::Value;
 use std::alloc::Global;
 
 /// How a merge or a transplant is asked for.
-#[derive(Debug, PartialEq, Eq, Drop)]
+#[derive(Drop)]
 pub struct Manner {
     pub modes: Modes,
     pub dry_run: bool,
@@ -29,7 +29,7 @@ pub struct Manner {
 }
 
 /// What a merge request asks for, beside its branch.
-#[derive(Debug, PartialEq, Eq, Drop)]
+#[derive(Drop)]
 pub struct MergeBody {
     pub from: RefName,
     pub from_hash: Hash,

@@ -26,7 +26,7 @@ pub enum PathFault {
 }
 
 /// A reference of a path, and the hash behind its `@`.
-#[derive(Debug, PartialEq, Eq, Drop)]
+#[derive(Drop)]
 pub struct PathReference {
     pub name: RefName,
     pub hash: Option<Hash>,

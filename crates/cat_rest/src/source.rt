@@ -14,7 +14,7 @@ use serde_json::Value;
 use std::alloc::Global;
 
 /// A source, and the kind that the body says it has.
-#[derive(Debug, PartialEq, Eq, Drop)]
+#[derive(Drop)]
 pub struct Source {
     pub at: Pointer,
     pub kind: Option<Kind>,

@@ -16,7 +16,7 @@ use serde_json::Value;
 use std::alloc::Global;
 
 /// What a transplant request asks for, beside its branch.
-#[derive(Debug, PartialEq, Eq, Drop)]
+#[derive(Drop)]
 pub struct TransplantBody {
     pub from: RefName,
     pub hashes: Seq<Hash>,

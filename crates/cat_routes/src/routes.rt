@@ -35,7 +35,7 @@ pub enum Route {
 }
 
 /// The route of a path, and what its parameters took, still escaped.
-#[derive(Clone, Copy, Debug)]
+#[derive(Clone, Copy)]
 pub struct Found<'p> {
     pub route: Route,
     pub reference: Option<&'p str>,

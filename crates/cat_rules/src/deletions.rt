@@ -15,7 +15,7 @@ use std::alloc::Global;
 use std::collections::HashSet;
 
 /// What a content keeps when it is renamed: its type's number and its id.
-#[derive(Clone, Copy, Debug, PartialEq, Eq, Hash)]
+#[derive(Clone, Copy, PartialEq, Eq, Hash)]
 pub(crate) struct ContentName {
     kind: u8,
     id: ContentId,

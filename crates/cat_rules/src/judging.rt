@@ -21,7 +21,7 @@ use std::alloc::Global;
 use std::collections::HashSet;
 
 /// What a request is found to be.
-#[derive(Debug, Drop)]
+#[derive(Drop)]
 pub enum Judged {
     /// Its conflicts, keys ascending, one a key; never empty.
     Conflicts(Seq<Conflict>),

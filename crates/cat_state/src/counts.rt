@@ -12,7 +12,7 @@ use cat_names::hash::Hash;
 use cat_names::key::ContentKey;
 
 /// How much a catalogue holds.
-#[derive(Clone, Copy, Debug, PartialEq, Eq)]
+#[derive(Clone, Copy)]
 pub struct Counts {
     /// Entries of its log.
     pub place: u32,

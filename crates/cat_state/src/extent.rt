@@ -7,7 +7,7 @@ ghost use Rattle.cat_state.specs.Returning.{WasBefore, WasOfExtent};
 use crate::catalogue::Catalogue;
 
 /// How many commits and contents a catalogue holds.
-#[derive(Clone, Copy, Debug)]
+#[derive(Clone, Copy)]
 pub struct Extent {
     pub commits: usize,
     pub contents: usize,

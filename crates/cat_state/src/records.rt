@@ -20,14 +20,14 @@ use cat_names::hash::Hash;
 use std::alloc::Global;
 
 /// The bytes of a commit or a content, and their hash.
-#[derive(Debug, Drop)]
+#[derive(Drop)]
 pub struct Record {
     pub hash: Hash,
     pub bytes: Vec<u8>,
 }
 
 /// A commit that is to be added, the map at it, and its bytes and their hash.
-#[derive(Debug, Drop)]
+#[derive(Drop)]
 pub struct NewCommit {
     pub commit: Commit,
     pub map: KeyMap,

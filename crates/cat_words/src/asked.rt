@@ -13,7 +13,7 @@ use std::alloc::Global;
 const MOST_COMMITS: u64 = 1_000_000;
 
 /// A command.
-#[derive(Clone, Copy, Debug, PartialEq, Eq, Drop)]
+#[derive(Clone, Copy, Drop)]
 pub enum Asked<'a> {
     /// One session over the journal of this path.
     Script(&'a str),
