@@ -152,7 +152,7 @@ impl<'a> Player<'a> {
         let text = write_out(alloc, line, time)?;
         let (word, rest) = first_word(text.as_str());
         match word {
-            "row" => self.begin_row(alloc, rest),
+            "row" => Ok(self.begin_row(alloc, rest)?),
             "let" => {
                 let (name, text) = first_word(rest);
                 let in_row = self.report.has_row();
@@ -171,15 +171,17 @@ impl<'a> Player<'a> {
         }
     }
 
-    fn begin_row(&mut self, alloc: Global, name: &str) -> Result<(), Fault> {
-        let is_played = self.is_played();
+    fn begin_row(&mut self, alloc: Global, name: &str) -> Result<(), AllocError> {
+        if !self.is_played() {
+            self.report.cannot(alloc, &Fault::NoRun)?;
+        }
         self.report.begin_row(alloc, name)?;
         self.names.forget_row(alloc);
         self.world = World::new(alloc)?;
         self.sent = Sent::new(alloc);
         self.wanted = Wanted::new(alloc);
         self.restart = None;
-        if is_played { Ok(()) } else { Err(Fault::NoRun) }
+        Ok(())
     }
 
     fn begin_times(&mut self, alloc: Global, text: &str) -> Result<(), Fault> {
@@ -213,12 +215,12 @@ impl<'a> Player<'a> {
     }
 
     // A run with these words and those of the text, behind the status that it is to end in.
-    fn run<R: Threads + Wait + Sync>(
+    fn run<'w, R: Threads + Wait + Sync>(
         &mut self,
         rt: &R,
         alloc: Global,
-        first: &[&str],
-        text: &str,
+        first: &[&'w str],
+        text: &'w str,
     ) -> Result<(), Fault> {
         let (status, rest) = first_word(text);
         let Ok(status) = u8::try_from(number(status)?) else {

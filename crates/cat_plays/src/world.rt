@@ -8,13 +8,13 @@ use std::alloc::{AllocError, Global};
 use std::sync::Wait;
 use std::thread::Threads;
 
-const FILE_ROOM: usize = 4_000_000;
+const FILE_ROOM: usize = 2_000_000;
 
-const FILE_CALLS: usize = 100_000;
+const FILE_CALLS: usize = 10_000;
 
 const SINK_ROOM: usize = 2_000_000;
 
-const FARTHEST: u64 = 4_000_000;
+const FARTHEST: u64 = 1_000_000;
 
 const SECOND: u64 = 1_000_000;
 
