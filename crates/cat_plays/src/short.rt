@@ -37,10 +37,7 @@ pub fn play_short<R: Threads + Wait + Sync>(
     let twin = world.twin(alloc)?;
     let requests = sent.requests(alloc)?;
     let ran = world.run(rt, alloc, words, sent.bytes())?;
-    let is_refused = ran
-        .told
-        .windows(NO_MEMORY.len())
-        .any(|part| part == NO_MEMORY);
+    let is_refused = ran.told.windows(13).any(|part| part == NO_MEMORY);
     if ran.status == DONE && !is_refused {
         return Ok(Short::Whole);
     }

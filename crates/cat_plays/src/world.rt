@@ -148,7 +148,7 @@ impl World {
         match word {
             "cut" => self.cut(alloc, number)?,
             "crash" => self.crash(alloc, number)?,
-            "piece" => self.piece = (number.min(FARTHEST) as usize).max(1),
+            "piece" => self.piece = number.min(FARTHEST) as usize,
             "second" => self.clock = MemoryClock::new(number.saturating_mul(SECOND), self.step),
             "step" => {
                 self.step = number.saturating_mul(SECOND);
@@ -225,7 +225,8 @@ impl World {
         let bytes = Vec::from_slice(alloc, self.bytes())?;
         let fresh = disks(alloc, self.path.as_str(), bytes, calls, last)?;
         self.disks = fresh.failing(opens);
-        let mut source = MemorySource::new(Vec::from_slice(alloc, sent)?, self.piece, reads);
+        let piece = self.piece.max(1);
+        let mut source = MemorySource::new(Vec::from_slice(alloc, sent)?, piece, reads);
         let mut sink = MemorySink::new(alloc, SINK_ROOM, writes)?;
         let status = run(
             rt,
