@@ -13,7 +13,7 @@ use std::alloc::{AllocError, Global};
 use std::sync::Wait;
 use std::thread::Threads;
 
-// More times than any `for` has.
+// As often are the lines of a `for` played at most.
 const MOST_TIMES: u64 = 1_000_000;
 
 /// How runs are played.
@@ -186,6 +186,9 @@ impl<'a> Player<'a> {
 
     fn begin_times(&mut self, alloc: Global, text: &str) -> Result<(), Fault> {
         let (first, last) = bounds(text)?;
+        if last < first || last.saturating_sub(first) >= MOST_TIMES {
+            return Err(Fault::NoReading);
+        }
         self.times = Some(Times {
             first,
             last,
@@ -232,7 +235,9 @@ impl<'a> Player<'a> {
         let wanted = std::mem::replace(&mut self.wanted, Wanted::new(alloc));
         match self.way {
             Way::Whole => self.run_whole(rt, alloc, &all, &sent, &wanted, status),
-            Way::Short if all.contains(&"script") => Ok(self.run_short(rt, alloc, &all, &sent)?),
+            Way::Short if status == 0 && all.contains(&"script") => {
+                Ok(self.run_short(rt, alloc, &all, &sent)?)
+            }
             Way::Short => Ok(()),
         }
     }
