@@ -211,7 +211,10 @@ impl<'a> Player<'a> {
                 self.restart = Some(number(text)?);
                 Ok(())
             }
-            "disk-is" => self.judge_file(alloc, text),
+            "disk-is" => match self.way {
+                Way::Whole => self.judge_file(alloc, text),
+                Way::Short => Ok(()),
+            },
             _ if is_sending(word) => self.sent.send(alloc, word, text),
             _ => self.world.set(alloc, word, text),
         }
@@ -235,10 +238,7 @@ impl<'a> Player<'a> {
         let wanted = std::mem::replace(&mut self.wanted, Wanted::new(alloc));
         match self.way {
             Way::Whole => self.run_whole(rt, alloc, &all, &sent, &wanted, status),
-            Way::Short if status == 0 && all.contains(&"script") => {
-                Ok(self.run_short(rt, alloc, &all, &sent)?)
-            }
-            Way::Short => Ok(()),
+            Way::Short => Ok(self.run_short(rt, alloc, &all, &sent, status)?),
         }
     }
 
@@ -298,13 +298,19 @@ impl<'a> Player<'a> {
         })
     }
 
+    // Plays a session that is to end in 0; nothing but memory fails in it.
     fn run_short<R: Threads + Wait + Sync>(
         &mut self,
         rt: &R,
         alloc: Global,
         words: &[&str],
         sent: &Sent,
+        status: u8,
     ) -> Result<(), AllocError> {
+        let _ = self.world.without_failing(alloc);
+        if status != 0 || !words.contains(&"script") {
+            return Ok(());
+        }
         self.report.count_run();
         match play_short(rt, alloc, &mut self.world, words, sent)? {
             Short::Whole => Ok(()),
