@@ -49,8 +49,15 @@ fn run_again(alloc: Global, ledger: &mut Ledger, entry: &LogEntry) -> Result<boo
     let place = ledger.place();
     let mut counted = Counted::new(place);
     match ledger.replay(alloc, &mut counted, entry) {
-        Ok(_) => Ok(place < ledger.place()),
-        Err(Unmade::Failed(Failure::Refused(_))) => Ok(false),
+        // What was told is let go by a call, so that the proof doesn't take each kind of it apart.
+        Ok(told) => {
+            drop(told);
+            Ok(place < ledger.place())
+        }
+        Err(Unmade::Failed(Failure::Refused(why))) => {
+            drop(why);
+            Ok(false)
+        }
         Err(Unmade::Failed(Failure::NoMemory)) => Err(NoMemory),
         Err(Unmade::NotKept) => unreachable!(),
     }
@@ -134,7 +141,11 @@ impl Replay {
     {
         match read(alloc, payload)? {
             None => Ok(false),
-            Some(entry) => self.follow(alloc, &entry, payload),
+            Some(entry) => {
+                let followed = self.follow(alloc, &entry, payload);
+                drop(entry);
+                followed
+            }
         }
     }
 }

@@ -108,10 +108,20 @@ fn apply(
     ensures logged { IfOk result (IsLoggedAs draft.command) }
     ensures there { IfErr result (λ failure. fails_expired failure ≡ false) }
 {
-    needs_contents(alloc, catalogue, draft.planned.as_slice())?;
-    let merged = merged(draft.ancestor, details, branch, true)?;
-    let outcome = make(alloc, draft, merged)?;
-    Ok(outcome)
+    if let Err(failure) = needs_contents(alloc, catalogue, draft.planned.as_slice()) {
+        drop(draft);
+        return Err(failure);
+    }
+    match merged(draft.ancestor, details, branch, true) {
+        Ok(merged) => {
+            let outcome = make(alloc, draft, merged)?;
+            Ok(outcome)
+        }
+        Err(fault) => {
+            drop(draft);
+            Err(Failure::from(fault))
+        }
+    }
 }
 
 /// Conflicts refuse, or are the reply.
