@@ -21,21 +21,30 @@ pub fn status_line(code: &str) -> Option<&'static str> {
     }
 }
 
+/// The line of a place; none where it is `-`.
+fn place_line(alloc: Global, place: &str) -> Result<String, Fault> {
+    if place == "-" {
+        Ok(String::new(alloc))
+    } else if is_digits(place) {
+        Ok(format!(in alloc; "Catalogue-Place: {place}\r\n")?)
+    } else {
+        Err(Fault::NoReading)
+    }
+}
+
+/// The line that ends a session, where `close` says so, and the body.
+fn closing(text: &str) -> (&'static str, &str) {
+    match first_word(text) {
+        ("close", body) => ("Connection: close\r\n", body),
+        _ => ("", text),
+    }
+}
+
 /// The head of a reply that a line says, and its body.
 pub fn head<'a>(alloc: Global, status: &str, text: &'a str) -> Result<(String, &'a str), Fault> {
     let (place, rest) = first_word(text);
-    let (close, body) = match first_word(rest) {
-        ("close", body) => ("Connection: close\r\n", body),
-        _ => ("", rest),
-    };
-    if place != "-" && !is_digits(place) {
-        return Err(Fault::NoReading);
-    }
-    let place = if place == "-" {
-        String::new(alloc)
-    } else {
-        format!(in alloc; "Catalogue-Place: {place}\r\n")?
-    };
+    let place = place_line(alloc, place)?;
+    let (close, body) = closing(rest);
     let length = body.len();
     let head = format!(in alloc;
         "HTTP/1.1 {status}\r\nContent-Type: application/json\r\n{place}Content-Length: {length}\r\n{close}\r\n"
