@@ -14,7 +14,7 @@ program=$4
 crates=$(realpath -- "$(dirname -- "$0")/../crates") || exit 70
 
 refuse_desk() {
-    name=tests::a_refused_desk_hands_the_value_back_whole
+    name=desk::a_desk_that_is_refused_hands_its_value_back_whole
     status=0
     refused=0
     said=

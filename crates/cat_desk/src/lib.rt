@@ -8,8 +8,6 @@ mod gate;
 mod hold;
 mod pass;
 mod plays;
-#[cfg(test)]
-mod tests;
 mod view;
 
 pub use desk::Desk;

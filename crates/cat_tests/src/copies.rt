@@ -1,0 +1,109 @@
+//! Copies of a catalogue, and a view that is held while the catalogue is changed.
+
+ghost use Rattle.std.specs.Prelude.{◌≡◌, IsTrue};
+ghost use Rattle.sha2.specs.Sha256.{sha256};
+ghost use Rattle.cat_model.specs.WellMade.{is_well_made};
+
+use crate::asking::change;
+use crate::requests::{CREATE_DEV, FIRST, PUT_T2};
+use cat_codes::bytes::Bytes;
+use cat_core::Store;
+use cat_keeper::MemKeeper;
+use cat_model::command::Command;
+use cat_model::limits::Limits;
+use cat_model::moment::Moment;
+use cat_names::hash::Hash;
+use cat_names::key::ContentKey;
+use cat_state::catalogue::Catalogue;
+use cat_state::counts::Counts;
+use std::alloc::Global;
+use std::process::Abort;
+
+/// The entry of a commit that puts a table at `t1`.
+const ENTRY: &[u8] =
+    b"\x04\0\0\0\x01\0\0\0\0\0\0\0\x01\0\0\0\0\0\x0fB@\0\0\0\x04main\x01.\x1c\xfa\x82\xb05\xc2l\xbb\xbd\xaec,\xea\x07\x05\x14\xeb\x8bw?aj\xae\xaff\x8e/\x0b\xe8\xf1\x0d\0\0\0\x03one\0\0\0\0\0\0\0\0\0\0\0\0\0\0\0\0\x01\x01\0\x02t1\x01\x01\0\0\0+\x01\0\0\0\0\0\0\0\x01\0\0\0\0\0\0\0\0\0\0\0\x02m1\0\0\0\0\0\0\0\x01\0\0\0\0\0\0\0\0\0\0\0\0\xf9-\xf1L)\x1cU\x08\x1act\xc5\x07K\x13\x94\x01e\x91\xb1\x98\x1c\xd3+;\xdd\xb2\x0a?\x86\xd5\xd4";
+
+/// A store of this one entry.
+fn committed<R: Abort>(rt: &R, alloc: Global) -> Store<MemKeeper> {
+    let Ok(payload) = Bytes::from_slice(alloc, ENTRY) else {
+        panic!(rt; "there is memory");
+    };
+    let Ok(payloads) = vec![in alloc; payload] else {
+        panic!(rt; "there is memory");
+    };
+    match Store::open(alloc, MemKeeper::new(alloc, payloads), Limits::program()) {
+        Ok(store) => store,
+        Err(_) => panic!(rt; "the entry is legal"),
+    }
+}
+
+fn is_same(catalogue: &Catalogue, copy: &Catalogue, key: &ContentKey) -> bool {
+    let head = catalogue.main_head();
+    copy.counts() == catalogue.counts()
+        && copy.references().as_slice() == catalogue.references().as_slice()
+        && copy.commits().get(&head) == catalogue.commits().get(&head)
+        && copy.contents().as_slice() == catalogue.contents().as_slice()
+        && copy.entry_at(&head, key) == catalogue.entry_at(&head, key)
+}
+
+/// Whether a copy of a catalogue is the same, as far as this key tells.
+fn is_copied<R: Abort>(rt: &R, alloc: Global, catalogue: &Catalogue, path: &str) -> bool {
+    let (Ok(copy), Ok(key)) = (catalogue.copy(alloc), ContentKey::parse_path(alloc, path)) else {
+        panic!(rt; "there is memory");
+    };
+    let is_so = is_same(catalogue, &copy, &key);
+    drop(copy);
+    is_so
+}
+
+/// What a view counts that is held while a branch is made, what the store counts after, and whether
+/// the view's catalogue was copied.
+fn held<R: Abort>(
+    rt: &R,
+    alloc: Global,
+    store: &mut Store<MemKeeper>,
+    drafted: &Command,
+    created: &Command,
+) -> (Counts, Counts, bool)
+    requires drafted { IsTrue (is_well_made sha256 drafted.now) }
+    requires created { IsTrue (is_well_made sha256 created.now) }
+{
+    let Command::Commit(_) = drafted else {
+        panic!(rt; "it is a commit");
+    };
+    let Ok((draft, view)) = store.open_draft(alloc, 1, drafted) else {
+        panic!(rt; "a draft is opened");
+    };
+    store.drop_draft(draft);
+    let Command::Create(_) = created else {
+        panic!(rt; "it makes a reference");
+    };
+    drop(store.refer(alloc, 2, Moment::from_micros(1_000_000), created));
+    let is_copied = is_copied(rt, alloc, view.catalogue(), "t1");
+    (view.catalogue().counts(), store.counts(), is_copied)
+}
+
+/// What a catalogue counts that has the first commit and so many entries and references.
+fn counted(place: u32, references: u64) -> Option<Counts> {
+    Some(Counts {
+        place,
+        references,
+        commits: 1,
+        contents: 1,
+        keys: 1,
+        head: Hash::parse(FIRST)?,
+    })
+}
+
+#[test]
+fn a_view_stays_as_it_is_while_the_catalogue_is_changed(rt: HostRuntime) {
+    let alloc = rt.alloc();
+    let drafted = change(&rt, alloc, PUT_T2);
+    let created = change(&rt, alloc, CREATE_DEV);
+    let mut store = committed(&rt, alloc);
+    let (viewed, left, is_copied) = held(&rt, alloc, &mut store, &drafted, &created);
+    drop(store);
+    assert!(rt; is_copied);
+    assert!(rt; Some(viewed) == counted(1, 1));
+    assert!(rt; Some(left) == counted(2, 2));
+}
