@@ -18,7 +18,7 @@ refuse_desk() {
     status=0
     refused=0
     said=
-    cd "$crates/cat_desk" || exit 70
+    cd "$crates/cat_tests" || exit 70
     while [ "$said" != "the desk was made" ] && [ "$n" -le 100000 ]; do
         out=$(rt try --test --fail-alloc "$n" 2>&1)
         line=$(printf '%s\n' "$out" | sed -n "/^test $name /{s/.* //;p;q;}")
