@@ -3,7 +3,8 @@
 //! has its proof.
 
 use cat_codes::fault::{FieldFault, NoMemory};
-use cat_commit::{CommitMetaForm, id};
+use cat_commit::{CommitMetaForm, MetaForm, id};
+use cat_json::read::from_bytes;
 use cat_json::write::to_text;
 use cat_model::commit::Commit;
 use cat_names::hash::Hash;
@@ -77,6 +78,38 @@ fn a_commit_has_its_bytes_and_is_told_under_their_hash(rt: HostRuntime) {
     assert!(&rt; fault_of(alloc, b"NC1") == Some(FieldFault::Short));
 }
 
+/// Whether the meta that is read of a text is told so.
+fn is_meta_told(alloc: Global, text: &[u8], want: &str) -> bool {
+    let Ok(meta) = from_bytes::<MetaForm>(alloc, text) else {
+        return false;
+    };
+    let told = to_text::<MetaForm>(alloc, &meta);
+    drop(meta);
+    match told {
+        Ok(told) => told.as_str() == want,
+        Err(_) => false,
+    }
+}
+
+/// Whether a number is written so.
+fn is_number(alloc: Global, number: u64, want: &str) -> bool {
+    match to_text::<u64>(alloc, &number) {
+        Ok(text) => text.as_str() == want,
+        Err(_) => false,
+    }
+}
+
+#[test]
+fn a_meta_and_great_numbers_are_read_and_written(rt: HostRuntime) {
+    let alloc = rt.alloc();
+    assert!(&rt; is_meta_told(alloc, META, META_TEXT));
+    assert!(&rt; is_number(alloc, 18_446_744_073_709_551_615, "18446744073709551615"));
+    let read = from_bytes::<u64>(alloc, b"18446744073709551615");
+    assert!(&rt; read == Ok(18_446_744_073_709_551_615));
+    assert!(&rt; from_bytes::<u32>(alloc, b"4294967295") == Ok(4_294_967_295));
+    assert!(&rt; from_bytes::<u32>(alloc, b"4294967296").is_err());
+}
+
 /// Whether the content of these bytes is written as they are.
 fn is_content(alloc: Global, bytes: &[u8]) -> bool {
     let Ok(content) = cat_content::from_bytes(alloc, bytes) else {
@@ -148,3 +181,9 @@ const MERGE: &[u8] =
 // with the SHA-256 of the bytes above
 const MERGE_TEXT: &str =
     r#"{"allProperties":{},"allSignedOffBy":[],"authorTime":"1970-01-01T00:00:00.000005Z","authors":["a"],"commitTime":"1970-01-01T00:00:02.000000Z","hash":"96be1ec11cd836af5aaca993eca4b19ff86dbc5dd6036024adb3dbbf49ab97f7","message":"two","parentCommitHashes":["2e1cfa82b035c26cbbbdae632cea070514eb8b773f616aaeaf668e2f0be8f10d","000102030405060708090a0b0c0d0e0f101112131415161718191a1b1c1d1e1f"]}"#;
+
+const META: &[u8] =
+    br#"{"message":"m","authors":["a"],"allSignedOffBy":null,"allProperties":{"q":[],"p":["1","2"]},"authorTime":"2024-02-03T04:05:06.1234567Z"}"#;
+
+const META_TEXT: &str =
+    r#"{"allProperties":{"p":["1","2"],"q":[]},"allSignedOffBy":[],"authorTime":"2024-02-03T04:05:06.123456Z","authors":["a"],"message":"m"}"#;
