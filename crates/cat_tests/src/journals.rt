@@ -76,10 +76,12 @@ fn holds<K: Keeper>(alloc: Global, keeper: &mut K, i: u32, payload: &[u8]) -> bo
 
 /// Whether these are the payloads.
 fn holds_all<K: Keeper>(alloc: Global, keeper: &mut K, payloads: &[&[u8]]) -> bool {
-    for (i, payload) in payloads.iter().enumerate() {
-        if !holds(alloc, keeper, i as u32, payload) {
+    let mut place = 0u32;
+    for payload in payloads {
+        if !holds(alloc, keeper, place, payload) {
             return false;
         }
+        place = place.wrapping_add(1);
     }
     keeper.count() as usize == payloads.len()
 }
