@@ -9,11 +9,12 @@ use Rattle.std.specs.Io.KnownBytes.{IsAtEnd}
 use Rattle.httparse.specs.Grammar.{ChunkLine, IsChunkLine, chunk_size, print_chunk_line, HasNoChunkLine, NeverHasChunkLine, MayBecomeChunkLine}
 use Rattle.httparse.specs.Spans.{IsChunkLineAt}
 use Rattle.cat_http.specs.Streams.{KeepsStream}
+use Rattle.cat_http.specs.Chunked.{chunks_then}
 use Rattle.cat_http.specs.ChunkedRead.{StandsBehind, StandsBehindOf, AnswerIs, AnswerOf}
 use Rattle.cat_http.specs.declared.chunked.ChunkedRead.{ChunkedRead}
 use Rattle.cat_http.specs.declared.chunked.ChunkedRead.TheVariants as answer
 use Rattle.cat_http.proofs.StreamLemmas.{range_same}
-use Rattle.cat_http.proofs.ChunkSteps.{stream_len, line_refused, line_cut, line_unfinished, sum_large, ends_whole, one_more, data_unfinished, data_cut, no_cr, no_lf}
+use Rattle.cat_http.proofs.ChunkSteps.{stream_len, stands_in, cut_off, line_refused, line_cut, line_unfinished, sum_large, ends_whole, one_more, data_unfinished, data_cut, no_cr, no_lf}
 
 -- a front that stays while more is read
 pub front_kept : (a b c : List ℕ) (s e : ℕ) → s ≤ e → take e c ≡ take e b → take s b ≡ take s a → take s c ≡ take s a
@@ -138,6 +139,15 @@ module _ (old new : Option (List ℕ)) (given b : List ℕ) (start kept at e lim
       line_cut stream body (slice_range b at e ++ ys) (at - start) s few
       (omega (arith, stream_len stream body (slice_range b at e ++ ys) (at - start) s few, mid_len ys, ap length nothing)) (subst HasNoChunkLine (sym all) none))
 
+  -- a read failed before there was a line
+  pub line_lacks_answer : e ≤ limit → HasNoChunkLine (slice_range b at e) → AnswerOf answer.Fault old new given b start e
+  line_lacks_answer short none = answer_from answer.Fault old new given b body (slice_range b at e) (at - start) start e stands (λ stream ys told s.
+      let mid = slice_range b at e in
+      let here = stands_in stream body (mid ++ ys) (at - start) s few mid in
+      cut_off stream body (mid ++ ys) (at - start) s few mid ys refl
+      (line_cut (chunks_then s.chunks mid) body mid (at - start) here few
+      (omega (arith, stream_len (chunks_then s.chunks mid) body mid (at - start) here few, slice_len b at e before within)) none))
+
   pub line_unfinished_answer : limit < e → MayBecomeChunkLine (slice_range b at limit) → AnswerOf answer.TooLarge old new given b start e
   line_unfinished_answer long may = answer_from answer.TooLarge old new given b body (slice_range b at e) (at - start) start e stands (λ stream ys told s.
       line_unfinished stream body (slice_range b at e ++ ys) (at - start) s few (slice_range b at limit) (slice_range b limit e ++ ys)
@@ -179,6 +189,18 @@ module _ (old new : Option (List ℕ)) (given b : List ℕ) (start kept at e lim
           let nothing : ys ≡ [] = at_end new ys told end in
           data_cut stream body (slice_range b at e ++ ys) (at - start) s few l line (after ys) (mid_is ys) (omega (arith, body_len))
           (omega (arith, total stream ys s, ap length nothing)) (omega (arith, after_len ys, ap length nothing)))
+
+      -- a read failed before there was all of it
+      pub data_lacks_answer : e < begins + n + 2 → e ≤ limit → AnswerOf answer.Fault old new given b start e
+      data_lacks_answer lacks short = answer_from answer.Fault old new given b body (slice_range b at e) (at - start) start e stands (λ stream ys told s.
+          let mid = slice_range b at e in
+          let back = slice_range b begins e in
+          let came = stands_in stream body (mid ++ ys) (at - start) s few mid in
+          let is : mid ≡ print_chunk_line l ++ back = slice_split b at begins e (omega arith) inside ∙ ap (λ t. t ++ back) here in
+          cut_off stream body (mid ++ ys) (at - start) s few mid ys refl
+          (data_cut (chunks_then s.chunks mid) body mid (at - start) came few l line back is (omega (arith, body_len))
+          (omega (arith, stream_len (chunks_then s.chunks mid) body mid (at - start) came few, slice_len b at e before within))
+          (omega (arith, slice_len b begins e inside within))))
 
       pub end_refused_answer : (stop : ℕ) → stop ≡ begins + n → ((stop < e) × (stop < limit) × (get_or b stop 0 ≢ 13)) ⊎ ((stop + 1 < e) × (stop + 1 < limit) × (get_or b (stop + 1) 0 ≢ 10))
           → AnswerOf answer.Malformed old new given b start e

@@ -7,7 +7,7 @@ use Rattle.std.proofs.lemmas.List.{take_at, take-take, take-append-drop, take-ap
 use Rattle.httparse.specs.Grammar.{ChunkLine, IsChunkLine, chunk_size, print_chunk_line, HasNoChunkLine, NeverHasChunkLine, MayBecomeChunkLine}
 use Rattle.httparse.proofs.ChunkLemmas.{chunk_line_unique}
 use Rattle.cat_http.specs.Chunked.{Chunk, IsChunk, AreChunks, chunks_then, content_of, ReadsChunked, IsChunkedBody, IsUnfinished, IsLargeChunked, IsBadChunked}
-use Rattle.cat_http.specs.ChunkedRead.{StandsBehind}
+use Rattle.cat_http.specs.ChunkedRead.{StandsBehind, IsCutChunked}
 use Rattle.cat_http.proofs.StreamLemmas.{take_past}
 use Rattle.cat_http.proofs.HeadLemmas.{one}
 use Rattle.cat_http.proofs.ChunkLemmas.{chunks_split, Follows, Item, bad_at_end, bad_before}
@@ -59,6 +59,18 @@ module _ (stream body mid : List ℕ) (raw : ℕ) (s : StandsBehind stream body 
 
   pub stream_len : length stream ≡ raw + length mid
   stream_len = omega (arith, ap length all_is, length-append front mid, s.count)
+
+  -- the same for what came of the stream
+  pub stands_in : (seen : List ℕ) → StandsBehind (chunks_then s.chunks seen) body seen raw
+  stands_in seen = record { chunks = s.chunks; are = s.are; printed = refl; carried = s.carried; count = s.count }
+
+  -- behind which nothing was read
+  pub cut_off : (seen back : List ℕ) → mid ≡ seen ++ back → IsBadChunked (chunks_then s.chunks seen) → IsCutChunked stream back
+  cut_off seen back is bad = record {
+    came = chunks_then s.chunks seen;
+    split = all_is ∙ ap (λ t. front ++ t) is ∙ sym (append_assoc front seen back) ∙ ap (λ t. t ++ back) (sym (chunks_split s.chunks seen));
+    bad = bad;
+  }
 
   -- no size line can begin so
   pub line_refused : (seen back : List ℕ) → raw + length seen ≤ 2097152 → mid ≡ seen ++ back → NeverHasChunkLine seen → IsBadChunked stream

@@ -59,7 +59,7 @@ refused_not_blank seen more none (ends, e) =
     omega arith
 
 -- a front that is in the stream is in the bytes that were seen
-front_seen : (seen more front rest : List ℕ) (n : ℕ) → n ≤ length seen → length front ≤ n → seen ++ more ≡ front ++ rest
+pub front_seen : (seen more front rest : List ℕ) (n : ℕ) → n ≤ length seen → length front ≤ n → seen ++ more ≡ front ++ rest
     → take n seen ≡ front ++ take (n - length front) rest
 front_seen seen more front rest n fits short is =
     let total : length seen + length more ≡ length front + length rest =

@@ -1,5 +1,6 @@
 pub mod BlankLemmas
 pub mod HeadLemmas
+pub mod LineLemmas
 pub mod StreamLemmas
 pub mod NumberLemmas
 pub mod NextLemmas

@@ -11,10 +11,10 @@ use Rattle.httparse.specs.declared.spans.HeaderSpan.{HeaderSpan}
 use Rattle.httparse.specs.declared.spans.RequestSpans.{RequestSpans}
 use Rattle.httparse.proofs.GrammarLemmas.{ReadsRequest-append}
 use Rattle.cat_http.proofs.StreamLemmas.{range_same}
-use Rattle.cat_http.proofs.OneWay.{kind_one}
+use Rattle.cat_http.proofs.OneWay.{kind_one, request_malformed, malformed_large}
 use Rattle.cat_http.specs.Message.{message_at}
 use Rattle.cat_http.specs.Fields.{body_length}
-use Rattle.cat_http.specs.Next.{fields_of, IsHead, IsRequest, HoldsRequest, IsTooLarge, IsMalformed, IsBody, IsBadBody, IsLargeBody}
+use Rattle.cat_http.specs.Next.{fields_of, IsHead, IsRequest, HoldsRequest, IsTooLarge, IsCut, IsMalformed, HasNoHead, IsBody, IsBadBody, IsLargeBody}
 use Rattle.cat_http.specs.Chunked.{ReadsChunked, IsChunkedBody, IsLargeChunked, IsBadChunked}
 use Rattle.cat_http.specs.ChunkedRead.{AnswerOf, HoldsChunks}
 use Rattle.cat_http.specs.Streams.{KeepsStream}
@@ -112,6 +112,18 @@ module _ (seen : List ℕ) (hs : List HeaderSpan) (r : RequestSpans) (f : FoundH
 pub head_held : (bytes : List ℕ) → HoldsRequest bytes → HoldsHead bytes
 head_held bytes (m, rest, is) = (is.head, is.after, is.reads)
 
+-- a read failed before there was a head
+pub answer_cut_head : (old new : Option (List ℕ)) (given b : List ℕ) (hs : List HeaderSpan) (e : ℕ) → KeepsStream old new given (take e b) → HasNoHead (take e b)
+    → OutcomeOf outcome.Fault old new given b hs e
+answer_cut_head None new given b hs e stream none = tt
+answer_cut_head (Some xs) None given b hs e stream none = stream
+answer_cut_head (Some xs) (Some ys) given b hs e stream none = record {
+  came = take e b;
+  split = stream;
+  not_whole = λ held. none held.2.head held.2.after held.2.reads;
+  not_large = λ large. none large.0 large.1 large.2;
+}
+
 -- the head was read up to e
 module _ (given b : List ℕ) (e : ℕ) (hs : List HeaderSpan) (r : RequestSpans) (f : FoundHead (take e b) hs r) (slots : length hs ≤ 64) (fits : IsRequestWithin (take e b) hs r)
     (kind : BodyLength) (says : kind ≡ body_length (map (header_bytes (take e b)) (take r.headers hs))) where
@@ -141,6 +153,21 @@ module _ (given b : List ℕ) (e : ℕ) (hs : List HeaderSpan) (r : RequestSpans
   answer_large (Some xs) None stream is = stream
   answer_large (Some xs) (Some m) stream is =
       subst IsTooLarge (sym stream) (large_body (take e b) hs r f slots fits kind says m (subst (λ k. IsLargeBody k (drop r.len (take e b) ++ m)) (sym is) tt))
+
+  -- what came behind it is no whole body
+  cut_behind : (m came ys : List ℕ) → drop r.len (take e b) ++ m ≡ came ++ ys → IsBadBody kind came → IsCut (take e b ++ m) ys
+  cut_behind m came ys stream bad =
+      let front = print_request f.head in
+      let here = head_is (take e b) hs r f slots m in
+      let is : IsHead (front ++ came) f.head came = record { reads = (here.reads.0, refl); short = here.short; few = here.few } in
+      let malformed : IsMalformed (front ++ came) =
+      inr (f.head, came, is, subst (λ k. IsBadBody k came) (kind_is (take e b) hs r f slots fits kind says) bad) in
+      record {
+        came = front ++ came;
+        split = here.reads.1 ∙ ap (λ s. front ++ s) stream ∙ sym (append_assoc front came ys);
+        not_whole = λ held. request_malformed (front ++ came) held.0 held.1 held.2 malformed;
+        not_large = λ large. malformed_large (front ++ came) malformed large;
+      }
 
   -- more was read behind it, and the head was left
   module _ (b' : List ℕ) (e' : ℕ) (had : e ≤ length b) (front : take r.len b' ≡ take r.len b) where
@@ -209,6 +236,16 @@ module _ (given b : List ℕ) (e : ℕ) (hs : List HeaderSpan) (r : RequestSpans
           subst IsMalformed (sym before)
           (bad_body (take e b) hs r f slots fits kind says m (subst (λ k. IsBadBody k (drop r.len (take e b) ++ m)) (sym is) few))
 
+      pub answer_cut : (old mid new : Option (List ℕ)) → KeepsStream old mid given (take e b) → KeepsStream mid new (take e b) (take e' b') → e' < r.len + count
+          → OutcomeOf outcome.Fault old new given b' hs e'
+      answer_cut None mid new before stream short = tt
+      answer_cut (Some xs) None new before stream short = absurd before
+      answer_cut (Some xs) (Some m) None before stream short = stream
+      answer_cut (Some xs) (Some m) (Some ys) before stream short =
+          let came = drop r.len (take e' b') in
+          let few : length came < count = omega (arith, length-drop r.len (take e' b'), length-take-le e' b' has, len_in) in
+          subst (λ s. IsCut s ys) (sym before) (cut_behind m came ys (after_is m ys stream) (subst (λ k. IsBadBody k came) (sym is) few))
+
     module _ (is : kind ≡ size.Chunked) where
       -- the chunks begin behind the head
       chunks_at : (m : List ℕ) → slice_range b r.len e ++ m ≡ drop r.len (take e b) ++ m
@@ -244,6 +281,15 @@ module _ (given b : List ℕ) (e : ℕ) (hs : List HeaderSpan) (r : RequestSpans
       answer_large_chunks (Some xs) (Some m) (Some ys) before answer =
           subst IsTooLarge (sym before)
           (large_body (take e b) hs r f slots fits kind says m (subst (λ k. IsLargeBody k (drop r.len (take e b) ++ m)) (sym is) (subst IsLargeChunked (chunks_at m) answer)))
+
+      pub answer_cut_chunks : (old mid new : Option (List ℕ)) → KeepsStream old mid given (take e b) → AnswerOf read.Fault mid new (slice_range b r.len e) b' r.len e'
+          → OutcomeOf outcome.Fault old new given b' hs e'
+      answer_cut_chunks None mid new before answer = tt
+      answer_cut_chunks (Some xs) None new before answer = absurd before
+      answer_cut_chunks (Some xs) (Some m) None before answer = answer
+      answer_cut_chunks (Some xs) (Some m) (Some ys) before answer =
+          subst (λ s. IsCut s ys) (sym before)
+          (cut_behind m answer.came ys (sym (chunks_at m) ∙ answer.split) (subst (λ k. IsBadBody k answer.came) (sym is) answer.bad))
 
 -- a request within the first bytes is the same there
 pub message_front : (bytes : List ℕ) (hs : List HeaderSpan) (r : RequestSpans) (stop : ℕ) → stop ≤ length bytes → IsRequestWithin (take stop bytes) hs r

@@ -65,7 +65,7 @@ request_one bytes m n r q x y =
     same_message : (m n : Message) → m.method ≡ n.method → m.target ≡ n.target → m.minor ≡ n.minor → m.fields ≡ n.fields → m.body ≡ n.body → m ≡ n
     same_message m n a b c d e = λ i. record { method = a i; target = b i; minor = c i; fields = d i; body = e i }
 
-request_malformed : (bytes : List ℕ) (m : Message) (r : List ℕ) → IsRequest bytes m r → IsMalformed bytes → ⊥
+pub request_malformed : (bytes : List ℕ) (m : Message) (r : List ℕ) → IsRequest bytes m r → IsMalformed bytes → ⊥
 request_malformed bytes m r x (inl y) = y.0 x.head x.after x.reads
 request_malformed bytes m r x (inr (h, after, is, bad)) =
     body_bad (body_length (fields_of x.head)) x.after m.body r x.body (kind_one IsBadBody bytes x.head h x.after after x.reads is bad)
@@ -81,7 +81,7 @@ end_malformed bytes e (inr (h, after, is, bad)) = end_no_head bytes h after e is
 end_large : (bytes : List ℕ) → IsEnd bytes → IsTooLarge bytes → ⊥
 end_large bytes e (h, after, is, large) = end_no_head bytes h after e is
 
-malformed_large : (bytes : List ℕ) → IsMalformed bytes → IsTooLarge bytes → ⊥
+pub malformed_large : (bytes : List ℕ) → IsMalformed bytes → IsTooLarge bytes → ⊥
 malformed_large bytes (inl y) (k, rest, is, large) = y.0 k rest is
 malformed_large bytes (inr (h, after, x, bad)) (k, rest, is, large) =
     bad_large (body_length (fields_of h)) after bad (kind_one IsLargeBody bytes h k after rest x is large)

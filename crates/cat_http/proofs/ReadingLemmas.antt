@@ -6,7 +6,7 @@ use Rattle.std.proofs.lemmas.List.{take_at, length-take-le}
 use Rattle.httparse.specs.declared.spans.HeaderSpan.{HeaderSpan}
 use Rattle.httparse.specs.declared.spans.RequestSpans.{RequestSpans}
 use Rattle.cat_http.specs.Message.{Buffered, message_at}
-use Rattle.cat_http.specs.Next.{IsRequest, IsMalformed}
+use Rattle.cat_http.specs.Next.{IsRequest, IsMalformed, IsCut}
 use Rattle.cat_http.specs.Outcome.{OutcomeOf}
 use Rattle.cat_http.specs.Reading.{IncomingOf}
 use Rattle.cat_http.specs.declared.next.Outcome.TheVariants as outcome
@@ -35,6 +35,12 @@ pub incoming_malformed : (old new : Option (List ℕ)) (before now : Buffered) (
 incoming_malformed None new before now seen bytes hs end same is = tt
 incoming_malformed (Some xs) None before now seen bytes hs end same is = is
 incoming_malformed (Some xs) (Some ys) before now seen bytes hs end same is = subst (λ s. IsMalformed (s ++ xs)) same is
+
+pub incoming_fault : (old new : Option (List ℕ)) (before now : Buffered) (seen bytes : List ℕ) (hs : List HeaderSpan) (end : ℕ)
+    → seen ≡ before.unread → OutcomeOf outcome.Fault old new seen bytes hs end → IncomingOf incoming.ReadFault old before new now
+incoming_fault None new before now seen bytes hs end same is = tt
+incoming_fault (Some xs) None before now seen bytes hs end same is = is
+incoming_fault (Some xs) (Some ys) before now seen bytes hs end same is = subst (λ s. IsCut (s ++ xs) ys) same is
 
 -- the unread bytes stand at the front
 pub compacted : (items first new second unread : List ℕ) (i j len : ℕ) → i ≤ j → j ≤ length items → len ≡ length items → first ≡ items

@@ -25,12 +25,18 @@ StandsBehindOf None new given body unread raw = ⊤
 StandsBehindOf (Some xs) None given body unread raw = ⊥
 StandsBehindOf (Some xs) (Some ys) given body unread raw = StandsBehind (given ++ xs) body (unread ++ ys) raw
 
+-- the stream was read up to left, and what came of it is no body in chunks, nor one that is too large
+pub record IsCutChunked (stream left : List ℕ) : Type 0 where
+  pub came : List ℕ
+  pub split : stream ≡ came ++ left
+  pub bad : IsBadChunked came
+
 -- what the bytes of the stream come to
 abbrev pub AnswerIs : ChunkedRead → List ℕ → ℕ → ℕ → List ℕ → List ℕ → Type 0
 AnswerIs (Whole kept at) bytes start end stream left = IsChunkedBody stream (slice_range bytes start (start + kept)) (slice_range bytes at end ++ left)
 AnswerIs Malformed bytes start end stream left = IsBadChunked stream
 AnswerIs TooLarge bytes start end stream left = IsLargeChunked stream
-AnswerIs Fault bytes start end stream left = ⊤
+AnswerIs Fault bytes start end stream left = IsCutChunked stream left
 
 abbrev pub AnswerOf : ChunkedRead → Option (List ℕ) → Option (List ℕ) → List ℕ → List ℕ → ℕ → ℕ → Type 0
 AnswerOf answer None new given bytes start end = ⊤
@@ -58,7 +64,7 @@ SizeIs (size.Found len n) bytes at end limit left = (at + len ≤ min end limit)
 SizeIs size.Cut bytes at end limit left = IsAtEnd left × (end ≤ limit) × HasNoChunkLine (slice_range bytes at end)
 SizeIs size.Malformed bytes at end limit left = NeverHasChunkLine (slice_range bytes at (min end limit))
 SizeIs size.TooLarge bytes at end limit left = (limit < end) × MayBecomeChunkLine (slice_range bytes at limit)
-SizeIs size.Fault bytes at end limit left = ⊤
+SizeIs size.Fault bytes at end limit left = (end ≤ limit) × HasNoChunkLine (slice_range bytes at end)
 
 -- what reading CR LF at a place found
 abbrev pub EndIs : EndRead → List ℕ → ℕ → ℕ → ℕ → Option (List ℕ) → Type 0
@@ -67,4 +73,4 @@ EndIs ending.Cut bytes at end limit left = IsAtEnd left × (end < at + 2) × (en
 EndIs ending.Malformed bytes at end limit left =
     ((at < end) × (at < limit) × (get_or bytes at 0 ≢ 13)) ⊎ ((at + 1 < end) × (at + 1 < limit) × (get_or bytes (at + 1) 0 ≢ 10))
 EndIs ending.TooLarge bytes at end limit left = (limit < end) × (limit < at + 2) × (at < limit → get_or bytes at 0 ≡ 13)
-EndIs ending.Fault bytes at end limit left = ⊤
+EndIs ending.Fault bytes at end limit left = (end < at + 2) × (end ≤ limit)

@@ -4,6 +4,7 @@ pub mod Chunked
 pub mod ChunkedRead
 pub mod Fields
 pub mod Head
+pub mod Lines
 pub mod Message
 pub mod Next
 pub mod Outcome

@@ -68,6 +68,13 @@ HoldsRequest bytes = (m : Message) × (rest : List ℕ) × IsRequest bytes m res
 abbrev pub IsTooLarge : List ℕ → Type 0
 IsTooLarge bytes = (h : RequestHead) × (after : List ℕ) × IsHead bytes h after × IsLargeBody (body_length (fields_of h)) after
 
+-- the stream was read up to left, and what came of it is no whole request, nor the head of one that is too large
+pub record IsCut (stream left : List ℕ) : Type 0 where
+  pub came : List ℕ
+  pub split : stream ≡ came ++ left
+  pub not_whole : ¬ (HoldsRequest came)
+  pub not_large : ¬ (IsTooLarge came)
+
 -- a head whose body is malformed or cut, or has no length
 abbrev pub HasBadBody : List ℕ → Type 0
 HasBadBody bytes = (h : RequestHead) × (after : List ℕ) × IsHead bytes h after × IsBadBody (body_length (fields_of h)) after

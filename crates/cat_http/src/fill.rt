@@ -1,7 +1,8 @@
-ghost use Rattle.std.specs.Prelude.{◌≡◌, ◌≢◌, ◌<◌, ◌≤◌, length, take};
+ghost use Rattle.std.specs.Prelude.{◌≡◌, ◌≢◌, ◌<◌, ◌≤◌, false, length, slice_range, take};
 ghost use Rattle.cat_io.specs.Causes.{Rose};
 ghost use Rattle.std.specs.Io.KnownBytes.{IsAtEnd};
 ghost use Rattle.cat_http.specs.Streams.{KeepsStream};
+ghost use Rattle.cat_http.specs.Lines.{has_line_feed};
 
 use cat_io::Source;
 
@@ -23,6 +24,7 @@ pub fn fill<S: Source>(source: &mut S, bytes: &mut [u8], end: &mut usize) -> Fil
     ensures fault { result ≡ Filled.Fault → Rose (S.faults source.old) (S.faults source.new) }
     ensures later { S.faults source.old ≤ S.faults source.new }
     ensures stays { result ≢ Filled.Fault → S.faults source.new ≡ S.faults source.old }
+    ensures cut { result ≡ Filled.Fault → end.new ≡ end.old }
     ensures front { take end.old bytes.new ≡ take end.old bytes.old }
     ensures stream { KeepsStream (S.left source.old) (S.left source.new) (take end.old bytes.old) (take end.new bytes.new) }
 {
@@ -52,6 +54,7 @@ pub fn read_until<S: Source>(
     ensures fault { result ≡ Filled.Fault → Rose (S.faults source.old) (S.faults source.new) }
     ensures later { S.faults source.old ≤ S.faults source.new }
     ensures stays { result ≢ Filled.Fault → S.faults source.new ≡ S.faults source.old }
+    ensures cut { result ≡ Filled.Fault → end.new < need }
     ensures front { take end.old bytes.new ≡ take end.old bytes.old }
     ensures waits { need ≤ end.old → (source.new ≡ source.old) × (end.new ≡ end.old) × (bytes.new ≡ bytes.old) }
     ensures stream { KeepsStream (S.left source.old) (S.left source.new) (take end.old bytes.old) (take end.new bytes.new) }
@@ -82,6 +85,7 @@ pub fn fill_line<S: Source>(
     ensures fault { result ≡ Filled.Fault → Rose (S.faults source.old) (S.faults source.new) }
     ensures later { S.faults source.old ≤ S.faults source.new }
     ensures stays { result ≢ Filled.Fault → S.faults source.new ≡ S.faults source.old }
+    ensures cut { result ≡ Filled.Fault → (end.new ≤ limit) × (has_line_feed (slice_range bytes.new end.old end.new) ≡ false) }
     ensures front { take end.old bytes.new ≡ take end.old bytes.old }
     ensures stream { KeepsStream (S.left source.old) (S.left source.new) (take end.old bytes.old) (take end.new bytes.new) }
 {
@@ -99,6 +103,8 @@ pub fn fill_line<S: Source>(
     }
 }
 
-fn has_line_feed(bytes: &[u8]) -> bool {
+fn has_line_feed(bytes: &[u8]) -> bool
+    ensures { result ≡ has_line_feed bytes.now }
+{
     bytes.contains(&b'\n')
 }

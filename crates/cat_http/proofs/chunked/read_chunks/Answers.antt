@@ -1,7 +1,7 @@
 use Rattle.std.proofs.Common.{arith, refl, ap, drop, sym, subst, ◌+◌, ◌-◌, ◌∙◌}
 use Rattle.std.specs.Prelude.{slice_range}
 use Rattle.cat_http.specs.ChunkedRead.{HoldsChunks}
-use Rattle.cat_http.proofs.ChunkBuffer.{back_kept, stands_grow, stands_again, front_kept, line_here, line_refused_answer, line_cut_answer, line_unfinished_answer, sum_answer, data_unfinished_answer, data_cut_answer, end_refused_answer, whole_answer, front_moved, stands_moved}
+use Rattle.cat_http.proofs.ChunkBuffer.{back_kept, stands_grow, stands_again, front_kept, line_here, line_refused_answer, line_cut_answer, line_lacks_answer, line_unfinished_answer, sum_answer, data_unfinished_answer, data_cut_answer, data_lacks_answer, end_refused_answer, whole_answer, front_moved, stands_moved}
 use Rattle.cat_http.proofs.HeldLemmas.{held_again, line_held, data_held, others_held}
 use Rattle.cat_http.proofs.chunked.read_chunks.Goals as goal
 
@@ -44,6 +44,14 @@ returns-in-TooLarge-clause-answer g c =
 pub returns-in-Fault-clause-front : goal.returns-in-Fault-clause-front
 returns-in-Fault-clause-front g c =
     front_kept c.args.bytes.now c.chunks.bytes c.read_size_line.new.bytes c.args.start c.chunks.end (omega (arith, c.chunks.invariant.order, c.chunks.invariant.before)) c.in-Fault.ensures.front c.chunks.invariant.front
+
+pub returns-in-Fault-clause-answer : goal.returns-in-Fault-clause-answer
+returns-in-Fault-clause-answer g c =
+    line_lacks_answer _ _ _ c.read_size_line.new.bytes c.args.start c.chunks.kept c.chunks.at c.read_size_line.new.end (c.args.start + 2097152) refl
+    c.chunks.invariant.order (omega (arith, c.chunks.invariant.before, c.in-Fault.ensures.grows)) c.in-Fault.ensures.within c.chunks.invariant.small c.chunks.invariant.limit
+    (stands_grow _ _ _ _ c.chunks.bytes c.read_size_line.new.bytes c.args.start (c.args.start + c.chunks.kept) (c.chunks.at - c.args.start) c.chunks.at c.chunks.end c.read_size_line.new.end
+    c.chunks.invariant.before c.in-Fault.ensures.grows c.chunks.invariant.within c.in-Fault.ensures.within c.chunks.invariant.order c.in-Fault.ensures.front c.in-Fault.ensures.stream c.chunks.invariant.stream)
+    c.in-Fault.ensures.is.0 c.in-Fault.ensures.is.1
 
 pub returns-then-size-kept-clause-front : goal.returns-then-size-kept-clause-front
 returns-then-size-kept-clause-front g c =
@@ -119,6 +127,18 @@ returns-in-Fault-read_chunk_end-clause-front g c =
     front_kept c.args.bytes.now c.read_size_line.new.bytes c.read_chunk_end.new.bytes c.args.start c.read_size_line.new.end
     (omega (arith, c.chunks.invariant.order, c.chunks.invariant.before, c.in-Found.ensures.grows)) c.in-Fault-read_chunk_end.ensures.front
     (front_kept c.args.bytes.now c.chunks.bytes c.read_size_line.new.bytes c.args.start c.chunks.end (omega (arith, c.chunks.invariant.order, c.chunks.invariant.before)) c.in-Found.ensures.front c.chunks.invariant.front)
+
+pub returns-in-Fault-read_chunk_end-clause-answer : goal.returns-in-Fault-read_chunk_end-clause-answer
+returns-in-Fault-read_chunk_end-clause-answer g c =
+    data_lacks_answer _ _ _ c.read_chunk_end.new.bytes c.args.start c.chunks.kept c.chunks.at c.read_chunk_end.new.end (c.args.start + 2097152) refl
+    c.chunks.invariant.order (omega (arith, c.chunks.invariant.before, c.in-Found.ensures.grows, c.in-Fault-read_chunk_end.ensures.grows)) c.in-Fault-read_chunk_end.ensures.within c.chunks.invariant.small c.chunks.invariant.limit
+    (stands_again _ _ _ _ _ c.chunks.bytes c.read_size_line.new.bytes c.read_chunk_end.new.bytes c.args.start c.chunks.kept c.chunks.at c.chunks.end c.read_size_line.new.end c.read_chunk_end.new.end
+    c.chunks.invariant.order c.chunks.invariant.before c.chunks.invariant.within c.in-Found.ensures.grows c.in-Found.ensures.within c.in-Found.ensures.front c.in-Found.ensures.stream
+    c.in-Fault-read_chunk_end.ensures.grows c.in-Fault-read_chunk_end.ensures.within c.in-Fault-read_chunk_end.ensures.front c.in-Fault-read_chunk_end.ensures.stream c.chunks.invariant.stream)
+    c.in-Found.ensures.is.1 c.in-Found.ensures.is.2.reads.0 c.in-Found.len c.in-Found.size (c.chunks.at + c.in-Found.len) refl c.in-Found.ensures.is.2.len_is c.in-Found.ensures.is.2.size_is
+    (line_here c.read_size_line.new.bytes c.read_chunk_end.new.bytes c.chunks.at c.in-Found.len c.in-Found.size _ c.read_size_line.new.end _ c.in-Found.ensures.is.2 c.in-Found.ensures.is.0 (omega arith) c.in-Fault-read_chunk_end.ensures.front)
+    (omega (arith, c.in-Found.ensures.is.0, c.in-Fault-read_chunk_end.ensures.grows)) (omega (arith, c.in-Found.ensures.is.0))
+    (omega (arith, c.if-size-kept.false, c.chunks.invariant.small)) c.in-Fault-read_chunk_end.ensures.is.0 c.in-Fault-read_chunk_end.ensures.is.1
 
 pub returns-then-size-eq0-clause-front : goal.returns-then-size-eq0-clause-front
 returns-then-size-eq0-clause-front g c =

@@ -1,5 +1,5 @@
 use Rattle.std.proofs.Common.{arith, refl, ap, ◌∙◌, take}
-use Rattle.cat_http.proofs.NextLemmas.{head_held, counted_held, chunked_held, answer_malformed, answer_large, answer_request, answer_short, answer_whole, answer_bad_chunks, answer_large_chunks, len_within, front_short}
+use Rattle.cat_http.proofs.NextLemmas.{head_held, counted_held, chunked_held, answer_malformed, answer_large, answer_request, answer_short, answer_whole, answer_bad_chunks, answer_large_chunks, answer_cut_head, answer_cut, answer_cut_chunks, len_within, front_short}
 use Rattle.cat_http.proofs.next.read_next.Goals as goal
 
 pub returns-in-Malformed-body_length-clause-is : goal.returns-in-Malformed-body_length-clause-is
@@ -31,6 +31,19 @@ returns-in-Malformed-read_chunks-clause-is g c =
 pub returns-in-TooLarge-clause-is : goal.returns-in-TooLarge-clause-is
 returns-in-TooLarge-clause-is g c =
     answer_large_chunks (take c.args.end.now c.args.bytes.now) c.read_head.new.bytes c.read_head.new.end c.read_head.new.headers c.in-Found.head c.in-Found.ensures.found (omega arith) c.in-Found.ensures.found_within _ c.in-Chunked.ensures.value c.read_chunks.new.bytes c.read_chunks.new.end c.in-Found.ensures.within c.in-TooLarge.ensures.front refl _ _ _ c.in-Found.ensures.stream c.in-TooLarge.ensures.answer
+
+pub returns-in-Fault-clause-is : goal.returns-in-Fault-clause-is
+returns-in-Fault-clause-is g c =
+    answer_cut_head _ _ (take c.args.end.now c.args.bytes.now) c.read_head.new.bytes c.read_head.new.headers c.read_head.new.end c.in-Fault.ensures.stream (c.in-Fault.ensures.cut refl)
+
+pub returns-in-Fault-read_until-clause-is : goal.returns-in-Fault-read_until-clause-is
+returns-in-Fault-read_until-clause-is g c =
+    answer_cut (take c.args.end.now c.args.bytes.now) c.read_head.new.bytes c.read_head.new.end c.read_head.new.headers c.in-Found.head c.in-Found.ensures.found (omega arith) c.in-Found.ensures.found_within _ c.in-Bytes.ensures.value c.read_until.new.bytes c.read_until.new.end c.in-Found.ensures.within (front_short c.read_head.new.bytes c.read_until.new.bytes c.in-Found.head.len c.read_head.new.end (len_within c.read_head.new.bytes c.read_head.new.end c.read_head.new.headers c.in-Found.head c.in-Found.ensures.found_within) c.in-Fault-read_until.ensures.front)
+    c.in-Fault-read_until.ensures.grows c.in-Fault-read_until.ensures.within c.in-Bytes.count refl _ _ _ c.in-Found.ensures.stream c.in-Fault-read_until.ensures.stream (c.in-Fault-read_until.ensures.cut refl)
+
+pub returns-in-Fault-read_chunks-clause-is : goal.returns-in-Fault-read_chunks-clause-is
+returns-in-Fault-read_chunks-clause-is g c =
+    answer_cut_chunks (take c.args.end.now c.args.bytes.now) c.read_head.new.bytes c.read_head.new.end c.read_head.new.headers c.in-Found.head c.in-Found.ensures.found (omega arith) c.in-Found.ensures.found_within _ c.in-Chunked.ensures.value c.read_chunks.new.bytes c.read_chunks.new.end c.in-Found.ensures.within c.in-Fault-read_chunks.ensures.front refl _ _ _ c.in-Found.ensures.stream c.in-Fault-read_chunks.ensures.answer
 
 pub returns-in-Malformed-body_length-clause-waits : goal.returns-in-Malformed-body_length-clause-waits
 returns-in-Malformed-body_length-clause-waits g c held = (c.in-Found.ensures.waits (head_held (take c.args.end.now c.args.bytes.now) held)).0

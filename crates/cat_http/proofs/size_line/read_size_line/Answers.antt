@@ -3,7 +3,8 @@ use Rattle.std.specs.Prelude.{slice_range}
 use Rattle.httparse.specs.Grammar.{HasNoChunkLine}
 use Rattle.cat_http.specs.ChunkedRead.{HoldsLine}
 use Rattle.cat_http.proofs.StreamLemmas.{range_same, keeps_again}
-use Rattle.cat_http.proofs.ChunkBuffer.{front_kept}
+use Rattle.cat_http.proofs.ChunkBuffer.{front_kept, slice_split}
+use Rattle.cat_http.proofs.LineLemmas.{no_line_more}
 use Rattle.cat_http.proofs.size_line.read_size_line.Goals as goal
 
 pub reads-preserved : goal.reads-preserved
@@ -32,6 +33,18 @@ returns-in-End-clause-is g c =
     ∙ range_same c.reads.bytes c.fill_line.new.bytes c.reads.end c.args.at c.reads.end (sym c.in-End.ensures.front) (omega arith)
     ∙ ap (slice_range c.fill_line.new.bytes c.args.at) (sym ends.1) in
     (ends.0, omega (arith, ends.1, c.if-end-limit.false), subst HasNoChunkLine same none)
+
+pub returns-in-Fault-clause-is : goal.returns-in-Fault-clause-is
+returns-in-Fault-clause-is g c =
+    let cut = c.in-Fault.ensures.cut refl in
+    let none : HasNoChunkLine (slice_range c.reads.bytes c.args.at c.min-seen.result) = rw c.in-Ok-Partial.field-0-is at c.in-Ok-Partial.ensures.partial in
+    let same : slice_range c.reads.bytes c.args.at c.min-seen.result ≡ slice_range c.fill_line.new.bytes c.args.at c.reads.end =
+    ap (slice_range c.reads.bytes c.args.at) (omega (arith, c.if-end-limit.false))
+    ∙ range_same c.reads.bytes c.fill_line.new.bytes c.reads.end c.args.at c.reads.end (sym c.in-Fault.ensures.front) (omega arith) in (
+      cut.0,
+      subst HasNoChunkLine (sym (slice_split c.fill_line.new.bytes c.args.at c.reads.end c.fill_line.new.end (omega arith) c.in-Fault.ensures.grows))
+          (no_line_more (slice_range c.fill_line.new.bytes c.args.at c.reads.end) (slice_range c.fill_line.new.bytes c.reads.end c.fill_line.new.end) (subst HasNoChunkLine same none) cut.1),
+    )
 
 pub returns-in-End-clause-front : goal.returns-in-End-clause-front
 returns-in-End-clause-front g c =
