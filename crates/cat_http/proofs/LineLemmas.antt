@@ -1,10 +1,9 @@
 -- A size line ends in a line feed: where none came, no line did.
-use Rattle.std.proofs.Common.{arith, ◌≡◌, ℕ, ◌-◌, ◌<◌, ◌≤◌, Bool, true, false, List, [], ◌∷◌, ◌++◌, length, take, drop, sym, ap, ◌∙◌, refl, subst, append_assoc, length-append, inl, inr}
-use Rattle.std.specs.List.{list_any}
+use Rattle.std.proofs.Common.{arith, ◌≡◌, ℕ, ◌-◌, ◌≤◌, true, false, List, [], ◌∷◌, ◌++◌, length, take, drop, sym, ap, ◌∙◌, refl, append_assoc, length-append, inl, inr}
 use Rattle.std.proofs.lemmas.Bool.{cases_lt, or_from, or_parts}
 use Rattle.std.proofs.lemmas.List.{drop_at, drop-append-le, take_all}
 use Rattle.std.proofs.lemmas.List.Folds.{list_any-append}
-use Rattle.std.specs.Prelude.{◌||◌, ◌==◌, slice_range}
+use Rattle.std.specs.Prelude.{◌==◌, slice_range}
 use Rattle.httparse.specs.Grammar.{ChunkLine, print_chunk_line, print_extension, HasNoChunkLine}
 use Rattle.cat_http.specs.Lines.{has_line_feed}
 use Rattle.cat_http.proofs.ChunkBuffer.{slice_split}

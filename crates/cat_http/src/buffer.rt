@@ -85,12 +85,14 @@ pub enum Incoming {
     BadHead,
     /// The body has more than 1,048,576 bytes, or more than 2,097,152 raw bytes of chunks.
     TooLarge,
+    /// A read failed, and what had come by then is no whole request.
     ReadFault,
 }
 
 /// Reads the next request into the buffer. It takes no memory.
 pub fn read_request<S: Source>(source: &mut S, buffer: &mut Buffer) -> Incoming
-    // The answer is that of the bytes unread and the bytes left, in whatever pieces they come.
+    // The answer is that of the bytes unread and the bytes left, in whatever pieces they come. A read
+    // that fails leaves only a request that was cut: as any read may fail, none follows a whole one.
     ensures is { IncomingOf result (S.left source.old) buffer.old (S.left source.new) buffer.new }
     ensures ends { result ≡ Incoming.End → IsAtEnd (S.left source.new) }
     ensures fault { result ≡ Incoming.ReadFault → Rose (S.faults source.old) (S.faults source.new) }
