@@ -33,7 +33,7 @@ fn is_written(disk: &mut FileDisk) -> bool {
 
 #[test]
 fn a_file_keeps_its_bytes_when_it_is_opened_again(rt: HostRuntime) {
-    let mut folder = Folder::new(&rt);
+    let mut folder = Folder::new(&rt, rt.alloc());
     let path = "cat_tests.file";
     let Ok(mut disk) = folder.open(path) else {
         panic!(rt; "a file is opened");
@@ -91,7 +91,7 @@ fn ends_with<R: Threads + Wait + Sync + Abort, O: Disks>(
 #[test]
 fn a_commit_is_read_back_from_a_file(rt: HostRuntime) -> Result<(), Fail> {
     let alloc = rt.alloc();
-    let mut folder = Folder::new(&rt);
+    let mut folder = Folder::new(&rt, rt.alloc());
     let mut empty = folder.open(PATH).ok().ok_or("no file")?;
     assert!(rt; empty.cut(0) == Ok(()));
     folder.back(PATH, empty);

@@ -2,7 +2,7 @@
 #![tactic(auto)]
 
 use cat_cli::{Status, run};
-use cat_io::{Folder, NoListener, ReaderSource, SystemClock, WriterSink};
+use cat_io::{Folder, NoListener, ReaderSource, SystemClock, WriterSink, hold_standard};
 use std::fs::{File, Files};
 use std::process::ExitCode;
 use std::rt::Runtime;
@@ -11,6 +11,7 @@ use std::thread::Threads;
 use std::{env, io};
 
 fn main(rt: HostRuntime) -> ExitCode {
+    hold_standard(&rt);
     ExitCode::from(outcome(&rt).code())
 }
 
@@ -42,17 +43,23 @@ fn run_with<R>(rt: &R, words: &[&str]) -> Status
 where
     R: Runtime + Files<File = File> + AllocGlobal + Threads + Wait + Sync,
 {
+    let mut folder = Folder::new(rt, rt.alloc());
     let mut source = ReaderSource::new(rt.reader());
     let mut sink = WriterSink::new(io::writer(rt));
     let mut clock = SystemClock::new(rt);
-    run(
+    let status = run(
         rt,
         rt.alloc(),
         words,
-        &mut Folder::new(rt),
+        &mut folder,
         &mut source,
         &mut sink,
         &mut clock,
         &mut NoListener::new(),
-    )
+    );
+    // What the system said of a file. Where standard error is closed too, nobody is told.
+    if let Some((path, error)) = folder.first_error() {
+        let _ = eprintln!(rt; "nessie: {path}: {error}");
+    }
+    status
 }
