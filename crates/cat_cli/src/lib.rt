@@ -17,6 +17,8 @@ mod status;
 mod telling;
 mod unopened;
 
+pub use cat_words::words_of;
 pub use ending::Session;
 pub use program::run;
 pub use status::Status;
+pub use telling::tell_no_memory;

@@ -17,8 +17,8 @@ pub(crate) fn tell<K: Sink>(sink: &mut K, line: &[u8])
     let _ = write_all(sink, line);
 }
 
-/// Tells that memory ran out.
-pub(crate) fn tell_no_memory<K: Sink>(sink: &mut K) -> Status
+/// Tells that memory ran out, as far as the sink takes the line.
+pub fn tell_no_memory<K: Sink>(sink: &mut K) -> Status
     ensures status { result ≡ Status.NoMemory }
     ensures told { TellsKnown no_memory_line (K.held sink.old) (K.held sink.new) (K.faults sink.old) (K.faults sink.new) }
 {

@@ -4,8 +4,10 @@
 #![tactic(auto)]
 
 mod asked;
+mod handed;
 mod line;
 mod number;
 
 pub use asked::{Asked, asked_of};
+pub use handed::words_of;
 pub use line::WordsFault;

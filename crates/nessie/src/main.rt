@@ -1,9 +1,10 @@
-//! The program: the real streams, files and clock, handed to `cat_cli::run`.
+//! The program: the words, the real streams, files and clock, handed to `cat_cli::run`.
 #![tactic(auto)]
 
-use cat_cli::{Status, run};
+use cat_cli::{Status, run, tell_no_memory, words_of};
 use cat_io::{Folder, NoListener, ReaderSource, SystemClock, WriterSink, hold_standard};
 use std::fs::{File, Files};
+use std::io::ErrorKind;
 use std::process::ExitCode;
 use std::rt::Runtime;
 use std::sync::Wait;
@@ -19,24 +20,24 @@ fn outcome<R>(rt: &R) -> Status
 where
     R: Runtime + Files<File = File> + AllocGlobal + Threads + Wait + Sync,
 {
-    let alloc = rt.alloc();
-    // A word that is no text is no command's: the program is run without words then.
-    let Ok(all) = env::args(rt) else {
-        return run_with(rt, &[]);
+    let texts = match env::args(rt) {
+        Ok(texts) => texts.collect(rt.alloc()),
+        Err(error) if error.kind() == ErrorKind::OutOfMemory => return no_memory(rt),
+        // A word that is no text is no command's: the program is run without words then.
+        Err(_) => Ok(Vec::new(rt.alloc())),
     };
-    let mut texts = Vec::new(alloc);
-    for word in all {
-        if texts.push(word).is_err() {
-            return Status::NoMemory;
-        }
+    let Ok(texts) = texts else {
+        return no_memory(rt);
+    };
+    match words_of(rt.alloc(), &texts) {
+        Ok(words) => run_with(rt, &words),
+        Err(_) => no_memory(rt),
     }
-    let mut words = Vec::new(alloc);
-    for text in &texts {
-        if words.push(text.as_str()).is_err() {
-            return Status::NoMemory;
-        }
-    }
-    run_with(rt, &words)
+}
+
+// No memory was left for the words.
+fn no_memory<R: Runtime>(rt: &R) -> Status {
+    tell_no_memory(&mut WriterSink::new(io::writer(rt)))
 }
 
 fn run_with<R>(rt: &R, words: &[&str]) -> Status
