@@ -1,0 +1,295 @@
+#!/bin/sh
+# Runs the built program on real files and streams, of which no contract speaks: each status with its
+# lines, closed standard streams, two processes on one journal, the order of syncs and replies, each
+# call of the system failing in turn, a full disk. It says what each case did, and ends in 0 only if
+# all went as they should. What wants `strace`, root or a file system of its own is else left out.
+# Usage: tools/check_real_files.sh [PROGRAM] (else ./nessie, which is built where that is due)
+top=$(CDPATH= cd -- "$(dirname -- "$0")/.." && pwd) || exit 70
+command -v python3 >/dev/null || { echo "check_real_files: python3 is missing" >&2; exit 77; }
+if [ $# -eq 0 ]; then
+    "$top/nessie" </dev/null >/dev/null
+    set -- "$top/crates/nessie/out/nessie"
+fi
+exec python3 - "$1" <<'PYTHON'
+import json, os, re, shutil, subprocess, sys, tempfile
+
+FAULT = b"nessie: disk fault\n"
+NEW = b"NESSIECJ\0\0\0\x01\0\0\0\0\0"
+GET = b"GET /api/v2/config HTTP/1.1\r\n\r\n"
+IS_ROOT = os.geteuid() == 0
+NOBODY = 65534
+failed = []
+room = tempfile.TemporaryDirectory()
+os.chmod(room.name, 0o777)
+program = shutil.copy(sys.argv[1], os.path.join(room.name, "program"))
+os.chmod(program, 0o755)
+
+
+def commit(key, text="m"):
+    content = {"type": "ICEBERG_TABLE", "metadataLocation": text, "snapshotId": 1}
+    operation = {"type": "PUT", "key": {"elements": [key]}, "content": content}
+    body = json.dumps({"commitMeta": {"message": "one"}, "operations": [operation]}).encode()
+    head = b"POST /api/v2/trees/main/history/commit HTTP/1.1\r\nContent-Length: %d\r\n\r\n"
+    return head % len(body) + body
+
+
+def tell(what, passed, detail=""):
+    if not passed:
+        failed.append(what)
+    print(("ok    " if passed else "WRONG ") + what + (f": {detail}" if detail else ""), flush=True)
+
+
+def leave_out(what, why):
+    print(f"left out: {what}: {why}", flush=True)
+
+
+def path_of(name):
+    return os.path.join(room.name, name)
+
+
+def file_of(name, content):
+    with open(path_of(name), "wb") as file:
+        file.write(content)
+    return path_of(name)
+
+
+def run(words, sent=b"", before=(), closed="", **options):
+    """Status, output and standard error of a run, through a shell that closes some streams."""
+    line = ["sh", "-c", f'exec "$@" {closed}', "sh", *before, program, *words]
+    options["stdin" if isinstance(sent, int) else "input"] = sent
+    options.setdefault("stdout", subprocess.PIPE)
+    done = subprocess.run(line, stderr=subprocess.PIPE, timeout=50, **options)
+    return done.returncode, done.stdout or b"", done.stderr
+
+
+def replies(output):
+    return [int(code) for code in re.findall(rb"HTTP/1\.1 (\d+) ", output)]
+
+
+def case(what, got, status, output, error=b""):
+    """Output is the bytes that are wanted, or the statuses of the replies."""
+    told = replies(got[1]) if isinstance(output, list) else got[1]
+    shown = (told if len(told) < 20 else f"{len(told)} replies") if isinstance(output, list) else output.decode(errors="replace").strip()
+    detail = f"status {got[0]}, {shown}" + (f", {got[2].decode(errors='replace').strip()}" if got[2] else "")
+    passed = (got[0], told, got[2]) == (status, output, error)
+    tell(what, passed, detail if passed else f"wanted {(status, output, error)}, got {got}")
+
+
+def content_of(path):
+    with open(path, "rb") as file:
+        return file.read()
+
+
+def entries(journal):
+    """How many entries the journal opens with; none where it doesn't open."""
+    status, output, _ = run(["check", journal])
+    found = re.match(rb"entries (\d+) ", output)
+    return int(found[1]) if status == 0 and found else None
+
+
+def said(path, text):
+    return f"nessie: {path}: {text}\n".encode()
+
+
+def check_statuses():
+    journal = path_of("first")
+    case("a commit and a read", run(["script", journal], commit("a") + GET), 0, [200, 200])
+    tell("and its journal", entries(journal) == 1, "1 entry")
+    case("no request", run(["script", journal]), 0, b"")
+    for words in ([], ["script"], ["check", journal, "x"], ["--help"], ["drill", "--seed", "-1", "--commits", "1"], [b"check", b"\xff"]):
+        case(f"the words {words}", run(words), 1, b"nessie: usage\n")
+    held = content_of(journal)
+    for what, content, line in (
+        ("another version", NEW[:11] + b"\x09" + NEW[12:], b"nessie: version 9\n"),
+        ("a torn entry", NEW[:16] + b"\x01", b"nessie: damaged at 16\n"),
+        ("an entry with another hash", held[:-2] + bytes([held[-2] ^ 1]) + held[-1:], b"nessie: illegal entry 1\n"),
+    ):
+        case(what, run(["script", file_of("other", content)], commit("b")), 3, line)
+        tell("and the file stays as it is", content_of(path_of("other")) == content)
+    folder = os.open(room.name, os.O_RDONLY)
+    case("a read that fails", run(["script", journal], folder), 5, b"")
+    os.close(folder)
+    with open("/dev/full", "wb") as full:
+        case("a write that fails", run(["script", journal], GET, stdout=full), 6, b"")
+        case("a line that can't be written", run(["check", journal], stdout=full), 6, b"")
+    case("bytes that are no request", run(["script", journal], GET + b"x\r\n\r\n"), 8, [200, 400])
+    large = b"POST /api/v2/trees/main/history/commit HTTP/1.1\r\nContent-Length: 1048577\r\n\r\n"
+    case("a body that is too large", run(["script", journal], large), 8, [413])
+    case("1,001 requests", run(["script", journal], GET * 1001), 8, [200] * 1000)
+    leave_out("statuses 4, 7 and 9", "memory isn't refused here, and no command listens or collects")
+
+
+def check_faults():
+    """Where the disk fails: the line stays, and standard error says why."""
+    none = path_of("none/journal")
+    case("no such folder", run(["check", none]), 2, FAULT, said(none, "No such file or directory (os error 2)"))
+    case("a folder as the file", run(["script", room.name], GET), 2, FAULT, said(room.name, "Is a directory (os error 21)"))
+    if not IS_ROOT:
+        return leave_out("another user's files", "wants root")
+    as_nobody = {"user": NOBODY, "group": NOBODY, "extra_groups": []}
+    for mode, text in ((0o000, "Permission denied (os error 13)"), (0o444, "Permission denied (os error 13)")):
+        path = file_of("locked away", NEW)
+        os.chmod(path, mode)
+        case(f"a file of mode {mode:o}", run(["check", path], **as_nobody), 2, FAULT, said(path, text))
+    os.mkdir(path_of("closed"), 0o755)
+    path = path_of("closed/journal")
+    case("a folder that takes no file", run(["script", path], GET, **as_nobody), 2, FAULT, said(path, "Permission denied (os error 13)"))
+
+
+def check_closed():
+    """A closed standard stream is no journal's."""
+    path = path_of("closed output")
+    case("a closed output", run(["script", path], commit("a") + commit("b"), closed=">&-"), 6, b"")
+    tell("and its journal", entries(path) in (0, 1), f"opens, {entries(path)} entries")
+    case("a closed output, and a line", run(["check", path], closed=">&-"), 6, b"")
+    case("a closed input", run(["script", path], closed="<&-"), 0, b"")
+    case("a closed error stream", run(["check", path_of("none/journal")], closed="2>&-"), 2, FAULT)
+    case("all three closed", run(["script", path], closed="<&- >&- 2>&-"), 0, b"")
+    tell("and the journal", entries(path) in (0, 1), f"opens, {entries(path)} entries")
+
+
+def check_two():
+    path = path_of("shared")
+    line = said(path, "another process holds the file")
+    with subprocess.Popen([program, "script", path], stdin=subprocess.PIPE, stdout=subprocess.PIPE) as first:
+        first.stdin.write(commit("a"))
+        first.stdin.flush()
+        first.stdout.readline()
+        held = content_of(path)
+        case("script beside script", run(["script", path], commit("b")), 2, FAULT, line)
+        case("check beside script", run(["check", path]), 2, FAULT, line)
+        tell("and the file stays as it is", content_of(path) == held)
+        first.stdin.write(commit("b"))
+        first.stdin.close()
+        output = first.stdout.read()
+        tell("the first goes on", first.wait() == 0 and replies(output) == [200])
+    tell("and its journal", entries(path) == 2, "2 entries")
+
+
+CALLS = "fsync,fdatasync,pwrite64,pread64,write,read,flock,openat,ftruncate,fstat,newfstatat,statx"
+
+
+def traced(words, sent, *injected):
+    """A run, and its calls of the system in their order: name, arguments, answer."""
+    log = path_of("trace")
+    before = ["strace", "-f", "-qq", "-o", log, "-e", "trace=" + CALLS]
+    for what in injected:
+        before += ["-e", "inject=" + what]
+    got = run(words, sent, before)
+    lines = re.findall(r"(?m)^\d+ +(\w+)\((.*)\) += (-?\d+)", content_of(log).decode(errors="replace"))
+    return got, [(name, arguments, int(answer)) for name, arguments, answer in lines]
+
+
+def opened(calls, path):
+    """The calls, each with what it is on: the journal, its folder, input, output, or nothing of these."""
+    names = {0: "input", 1: "output"}
+    for name, arguments, answer in calls:
+        first = arguments.split(",")[0]
+        number = int(first) if first.isdigit() else None
+        if name == "openat":
+            named, number = arguments.split('"')[1], answer
+            names[answer] = "journal" if named == path else "folder" if named == os.path.dirname(path) else None
+        yield name, names.get(number)
+
+
+STEPS = {
+    ("flock", "journal"): "l",
+    ("fsync", "folder"): "d",
+    ("pwrite64", "journal"): "w",
+    ("fsync", "journal"): "s",
+    ("write", "output"): "r",
+    ("ftruncate", "journal"): "c",
+}
+
+
+def steps(calls, path):
+    """What a run did to its journal, its folder and its output, a letter each."""
+    return "".join(STEPS.get(call, "") for call in opened(calls, path))
+
+
+def check_syncs():
+    """A lock is l, a sync of the folder d, a write to the journal w, a sync of it s, a write of a reply r. Opening syncs, then writes a new journal and syncs it; an entry is written, synced, closed, synced."""
+    path = path_of("traced")
+    (status, output, _), calls = traced(["script", path], commit("a") + GET)
+    word = steps(calls, path)
+    tell("a new journal and a commit", status == 0 and replies(output) == [200, 200] and re.fullmatch("ldswswswsr+", word), word)
+    (status, output, _), calls = traced(["script", path], commit("b"))
+    word = steps(calls, path)
+    tell("a commit to it", status == 0 and replies(output) == [200] and re.fullmatch("lswswsr+", word), word)
+    for error in ("EOPNOTSUPP", "ENOLCK"):
+        got, _ = traced(["check", path], b"", f"flock:error={error}:when=1")
+        tell(f"no locks there, {error}", got[0] == 0 and got[1].startswith(b"entries 2 "), f"status {got[0]}")
+
+
+def ordinals(calls, path):
+    """Of the calls on the journal, its folder, input and output: the name, and the number among those of its name."""
+    counts = {}
+    for name, thing in opened(calls, path):
+        counts[name] = counts.get(name, 0) + 1
+        if thing:
+            yield name, counts[name]
+
+
+def check_injected(start):
+    """Each call of the system fails once, on a new journal or on one with an entry."""
+    sent = commit("b") + GET + commit("c")
+    old = content_of(path_of("first")) if start else b""
+    path = path_of("injected")
+
+    def play(*injected):
+        if start:
+            file_of("injected", old)
+        elif os.path.exists(path):
+            os.remove(path)
+        return traced(["script", path], sent, *injected)
+
+    got, calls = play()
+    case(f"from {start} entries, no call fails", got, 0, [200, 200, 200])
+    for name, number in ordinals(calls, path):
+        status, output, error = play(f"{name}:error=EIO:when={number}")[0]
+        told = replies(output)
+        accepted = start + [told[at] for at in (0, 2) if at < len(told)].count(200)
+        now = entries(path)
+        wanted = {"read": 5, "write": 6}.get(name, 2)
+        line = said(path, "Input/output error (os error 5)") if wanted == 2 else b""
+        passed = (status, error) == (wanted, line) and now in (accepted, accepted + 1) and set(told) <= {200, 503}
+        passed = passed and (wanted != 2 or len(told) == 3 or output == FAULT)
+        tell(f"from {start} entries, {name} {number} fails", passed, f"status {status}, {told or output.decode().strip()}, then {now} entries")
+    for name, number in ordinals(calls, path):
+        if name in ("read", "write", "pread64", "pwrite64"):
+            got = play(f"{name}:error=EINTR:when={number}")[0]
+            case(f"from {start} entries, {name} {number} is interrupted", got, 0, [200, 200, 200])
+
+
+def check_full():
+    place = path_of("small")
+    os.mkdir(place)
+    if not IS_ROOT or subprocess.run(["mount", "-t", "tmpfs", "-o", "size=16k", "none", place], stderr=subprocess.DEVNULL).returncode:
+        return leave_out("a full disk", "wants root and leave to mount")
+    try:
+        path = os.path.join(place, "journal")
+        got = run(["script", path], b"".join(commit(f"k{n}", "m" * 2000) for n in range(12)))
+        told = replies(got[1])
+        full = told.index(503) if 503 in told else 0
+        passed = got[0] == 2 and full > 0 and told == [200] * full + [503] * (12 - full) and got[2] == said(path, "No space left on device (os error 28)")
+        tell("a full disk", passed, f"status {got[0]}, {told}, {got[2].decode().strip()}")
+        copy = file_of("kept", content_of(path))
+        tell("and its journal", entries(copy) in (full, full + 1), f"opens, {entries(copy)} entries")
+    finally:
+        subprocess.run(["umount", place])
+
+
+check_statuses()
+check_faults()
+check_closed()
+check_two()
+if shutil.which("strace"):
+    check_syncs()
+    check_injected(0)
+    check_injected(1)
+else:
+    leave_out("syncs and failing calls", "strace is missing")
+check_full()
+print(f"{len(failed)} cases went wrong" if failed else "all cases went as they should")
+sys.exit(1 if failed else 0)
+PYTHON
