@@ -32,7 +32,7 @@ fn is_written(disk: &mut FileDisk) -> bool {
 }
 
 #[test]
-fn a_file_keeps_its_bytes_when_it_is_opened_again(rt: HostRuntime) {
+fn a_file_is_one_disks_and_keeps_its_bytes_when_it_is_opened_again(rt: HostRuntime) {
     let mut folder = Folder::new(&rt, rt.alloc());
     let path = "cat_tests.file";
     let Ok(mut disk) = folder.open(path) else {
@@ -44,6 +44,12 @@ fn a_file_keeps_its_bytes_when_it_is_opened_again(rt: HostRuntime) {
         panic!(rt; "a file is opened");
     };
     assert!(rt; is_written(&mut again));
+    assert!(rt; folder.first_error().is_none());
+    assert!(rt; folder.open(path).is_err());
+    let told = folder.first_error();
+    assert!(rt; told.is_some_and(|(of, _)| of == path));
+    folder.back(path, again);
+    assert!(rt; folder.open(path).is_ok());
     assert!(rt; folder.open("absent/file").is_err());
 }
 
