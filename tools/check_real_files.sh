@@ -116,7 +116,21 @@ def check_statuses():
     large = b"POST /api/v2/trees/main/history/commit HTTP/1.1\r\nContent-Length: 1048577\r\n\r\n"
     case("a body that is too large", run(["script", journal], large), 8, [413])
     case("1,001 requests", run(["script", journal], GET * 1001), 8, [200] * 1000)
-    leave_out("statuses 4, 7 and 9", "memory isn't refused here, and no command listens or collects")
+    leave_out("statuses 7 and 9", "no command listens or collects")
+
+
+def check_memory():
+    """Want of memory, by a limit on the process: too little to start, then too little for the words, then enough."""
+
+    def limited(kilobytes, words):
+        return run(words, before=("sh", "-c", f'ulimit -v {kilobytes}; exec "$@"', "sh"))
+
+    case("a drill without memory", limited(10000, ["drill", "--seed", "1", "--commits", "20000"]), 4, b"nessie: no memory\n")
+    ends = [limited(kilobytes, ["w" * 120000] * 15)[:2] for kilobytes in range(5000, 16001, 500)]
+    started = [end for end in ends if end[0] >= 0 and end[0] != 127]
+    short, enough = (4, b"nessie: no memory\n"), (1, b"nessie: usage\n")
+    few = started.count(short)
+    tell("words without memory", 0 < few < len(started) and started == [short] * few + [enough] * (len(started) - few), f"status 4 {few} times")
 
 
 def check_faults():
@@ -280,6 +294,7 @@ def check_full():
 
 
 check_statuses()
+check_memory()
 check_faults()
 check_closed()
 check_two()
