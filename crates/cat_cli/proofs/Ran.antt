@@ -28,11 +28,11 @@ log_of payloads before after news is grew =
     ∙ ap (λ (l : List (List ℕ)). l ++ spellings (reverse news)) (sym is)
 
 -- by how it ended, and whether the disk failed
-module _ (to : ℕ → Type 0) (stays : Type 0) (clock : Readings) (to_come : Option Readings) (bytes : List ℕ) (s : Seen) where
-  ran_well : (end : End) (ran : Ran to clock to_come bytes s end) → (ran.last.fallen ≡ None) × stays → RanWell to stays clock to_come bytes s end
+module _ (to : ℕ → Type 0) (stays : Type 0) (clock : Readings) (to_come : Option Readings) (bytes : List ℕ) (unread : Option (List ℕ)) (s : Seen) where
+  ran_well : (end : End) (ran : Ran to clock to_come bytes unread s end) → (ran.last.fallen ≡ None) × stays → RanWell to stays clock to_come bytes unread s end
   ran_well end ran (none, same) = (ran, none, same)
 
-  pub answers : (end : End) (rose : Bool) (ran : Ran to clock to_come bytes s end) → (rose ≡ false → (ran.last.fallen ≡ None) × stays) → Answers to stays clock to_come bytes s (status_of end rose)
+  pub answers : (end : End) (rose : Bool) (ran : Ran to clock to_come bytes unread s end) → (rose ≡ false → (ran.last.fallen ≡ None) × stays) → Answers to stays clock to_come bytes unread s (status_of end rose)
   answers ends.NoMemory rose ran well = ran
   answers ends.WriteFault rose ran well = ran
   answers ends.ReadFault rose ran well = ran
@@ -111,9 +111,9 @@ one_fell P down None is rose = tt
 one_fell P down (Some f) is rose = rose f.count is
 
 module _ {D K : Type 0} (told : D → Option (List ℕ)) (faults : D → ℕ) (down : K → Option ℕ) (in_flight : K → Option (List ℕ)) (kept_faults : K → ℕ)
-    (place mid place' : Option (Option D)) (count : ℕ) (old new : Stored K) (ahead ahead' : Option Readings) (bytes held after : Option (List ℕ)) (before now : ℕ) (end : End)
+    (place mid place' : Option (Option D)) (count : ℕ) (old new : Stored K) (ahead ahead' : Option Readings) (bytes unread held after : Option (List ℕ)) (before now : ℕ) (end : End)
     (opened : IsOpened told faults place mid count old.book (down old.keeper) (kept_faults old.keeper))
-    (session : RunsKnown down in_flight old ahead bytes held end new ahead' after)
+    (session : RunsKnown down in_flight old ahead bytes unread held end new ahead' after)
     (closed : IsClosed faults mid place' (kept_faults new.keeper) (λ disk. HoldsLog down in_flight new.keeper new.book (told disk))) where
   there : place' ≡ stood closed.disk (taken place)
   there = closed.back ∙ ap (stood closed.disk) opened.out
@@ -145,10 +145,10 @@ module _ {D K : Type 0} (told : D → Option (List ℕ)) (faults : D → ℕ) (d
 
   -- how it went, where a failed append has raised its disk's count
   pub ran : (clock : Readings) (b w : List ℕ) → ((c : ℕ) → down new.keeper ≡ Some c → Rose count c × (c ≤ kept_faults new.keeper)) → ahead ≡ Some clock → bytes ≡ Some b → held ≡ Some w
-      → (h : List ℕ) × (after ≡ Some h) × (r : Ran (DiskRoseTo faults place place') clock ahead' b (seen w h) end) × (down new.keeper ≡ option_map (λ (f : Fallen). f.count) r.last.fallen)
+      → (h : List ℕ) × (after ≡ Some h) × (r : Ran (DiskRoseTo faults place place') clock ahead' b unread (seen w h) end) × (down new.keeper ≡ option_map (λ (f : Fallen). f.count) r.last.fallen)
   ran clock b w raised a e f =
       let x = session clock b w a e f in
-      let grew = log_grows clock (start old.book b w) end x.0 x.2 x.3 in
+      let grew = log_grows clock (start old.book b w) end x.0 x.2 unread x.3 in
       let holds : IfSome (told closed.disk) (Holds (spellings (reverse new.book.log)) x.2.fallen) = closed.has x.2.fallen x.4.down_is x.4.flies in
       let log : spellings (reverse new.book.log) ≡ opened.stored.payloads ++ spellings (reverse grew.0) =
       log_of opened.stored.payloads old.book.log new.book.log grew.0 opened.stored.spelled (x.4.log_is ∙ grew.1) in (
@@ -176,7 +176,7 @@ module _ {D K : Type 0} (told : D → Option (List ℕ)) (faults : D → ℕ) (d
   pub says : (others : Type 0) (clock : Readings) (b w : List ℕ) (rose : Bool) (status : Status) → status ≡ status_of end rose
       → old.began ≡ kept_faults old.keeper → old.began ≤ kept_faults new.keeper → ((c : ℕ) → down new.keeper ≡ Some c → Rose old.began c × (c ≤ kept_faults new.keeper))
       → (rose ≡ false → Rose count (kept_faults new.keeper) → ⊥)
-      → ahead ≡ Some clock → bytes ≡ Some b → held ≡ Some w → (h : List ℕ) × (after ≡ Some h) × Says (others ⊎ DiskRose faults place place') (DiskRoseTo faults place place') (DiskStays faults place place') clock ahead' b (seen w h) status
+      → ahead ≡ Some clock → bytes ≡ Some b → held ≡ Some w → (h : List ℕ) × (after ≡ Some h) × Says (others ⊎ DiskRose faults place place') (DiskRoseTo faults place place') (DiskStays faults place place') clock ahead' b unread (seen w h) status
   says others clock b w rose status is began later rises stays a e f =
       let raised : (c : ℕ) → down new.keeper ≡ Some c → Rose count c × (c ≤ kept_faults new.keeper) =
       λ c down_at. let r = rises c down_at in (rose_later count (kept_faults old.keeper) c opened.stored.later (subst (λ (n : ℕ). Rose n c) began r.0), r.1) in
@@ -185,4 +185,4 @@ module _ {D K : Type 0} (told : D → Option (List ℕ)) (faults : D → ℕ) (d
       let well : rose ≡ false → (x.2.last.fallen ≡ None) × DiskStays faults place place' =
       λ still. (none_fell (down new.keeper) x.2.last.fallen x.3 (λ c down_at. let r = raised c down_at in stays still (rose_on count c (kept_faults new.keeper) r.0 r.1)), stayed kept (stays still)) in
       let staying : Type 0 = DiskStays faults place place' in
-      (x.0, x.1, inl (subst (λ (st : Status). Answers (DiskRoseTo faults place place') staying clock ahead' b (seen w x.0) st) (sym is) (answers (DiskRoseTo faults place place') staying clock ahead' b (seen w x.0) end rose x.2 well)))
+      (x.0, x.1, inl (subst (λ (st : Status). Answers (DiskRoseTo faults place place') staying clock ahead' b unread (seen w x.0) st) (sym is) (answers (DiskRoseTo faults place place') staying clock ahead' b unread (seen w x.0) end rose x.2 well)))

@@ -21,6 +21,7 @@ use Rattle.cat_cli.proofs.Told.{appended, some_is, not_none}
 pub record IsRead (i : Incoming) (bytes : List ℕ) (old now : Buffered) (left : Option (List ℕ)) (rest : List ℕ) : Type 0 where
   pub rest_is : prepend_known now.unread left ≡ Some rest
   pub after : List ℕ
+  pub left_is : left ≡ Some after
   pub split : rest ≡ now.unread ++ after
   pub is_so : IncomingIs i bytes now after
 
@@ -33,6 +34,7 @@ read_is i (Some xs) (Some ys) old now bytes p e = (
   record {
     rest_is = refl;
     after = ys;
+    left_is = refl;
     split = refl;
     is_so = subst (λ b. IncomingIs i b now ys) (some_is (old.unread ++ xs) bytes e) p;
   },
@@ -103,6 +105,9 @@ module _ (desk : DeskId) where
   cut_short k c pass ahead before held s = (c.written, s.held_is, c.standing, (refl, refl), s.pass_at)
 
   -- no memory was left to begin with
-  pub not_begun : (k : Readings) (a : Point) (pass : Pass) (ahead : Option Readings) (before held : Option (List ℕ)) → a.left ≡ 1000 → Stands desk k a pass ahead before held
-      → (h : List ℕ) × (held ≡ Some h) × (last : Standing) × Ends k a ends.NoMemory h last × IsAt desk k last pass ahead
-  not_begun k a pass ahead before held whole s = (a.written, s.held_is, a.standing, (a, ([], refl), (refl, inl (whole, refl))), s.pass_at)
+  pub not_begun : (k : Readings) (a : Point) (pass : Pass) (ahead : Option Readings) (before unread held : Option (List ℕ)) → a.left ≡ 1000 → Stands desk k a pass ahead before held
+      → (h : List ℕ) × (held ≡ Some h) × (last : Standing) × Ends k a ends.NoMemory h last unread × IsAt desk k last pass ahead
+  not_begun k a pass ahead before unread held whole s = (a.written, s.held_is, a.standing, (a, ([], refl), (refl, inl (whole, refl)), λ e. absurd (no e)), s.pass_at)
+    where
+      no : ends.NoMemory ≡ ends.ReadFault → ⊥
+      no e = cc

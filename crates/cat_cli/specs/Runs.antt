@@ -84,12 +84,12 @@ abbrev pub start : Book → List ℕ → List ℕ → Point
 start book bytes written = record { left = 1000; standing = record { book = book; readings = 0; fallen = None }; bytes = bytes; written = written }
 
 -- a session on the journal's catalogue ended so, and the journal has its entries; where an append failed, to is so of the count of faults that is told of it; and the clock has these readings to come
-pub record Ran (to : ℕ → Type 0) (clock : Readings) (to_come : Option Readings) (bytes : List ℕ) (s : Seen) (end : End) : Type 0 where
+pub record Ran (to : ℕ → Type 0) (clock : Readings) (to_come : Option Readings) (bytes : List ℕ) (unread : Option (List ℕ)) (s : Seen) (end : End) : Type 0 where
   pub payloads : List (List ℕ)
   pub book : Book
   pub begins : Begins s.journal payloads book
   pub last : Standing
-  pub ends : Ends clock (start book bytes s.written) end s.held last
+  pub ends : Ends clock (start book bytes s.written) end s.held last unread
   pub added : List LogEntry
   pub grows : last.book.log ≡ reverse added ++ book.log
   pub keeps : IfSome s.left (Holds (payloads ++ spellings added) last.fallen)
@@ -97,31 +97,31 @@ pub record Ran (to : ℕ → Type 0) (clock : Readings) (to_come : Option Readin
   pub reads_on : to_come ≡ Some (from last.readings clock)
 
 -- and no append failed; stays says that the count of faults of the journal's disk didn't rise
-abbrev pub RanWell : (ℕ → Type 0) → Type 0 → Readings → Option Readings → List ℕ → Seen → End → Type 0
-RanWell to stays clock to_come bytes s end = (ran : Ran to clock to_come bytes s end) × (ran.last.fallen ≡ None) × stays
+abbrev pub RanWell : (ℕ → Type 0) → Type 0 → Readings → Option Readings → List ℕ → Option (List ℕ) → Seen → End → Type 0
+RanWell to stays clock to_come bytes unread s end = (ran : Ran to clock to_come bytes unread s end) × (ran.last.fallen ≡ None) × stays
 
 -- a session was held, by the status
-abbrev pub Answers : (ℕ → Type 0) → Type 0 → Readings → Option Readings → List ℕ → Seen → Status → Type 0
-Answers to stays clock to_come bytes s statuses.Done = RanWell to stays clock to_come bytes s ends.Closed
-Answers to stays clock to_come bytes s statuses.Cut =
-    RanWell to stays clock to_come bytes s ends.Capped ⊎ RanWell to stays clock to_come bytes s ends.BadHead ⊎ RanWell to stays clock to_come bytes s ends.TooLarge
-Answers to stays clock to_come bytes s statuses.DiskFault =
-    Ran to clock to_come bytes s ends.Closed ⊎ Ran to clock to_come bytes s ends.Capped
-    ⊎ Ran to clock to_come bytes s ends.BadHead ⊎ Ran to clock to_come bytes s ends.TooLarge
-Answers to stays clock to_come bytes s statuses.ReadFault = Ran to clock to_come bytes s ends.ReadFault
-Answers to stays clock to_come bytes s statuses.WriteFault = Ran to clock to_come bytes s ends.WriteFault
-Answers to stays clock to_come bytes s statuses.NoMemory = Ran to clock to_come bytes s ends.NoMemory
-Answers to stays clock to_come bytes s _ = ⊥
+abbrev pub Answers : (ℕ → Type 0) → Type 0 → Readings → Option Readings → List ℕ → Option (List ℕ) → Seen → Status → Type 0
+Answers to stays clock to_come bytes unread s statuses.Done = RanWell to stays clock to_come bytes unread s ends.Closed
+Answers to stays clock to_come bytes unread s statuses.Cut =
+    RanWell to stays clock to_come bytes unread s ends.Capped ⊎ RanWell to stays clock to_come bytes unread s ends.BadHead ⊎ RanWell to stays clock to_come bytes unread s ends.TooLarge
+Answers to stays clock to_come bytes unread s statuses.DiskFault =
+    Ran to clock to_come bytes unread s ends.Closed ⊎ Ran to clock to_come bytes unread s ends.Capped
+    ⊎ Ran to clock to_come bytes unread s ends.BadHead ⊎ Ran to clock to_come bytes unread s ends.TooLarge
+Answers to stays clock to_come bytes unread s statuses.ReadFault = Ran to clock to_come bytes unread s ends.ReadFault
+Answers to stays clock to_come bytes unread s statuses.WriteFault = Ran to clock to_come bytes unread s ends.WriteFault
+Answers to stays clock to_come bytes unread s statuses.NoMemory = Ran to clock to_come bytes unread s ends.NoMemory
+Answers to stays clock to_come bytes unread s _ = ⊥
 
 -- what a run of `script` does, by its status; where no session was held the clock wasn't read
-abbrev pub Says : Type 0 → (ℕ → Type 0) → Type 0 → Readings → Option Readings → List ℕ → Seen → Status → Type 0
-Says fell to stays clock to_come bytes s status = Answers to stays clock to_come bytes s status ⊎ (RefusesSo fell s status × (to_come ≡ Some clock))
+abbrev pub Says : Type 0 → (ℕ → Type 0) → Type 0 → Readings → Option Readings → List ℕ → Option (List ℕ) → Seen → Status → Type 0
+Says fell to stays clock to_come bytes unread s status = Answers to stays clock to_come bytes unread s status ⊎ (RefusesSo fell s status × (to_come ≡ Some clock))
 
 -- the same where the clock, the source and the sink tell what they have
-abbrev pub SaysKnown : Type 0 → (ℕ → Type 0) → Type 0 → Option Readings → Option Readings → Option (List ℕ) → Option (List ℕ) → Status → Option (List ℕ) → ℕ → ℕ → Option (List ℕ) → Option (List ℕ) → Type 0
-SaysKnown fell to stays ahead to_come bytes held status after before now journal left =
+abbrev pub SaysKnown : Type 0 → (ℕ → Type 0) → Type 0 → Option Readings → Option Readings → Option (List ℕ) → Option (List ℕ) → Option (List ℕ) → Status → Option (List ℕ) → ℕ → ℕ → Option (List ℕ) → Option (List ℕ) → Type 0
+SaysKnown fell to stays ahead to_come bytes unread held status after before now journal left =
     (clock : Readings) (b w : List ℕ) → ahead ≡ Some clock → bytes ≡ Some b → held ≡ Some w
-    → (h : List ℕ) × (after ≡ Some h) × Says fell to stays clock to_come b (record { written = w; held = h; before = before; now = now; journal = journal; left = left }) status
+    → (h : List ℕ) × (after ≡ Some h) × Says fell to stays clock to_come b unread (record { written = w; held = h; before = before; now = now; journal = journal; left = left }) status
 
 -- ---- a check
 

@@ -53,8 +53,8 @@ by_last k c last (inl same) = ([], ap (λ (s : Standing). s.book.log) same)
 by_last k c last (inr (t, answered, same)) = (t.brought.logged, ap (λ (s : Standing). s.book.log) same ∙ by_turn k c t answered)
 
 -- the log at the end of a session is that before it, with the entries of the session in front
-pub log_grows : (k : Readings) (a : Point) (end : End) (held : List ℕ) (last : Standing) → Ends k a end held last → (entries : List LogEntry) × IsGrownBy entries a.standing last
-log_grows k a end held last (c, (turns, goes), at) =
+pub log_grows : (k : Readings) (a : Point) (end : End) (held : List ℕ) (last : Standing) (unread : Option (List ℕ)) → Ends k a end held last unread → (entries : List LogEntry) × IsGrownBy entries a.standing last
+log_grows k a end held last unread (c, (turns, goes), at, cut) =
     let one = by_turns k turns a c goes in
     let two = by_last k c last (is_last k c end held last at) in
     (two.0 ++ one.0, grown_on two.0 one.0 a.standing c.standing last one.1 two.1)

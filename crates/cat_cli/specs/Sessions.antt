@@ -12,7 +12,7 @@ use Rattle.cat_model.specs.Book.{Book}
 use Rattle.cat_model.specs.Script.{Session, Brought, IsGivenUp, MayBring, request}
 use Rattle.cat_http.specs.Message.{Message}
 use Rattle.cat_http.specs.Fields.{closes}
-use Rattle.cat_http.specs.Next.{IsRequest, IsEnd, IsMalformed, IsTooLarge}
+use Rattle.cat_http.specs.Next.{IsRequest, IsEnd, IsMalformed, IsTooLarge, IsCut}
 use Rattle.cat_rest.specs.Wanted.{wanted}
 use Rattle.cat_ledger.specs.Kept.{spelling}
 use Rattle.cat_model.specs.Mark.{FailedAppend}
@@ -159,9 +159,13 @@ EndsAt clock c ends.ReadFault held last = (held ≡ c.written) × (last ≡ c.st
 EndsAt clock c ends.WriteFault held last = IsCutOff clock c held last
 EndsAt clock c ends.NoMemory held last = IsUntold clock c held last
 
--- a session that begins at a ends so
-abbrev pub Ends : Readings → Point → End → List ℕ → Standing → Type 0
-Ends clock a end held last = (c : Point) × Reaches clock a c × EndsAt clock c end held last
+-- of the bytes to come a source gave some and has left those that are unread: what it gave is no whole request, nor the head of one that is too large
+abbrev pub LeavesCut : List ℕ → Option (List ℕ) → Type 0
+LeavesCut bytes unread = (left : List ℕ) × (unread ≡ Some left) × IsCut bytes left
+
+-- a session that begins at a ends so; after a read fault no whole request was read that isn't answered
+abbrev pub Ends : Readings → Point → End → List ℕ → Standing → Option (List ℕ) → Type 0
+Ends clock a end held last unread = (c : Point) × Reaches clock a c × EndsAt clock c end held last × (end ≡ ends.ReadFault → LeavesCut c.bytes unread)
 
 -- ---- what a pass, a clock, a source and a sink tell
 
@@ -190,7 +194,7 @@ pub record Stands (desk : DeskId) (clock : Readings) (c : Point) (pass : Pass) (
   pub held_is : held ≡ Some c.written
 
 -- a session that begins so ends so, where the clock, the source and the sink tell what they have
-abbrev pub EndsKnown : DeskId → ℕ → Pass → Pass → Option Readings → Option Readings → Option (List ℕ) → Option (List ℕ) → End → Option (List ℕ) → Type 0
-EndsKnown desk most pass pass' ahead ahead' bytes held end after =
+abbrev pub EndsKnown : DeskId → ℕ → Pass → Pass → Option Readings → Option Readings → Option (List ℕ) → Option (List ℕ) → Option (List ℕ) → End → Option (List ℕ) → Type 0
+EndsKnown desk most pass pass' ahead ahead' bytes unread held end after =
     (clock : Readings) (a : Point) → a.left ≡ most → Stands desk clock a pass ahead bytes held
-    → (h : List ℕ) × (after ≡ Some h) × (last : Standing) × Ends clock a end h last × IsAt desk clock last pass' ahead'
+    → (h : List ℕ) × (after ≡ Some h) × (last : Standing) × Ends clock a end h last unread × IsAt desk clock last pass' ahead'

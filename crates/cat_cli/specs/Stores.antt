@@ -14,7 +14,7 @@ pub record IsLeftSo {K : Type 0} (down : K → Option ℕ) (in_flight : K → Op
   pub flies : in_flight store.keeper ≡ option_map (λ (f : Fallen). spelling f.entry) last.fallen
 
 -- a session on a store ended so, where the clock, the source and the sink tell what they have
-abbrev pub RunsKnown : {K : Type 0} → (K → Option ℕ) → (K → Option (List ℕ)) → Stored K → Option Readings → Option (List ℕ) → Option (List ℕ) → End → Stored K → Option Readings → Option (List ℕ) → Type 0
-RunsKnown down in_flight store ahead bytes held end store' ahead' after =
+abbrev pub RunsKnown : {K : Type 0} → (K → Option ℕ) → (K → Option (List ℕ)) → Stored K → Option Readings → Option (List ℕ) → Option (List ℕ) → Option (List ℕ) → End → Stored K → Option Readings → Option (List ℕ) → Type 0
+RunsKnown down in_flight store ahead bytes unread held end store' ahead' after =
     (clock : Readings) (b w : List ℕ) → ahead ≡ Some clock → bytes ≡ Some b → held ≡ Some w
-    → (h : List ℕ) × (after ≡ Some h) × (last : Standing) × Ends clock (start store.book b w) end h last × IsLeftSo down in_flight last store' × (ahead' ≡ Some (from last.readings clock))
+    → (h : List ℕ) × (after ≡ Some h) × (last : Standing) × Ends clock (start store.book b w) end h last unread × IsLeftSo down in_flight last store' × (ahead' ≡ Some (from last.readings clock))

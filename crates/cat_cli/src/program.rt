@@ -44,11 +44,11 @@ pub fn run<R: Threads + Wait + Sync, O: Disks, S: Source, K: Sink, C: Clock, L: 
     ensures usage_line { result ≡ Status.Usage → TellsKnown usage_line (K.held sink.old) (K.held sink.new) (K.faults sink.old) (K.faults sink.new) }
     ensures memory_line { asked (map (λ word. word.now) words.now) ≡ None → result ≡ Status.NoMemory
         → TellsKnown no_memory_line (K.held sink.old) (K.held sink.new) (K.faults sink.old) (K.faults sink.new) }
-    // What a script writes are the replies to the requests in the bytes of the source, the journal has the entries of all that they changed, and the clock stands where their moments left it.
+    // What a script writes are the replies to the requests in the bytes of the source, the journal has the entries of all that they changed, and the clock stands where their moments left it. Where a read failed, no whole request was read that isn't answered.
     ensures replies { (journal : List ℕ) → asked (map (λ word. word.now) words.now) ≡ Some (script journal)
         → SaysKnown (Rose (O.faults disks.old) (O.faults disks.new) ⊎ DiskRose O.D.faults (O.at_path disks.old journal) (O.at_path disks.new journal))
         (DiskRoseTo O.D.faults (O.at_path disks.old journal) (O.at_path disks.new journal)) (DiskStays O.D.faults (O.at_path disks.old journal) (O.at_path disks.new journal))
-        (C.ahead clock.old) (C.ahead clock.new) (S.left source.old) (K.held sink.old) result (K.held sink.new) (K.faults sink.old) (K.faults sink.new)
+        (C.ahead clock.old) (C.ahead clock.new) (S.left source.old) (S.left source.new) (K.held sink.old) result (K.held sink.new) (K.faults sink.old) (K.faults sink.new)
         (told_at O.D.told (O.at_path disks.old journal)) (told_at O.D.told (O.at_path disks.new journal)) }
     // What a check writes is the line of the catalogue that the journal's entries lead to.
     ensures checked { (journal : List ℕ) → asked (map (λ word. word.now) words.now) ≡ Some (check journal)

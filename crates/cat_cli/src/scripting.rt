@@ -49,7 +49,7 @@ fn hold_session<R: Wait, K0: Keeper, S: Source, K: Sink, C: Clock>(
 ) -> Result<(Store<K0>, Session), (Store<K0>, NoMemory)>
     requires closed { store.left_open ≡ nothing_open }
     requires up { store.mark.fault ≡ None }
-    ensures ends { IfOk result (λ t. RunsKnown K0.down K0.in_flight store (C.ahead clock.old) (S.left source.old) (K.held sink.old) t.1 t.0 (C.ahead clock.new) (K.held sink.new)) }
+    ensures ends { IfOk result (λ t. RunsKnown K0.down K0.in_flight store (C.ahead clock.old) (S.left source.old) (S.left source.new) (K.held sink.old) t.1 t.0 (C.ahead clock.new) (K.held sink.new)) }
     ensures later { IfOk result (λ t. store.began ≤ K0.faults t.0.keeper) }
     ensures rose { IfOk result (λ t. (c : ℕ) → K0.down t.0.keeper ≡ Some c → Rose store.began c × (c ≤ K0.faults t.0.keeper)) }
     ensures read { IfOk result (λ t. t.1 ≡ Session.ReadFault → Rose (S.faults source.old) (S.faults source.new)) }
@@ -84,7 +84,7 @@ pub(crate) fn script<R: Wait, O: Disks, S: Source, K: Sink, C: Clock>(
 ) -> Status
     ensures replies { SaysKnown (Rose (O.faults disks.old) (O.faults disks.new) ⊎ DiskRose O.D.faults (O.at_path disks.old path.now) (O.at_path disks.new path.now))
         (DiskRoseTo O.D.faults (O.at_path disks.old path.now) (O.at_path disks.new path.now)) (DiskStays O.D.faults (O.at_path disks.old path.now) (O.at_path disks.new path.now))
-        (C.ahead clock.old) (C.ahead clock.new) (S.left source.old) (K.held sink.old) result (K.held sink.new) (K.faults sink.old) (K.faults sink.new)
+        (C.ahead clock.old) (C.ahead clock.new) (S.left source.old) (S.left source.new) (K.held sink.old) result (K.held sink.new) (K.faults sink.old) (K.faults sink.new)
         (told_at O.D.told (O.at_path disks.old path.now)) (told_at O.D.told (O.at_path disks.new path.now)) }
     ensures taken { result ≢ Status.Usage }
     ensures read { result ≡ Status.ReadFault → Rose (S.faults source.old) (S.faults source.new) }

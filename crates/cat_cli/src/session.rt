@@ -1,11 +1,11 @@
 //! A session: the requests of a source, one after another, and the replies to them.
 
-ghost use Rattle.std.specs.Prelude.{◌≡◌, ◌≢◌, ◌+◌, IfNone, IfSome, Some};
+ghost use Rattle.std.specs.Prelude.{◌≡◌, ◌≢◌, ◌+◌, IfNone, IfSome, List, Some, ℕ};
 ghost use Rattle.cat_desk.specs.Pass.{Keeps};
 ghost use Rattle.cat_work.specs.Passes.{IsReady};
 ghost use Rattle.std.specs.Io.KnownBytes.{prepend_known};
 ghost use Rattle.cat_io.specs.Causes.{Rose};
-ghost use Rattle.cat_cli.specs.Sessions.{Readings, Point, Turn, Stands, EndsKnown};
+ghost use Rattle.cat_cli.specs.Sessions.{Readings, Point, Turn, Stands, EndsKnown, LeavesCut};
 ghost use Rattle.cat_cli.specs.Answers.{GoesTo, LeavesAt};
 
 use crate::answer::{answer, refuse};
@@ -45,6 +45,7 @@ fn turn<R: Wait, K0: Keeper, S: Source, K: Sink, C: Clock>(
     ensures ends { IfSome result (λ end. (k : Readings) (c : Point) → c.left ≡ left + 1
         → Stands desk.now k c pass.old (C.ahead clock.old) (prepend_known buffer.old.unread (S.left source.old)) (K.held sink.old)
         → LeavesAt desk.now k c end pass.new (C.ahead clock.new) (K.held sink.new)) }
+    ensures cut { result ≡ Some Session.ReadFault → (b : List ℕ) → prepend_known buffer.old.unread (S.left source.old) ≡ Some b → LeavesCut b (S.left source.new) }
     ensures ready { IsReady desk.now pass.new }
     ensures kept { Keeps desk.now pass.old pass.new }
     ensures open { result ≢ Some Session.Capped }
@@ -90,7 +91,7 @@ pub(crate) fn run_session<R: Wait, K0: Keeper, S: Source, K: Sink, C: Clock>(
     clock: &mut C,
 ) -> Session
     requires { IsReady desk.now pass.old }
-    ensures ends { EndsKnown desk.now 1000 pass.old pass.new (C.ahead clock.old) (C.ahead clock.new) (S.left source.old) (K.held sink.old) result (K.held sink.new) }
+    ensures ends { EndsKnown desk.now 1000 pass.old pass.new (C.ahead clock.old) (C.ahead clock.new) (S.left source.old) (S.left source.new) (K.held sink.old) result (K.held sink.new) }
     ensures ready { IsReady desk.now pass.new }
     ensures kept { Keeps desk.now pass.old pass.new }
     ensures read { result ≡ Session.ReadFault → Rose (S.faults source.old) (S.faults source.new) }

@@ -1,4 +1,5 @@
-use Rattle.std.proofs.Common.{◌≡◌, ℕ, ◌+◌, ◌-◌, ◌<◌, ◌≤◌, refl, arith}
+use Rattle.std.proofs.Common.{◌≡◌, ℕ, ◌+◌, ◌-◌, ◌<◌, ◌≤◌, Some, refl, ap, arith}
+use Rattle.cat_cli.specs.declared.ending.Session.TheVariants as ends
 use Rattle.cat_cli.proofs.Points.{reaches_on}
 use Rattle.cat_cli.proofs.Standing.{keeps_on}
 use Rattle.cat_cli.proofs.session.run_session.Goals as goal
@@ -12,6 +13,9 @@ counted left count e h = omega arith
 
 none_left : (left count : ℕ) → left + count ≡ 1000 → 1000 ≤ count → left ≡ 0
 none_left left count e h = omega arith
+
+not_cut : ends.Capped ≡ ends.ReadFault → ⊥
+not_cut e = cc
 
 pub turns-preserved : goal.turns-preserved
 turns-preserved g c = record {
@@ -29,7 +33,7 @@ pub returns-in-Some-clause-ends : goal.returns-in-Some-clause-ends
 returns-in-Some-clause-ends g c k a whole stands =
     let x = c.turns.invariant.reached k a whole stands in
     let t = c.in-Some.ensures.ends k x.0 (next_left x.0.left c.turns.count x.2 c.turns-test.true) x.3 in
-    (t.0, t.1, t.2, (x.0, x.1, t.3), t.4)
+    (t.0, t.1, t.2, (x.0, x.1, t.3, λ e. c.in-Some.ensures.cut (ap Some e) x.0.bytes x.3.bytes_are), t.4)
 
 pub returns-in-Some-clause-kept : goal.returns-in-Some-clause-kept
 returns-in-Some-clause-kept g c = keeps_on c.args.desk.now c.args.pass.now _ _ c.turns.invariant.kept c.in-Some.ensures.kept
@@ -37,4 +41,4 @@ returns-in-Some-clause-kept g c = keeps_on c.args.desk.now c.args.pass.now _ _ c
 pub returns-clause-ends : goal.returns-clause-ends
 returns-clause-ends g c k a whole stands =
     let x = c.turns.invariant.reached k a whole stands in
-    (x.0.written, x.3.held_is, x.0.standing, (x.0, x.1, (none_left x.0.left c.turns.count x.2 c.turns-test.false, refl, refl)), x.3.pass_at)
+    (x.0.written, x.3.held_is, x.0.standing, (x.0, x.1, (none_left x.0.left c.turns.count x.2 c.turns-test.false, refl, refl), λ e. absurd (not_cut e)), x.3.pass_at)

@@ -42,5 +42,10 @@ returns-in-Err-refuse-clause-ends g c k p one stands =
     let cut = c.in-Err-refuse.ensures.cut in
     told_front c.args.desk.now k p cut.0 _ _ _ _ _ (inr (inr (r.1.is_so, cut.1, refl))) stands cut.2
 
+pub returns-in-ReadFault-clause-cut : goal.returns-in-ReadFault-clause-cut
+returns-in-ReadFault-clause-cut g c is b e =
+    let r = read_is incoming.ReadFault (g.S.Source.left c.args.source.now) (g.S.Source.left c.read_request.new.source) c.args.buffer.now c.read_request.new.buffer b c.in-ReadFault.ensures.is e in
+    (r.1.after, r.1.left_is, r.1.is_so)
+
 pub returns-in-ReadFault-clause-ends : goal.returns-in-ReadFault-clause-ends
 returns-in-ReadFault-clause-ends g c k p one stands = cut_short c.args.desk.now k p _ _ _ _ stands
