@@ -122,6 +122,8 @@ def check_statuses():
 
 def check_memory():
     """Want of memory, by a limit on the process: too little to start, then too little for the words, then enough."""
+    if b"__asan_init" in content_of(program):
+        return leave_out("want of memory", "a program that checks its accesses takes far more")
 
     def limited(kilobytes, words):
         return run(words, before=("sh", "-c", f'ulimit -v {kilobytes}; exec "$@"', "sh"))
