@@ -2,6 +2,7 @@
 
 ghost use Rattle.std.specs.Prelude.{◌≡◌, IsTrue};
 ghost use Rattle.sha2.specs.Sha256.{sha256};
+ghost use Rattle.cat_model.specs.Drafts.{nothing_open};
 ghost use Rattle.cat_model.specs.WellMade.{is_well_made};
 
 use crate::asking::change;
@@ -26,7 +27,9 @@ const ENTRY: &[u8] =
     b"\x04\0\0\0\x01\0\0\0\0\0\0\0\x01\0\0\0\0\0\x0fB@\0\0\0\x04main\x01.\x1c\xfa\x82\xb05\xc2l\xbb\xbd\xaec,\xea\x07\x05\x14\xeb\x8bw?aj\xae\xaff\x8e/\x0b\xe8\xf1\x0d\0\0\0\x03one\0\0\0\0\0\0\0\0\0\0\0\0\0\0\0\0\x01\x01\0\x02t1\x01\x01\0\0\0+\x01\0\0\0\0\0\0\0\x01\0\0\0\0\0\0\0\0\0\0\0\x02m1\0\0\0\0\0\0\0\x01\0\0\0\0\0\0\0\0\0\0\0\0\xf9-\xf1L)\x1cU\x08\x1act\xc5\x07K\x13\x94\x01e\x91\xb1\x98\x1c\xd3+;\xdd\xb2\x0a?\x86\xd5\xd4";
 
 /// A store of this one entry.
-fn committed<R: Abort>(rt: &R, alloc: Global) -> Store<MemKeeper> {
+fn committed<R: Abort>(rt: &R, alloc: Global) -> Store<MemKeeper>
+    ensures { result.left_open ≡ nothing_open }
+{
     let Ok(payload) = Bytes::from_slice(alloc, ENTRY) else {
         panic!(rt; "there is memory");
     };
@@ -78,18 +81,18 @@ fn is_copied<R: Abort>(rt: &R, alloc: Global, catalogue: &Catalogue, path: &str)
     is_so
 }
 
-/// What a view counts that is held while a branch is made, what the store counts after, and whether
-/// the view's catalogue was copied.
+/// What a view of a store of one commit counts that is held while a branch is made, what the store
+/// counts after, and whether the view's catalogue was copied.
 fn held<R: Abort>(
     rt: &R,
     alloc: Global,
-    store: &mut Store<MemKeeper>,
     drafted: &Command,
     created: &Command,
 ) -> (Counts, Counts, bool)
     requires drafted { IsTrue (is_well_made sha256 drafted.now) }
     requires created { IsTrue (is_well_made sha256 created.now) }
 {
+    let mut store = committed(rt, alloc);
     let Command::Commit(_) = drafted else {
         panic!(rt; "it is a commit");
     };
@@ -102,7 +105,9 @@ fn held<R: Abort>(
     };
     drop(store.refer(alloc, 2, Moment::from_micros(1_000_000), created));
     let is_copied = is_copied(rt, alloc, view.catalogue(), "t1");
-    (view.catalogue().counts(), store.counts(), is_copied)
+    let found = (view.catalogue().counts(), store.counts(), is_copied);
+    drop(store);
+    found
 }
 
 #[test]
@@ -110,9 +115,7 @@ fn a_view_stays_as_it_is_while_the_catalogue_is_changed(rt: HostRuntime) {
     let alloc = rt.alloc();
     let drafted = change(&rt, alloc, PUT_T2);
     let created = change(&rt, alloc, CREATE_DEV);
-    let mut store = committed(&rt, alloc);
-    let (viewed, left, is_copied) = held(&rt, alloc, &mut store, &drafted, &created);
-    drop(store);
+    let (viewed, left, is_copied) = held(&rt, alloc, &drafted, &created);
     assert!(rt; is_copied);
     assert!(rt; counts(&viewed, 1, 1));
     assert!(rt; counts(&left, 2, 2));
