@@ -1,6 +1,6 @@
 //! The files of the system, by their paths. Trusted, as `file_disk` says.
 
-ghost use Rattle.std.specs.Prelude.{◌≡◌, None};
+ghost use Rattle.std.specs.Prelude.{◌≡◌, None, refl, ⊤};
 ghost use Rattle.cat_io.specs.Standard.{faults_of_folder};
 
 use crate::disks::Disks;
@@ -52,7 +52,19 @@ impl<R: Files<File = File> + Drop> Disks for Folder<R> {
 
     ghost at_path = { λ _ _. None };
 
+    ghost handed = { λ d. d };
+
+    ghost refuses = { λ _ _. ⊤ };
+
     ghost faults = { faults_of_folder };
+
+    ghost handed_tells = { λ d. refl };
+
+    ghost handed_leaves = { λ d c. (λ left. left, λ left. left) };
+
+    ghost handed_moment = { λ d. refl };
+
+    ghost handed_since = { λ d t c. (λ left. left, λ left. left) };
 
     fn open(&mut self, path: &str) -> Result<FileDisk, Failed> {
         match open_alone(&self.runtime, path) {
@@ -69,6 +81,7 @@ impl<R: Files<File = File> + Drop> Disks for Folder<R> {
             keep_path(&mut self.path, self.alloc, path);
             self.faults.keep(error);
         }
+        self.faults.count_more(disk.faults.count);
     }
 }
 
