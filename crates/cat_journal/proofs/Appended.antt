@@ -178,6 +178,11 @@ told_at_rest None n gate images safe = tt
 told_at_rest (Some bytes) n gate images safe =
     recovered-at_rest (payloads bytes) gate bytes safe.rest ∙ ap (λ (l : List (List ℕ)). Ok l) (sym (take_all n (payloads bytes) (omega (arith, safe.count))))
 
+-- either has more bytes than a header
+pub told_headed : (told : Option (List ℕ)) (gates : List ℕ) (gate : ℕ) → IfSome told (λ bytes. IsHeld (first_payloads (length gates) bytes) gates gate bytes) → IfSome told (λ bytes. 16 < length bytes)
+told_headed None gates gate held = tt
+told_headed (Some bytes) gates gate held = omega (arith, held.size, held.there)
+
 -- and what isn't, with or without the one in flight
 pub told_torn : (told : Option (List ℕ)) (gates : List ℕ) (gate : ℕ) (p : List ℕ) (images : List ℕ → Type 0) (down : Option ℕ)
     → IfSome told (λ bytes. IsHeld (first_payloads (length gates) bytes) gates gate bytes) → ((c : ℕ) → down ≡ Some c → IfSome told (IsTorn (length gates) gate p images))

@@ -85,11 +85,12 @@ impl<D: Disk + Send> Journal<D> {
         }
     }
 
-    /// The disk. What it reads opens again with the payloads that are kept, and after an append that
-    /// failed maybe with that one too.
+    /// The disk, which has more bytes than a header. What it reads opens again with the payloads that
+    /// are kept, and after an append that failed maybe with that one too.
     pub fn into_disk(self) -> D
         ensures disk { result ≡ journal_disk self }
         ensures faults { D.faults result ≡ ⟦<Journal<D> as Keeper>⟧.faults self }
+        ensures headed { IfSome (D.told result) (λ bytes. 16 < length bytes) }
         ensures payloads { ⟦<Journal<D> as Keeper>⟧.down self ≡ None → Told (⟦<Journal<D> as Keeper>⟧.told self) (D.told result) (λ ps bytes. recovered bytes ≡ Ok ps) }
         ensures durable { ⟦<Journal<D> as Keeper>⟧.down self ≡ None → Only (D.told result) (D.may_leave result) }
         ensures in_flight { (p : List ℕ) → ⟦<Journal<D> as Keeper>⟧.in_flight self ≡ Some p → Told (⟦<Journal<D> as Keeper>⟧.told self) (D.told result) (λ ps bytes. WithOrWithout ps p (outcome bytes)) }

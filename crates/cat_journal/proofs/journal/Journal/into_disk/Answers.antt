@@ -1,7 +1,10 @@
 use Rattle.std.proofs.Common.{length}
 use Rattle.cat_journal.specs.Frames.{payload_of}
-use Rattle.cat_journal.proofs.Appended.{told_at_rest, told_torn}
+use Rattle.cat_journal.proofs.Appended.{told_at_rest, told_headed, told_torn}
 use Rattle.cat_journal.proofs.journal.Journal.into_disk.Goals as goal
+
+pub returns-clause-headed : goal.returns-clause-headed
+returns-clause-headed g c = let j = c.args.self in told_headed (g.D.Disk.told j.disk) j.gates.items j.end j.held
 
 pub returns-clause-payloads : goal.returns-clause-payloads
 returns-clause-payloads g c up = let j = c.args.self in told_at_rest (g.D.Disk.told j.disk) (length j.gates.items) j.end (g.D.Disk.may_leave j.disk) (j.safe up)
