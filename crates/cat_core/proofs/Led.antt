@@ -1,5 +1,5 @@
 -- Payloads that were read one after another, and what they led to.
-use Rattle.std.proofs.Common.{◌≡◌, ℕ, ◌+◌, ◌≤◌, ◌<◌, List, [], ◌∷◌, ◌++◌, length, get_or, take, drop, reverse, Option, Some, None, Err, IfSome, refl, sym, ap, subst, ◌∙◌, arith, length-append}
+use Rattle.std.proofs.Common.{◌≡◌, ℕ, ◌+◌, ◌≤◌, ◌<◌, List, [], ◌∷◌, ◌++◌, length, get_or, take, drop, reverse, Option, Some, None, Ok, Err, IfSome, refl, sym, ap, subst, ◌∙◌, arith, length-append}
 use Rattle.std.proofs.lemmas.List.{drop_more, take-append-drop, take_all, take_more}
 use Rattle.std.specs.Result.{IsErrOf}
 use Rattle.sha2.specs.Sha256.{sha256}
@@ -23,6 +23,10 @@ told_if told P ps is h = subst (λ (t : Option (List (List ℕ))). IfSome t P) i
 -- a fault as that of another call
 pub fault_of : {T U E : Type 0} (x y : E) → IsErrOf {T = T} (Err x) y → IsErrOf {T = U} (Err x) y
 fault_of {T} {U} {E} x y e = let same : x ≡ y = cc in ap (λ (z : E). Err z) same
+
+-- what is done is no fault
+pub no_fault : {T E : Type 0} (x : T) (y : E) → IsErrOf (Ok x) y → ⊥
+no_fault x y e = absurd cc
 
 -- ---- the payloads so far
 

@@ -52,6 +52,7 @@ fn add_payload<K: Keeper>(
     ensures drafts { OnOk result (AreDrafts replay.new.drafts.keys replay.new.ledger.log) }
     ensures illegal { (place : ℕ) → IsErrOf result (StoreFault.Illegal place) → (place ≡ i + 1) × ((payload : List ℕ) × IsPayloadAt (K.told keeper.old) i payload × (next_by replay.old.ledger payload ≡ None)) }
     ensures fault { IsErrOf result StoreFault.Fault → Rose (K.faults keeper.old) (K.faults keeper.new) }
+    ensures level { (IsErrOf result StoreFault.Fault → ⊥) → K.faults keeper.new ≡ K.faults keeper.old }
     ensures stays { Stayed K.told K.kept K.down K.in_flight K.faults K.moment K.left_since K.may_leave keeper.old keeper.new }
 {
     match keeper.entry(alloc, i) {
@@ -80,6 +81,7 @@ pub(crate) fn led_to<K: Keeper>(
     ensures place { IfOk result (λ ledger. ledger.state.place ≡ K.kept keeper.old) }
     ensures illegal { (place : ℕ) → IsErrOf result (StoreFault.Illegal place) → IsIllegalAt (K.told keeper.old) limits place }
     ensures fault { IsErrOf result StoreFault.Fault → Rose (K.faults keeper.old) (K.faults keeper.new) }
+    ensures level { (IsErrOf result StoreFault.Fault → ⊥) → K.faults keeper.new ≡ K.faults keeper.old }
     ensures stays { Stayed K.told K.kept K.down K.in_flight K.faults K.moment K.left_since K.may_leave keeper.old keeper.new }
 {
     let mut replay = Replay::new(alloc, limits)?;

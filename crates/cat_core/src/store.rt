@@ -1,6 +1,6 @@
 //! The store.
 
-ghost use Rattle.std.specs.Prelude.{ℕ, ◌≡◌, ◌≤◌, [], Some, None, length, reverse, IfErr, IfOk, IfSome, IsTrue, MatchResult};
+ghost use Rattle.std.specs.Prelude.{ℕ, ◌≡◌, ◌≢◌, ◌≤◌, [], Some, None, length, reverse, IfErr, IfOk, IfSome, IsTrue, MatchResult};
 ghost use Rattle.std.specs.Option.{option_map};
 ghost use Rattle.sha2.specs.Sha256.{sha256};
 ghost use Rattle.cat_checks.specs.Histories.{IsLegalFrom, book_at};
@@ -130,6 +130,7 @@ impl<K: Keeper> Store<K> {
             (λ e. Stayed K.told K.kept K.down K.in_flight K.faults K.moment K.left_since K.may_leave keeper e.0) }
         ensures illegal { IfErr result (λ e. (place : ℕ) → e.1 ≡ StoreFault.Illegal place → IsIllegalAt (K.told keeper) limits place) }
         ensures fault { IfErr result (λ e. e.1 ≡ StoreFault.Fault → Rose (K.faults keeper) (K.faults e.0)) }
+        ensures level { MatchResult result (λ store. K.faults store.keeper ≡ K.faults keeper) (λ e. e.1 ≢ StoreFault.Fault → K.faults e.0 ≡ K.faults keeper) }
     {
         let mut keeper = keeper;
         match led_to(alloc, &mut keeper, limits) {

@@ -1,6 +1,6 @@
-use Rattle.std.proofs.Common.{arith}
+use Rattle.std.proofs.Common.{arith, refl, ◌∙◌}
 use Rattle.std.proofs.lemmas.Result.{err_from_is_err_and}
-use Rattle.cat_core.proofs.Led.{fault_of, next_added, next_refused, none_read, stays_on, stays_still}
+use Rattle.cat_core.proofs.Led.{fault_of, next_added, next_refused, no_fault, none_read, stays_on, stays_still}
 use Rattle.cat_core.proofs.opening.led_to.Goals as goal
 
 pub returns-in_err-add_payload-clause-illegal : goal.returns-in_err-add_payload-clause-illegal
@@ -16,6 +16,11 @@ returns-in_err-add_payload-clause-stays g c =
     (g.met.K.Keeper g.world.𝓛 g.world.𝓜 g.world.𝓡 ((λ s x. x), (λ x. x), (λ x. x), λ x. x)).counts_now
     c.args.keeper.now c.loop-i.keeper c.add_payload.new.keeper c.loop-i.invariant.stays c.add_payload.ensures.stays
 
+pub returns-in_err-add_payload-clause-level : goal.returns-in_err-add_payload-clause-level
+returns-in_err-add_payload-clause-level g c = λ other.
+    let p = err_from_is_err_and c.from_residual-in_err-add_payload.result c.from_residual-in_err-add_payload.ensures.1 in
+    c.in_err-add_payload.ensures.level (λ is. other (rw (p.1, p.2) (fault_of _ _ is))) ∙ c.loop-i.invariant.level
+
 pub loop-i-init : goal.loop-i-init
 loop-i-init g c = record {
   led = rw c.in_ok-replay.ensures.ledger (none_read (g.K.Keeper.told c.args.keeper.now) c.args.limits);
@@ -23,6 +28,7 @@ loop-i-init g c = record {
   stays =
       stays_still g.K.Keeper.told g.K.Keeper.kept g.K.Keeper.down g.K.Keeper.in_flight g.K.Keeper.faults g.K.Keeper.moment g.K.Keeper.left_since g.K.Keeper.may_leave
       (g.met.K.Keeper g.world.𝓛 g.world.𝓜 g.world.𝓡 ((λ s x. x), (λ x. x), (λ x. x), λ x. x)).only_now c.args.keeper.now;
+  level = refl;
 }
 
 pub loop-i-preserved : goal.loop-i-preserved
@@ -36,4 +42,5 @@ loop-i-preserved g c = record {
       stays_on g.K.Keeper.told g.K.Keeper.kept g.K.Keeper.down g.K.Keeper.in_flight g.K.Keeper.faults g.K.Keeper.moment g.K.Keeper.left_since g.K.Keeper.may_leave
       (g.met.K.Keeper g.world.𝓛 g.world.𝓜 g.world.𝓡 ((λ s x. x), (λ x. x), (λ x. x), λ x. x)).counts_now
       c.args.keeper.now c.loop-i.keeper c.add_payload.new.keeper c.loop-i.invariant.stays c.add_payload.ensures.stays;
+  level = c.in_ok-add_payload.ensures.level (no_fault _ _) ∙ c.loop-i.invariant.level;
 }

@@ -1,3 +1,4 @@
+use Rattle.std.specs.Prelude.{◌≡◌}
 use Rattle.cat_ledger.specs.Kept.{Stayed}
 use Rattle.cat_core.specs.Opening.{AreDrafts, IsLedSoFar}
 use Rattle.cat_core.proofs.opening.led_to.Given as goal
@@ -7,4 +8,5 @@ invariant-loop-i g l = record {
   led : IsLedSoFar (g.K.Keeper.told l.fn.keeper) l.fn.limits l.i l.replay.ledger;
   drafts : AreDrafts l.replay.drafts.keys l.replay.ledger.log;
   stays : Stayed g.K.Keeper.told g.K.Keeper.kept g.K.Keeper.down g.K.Keeper.in_flight g.K.Keeper.faults g.K.Keeper.moment g.K.Keeper.left_since g.K.Keeper.may_leave l.fn.keeper l.keeper;
+  level : g.K.Keeper.faults l.keeper ≡ g.K.Keeper.faults l.fn.keeper;
 }
