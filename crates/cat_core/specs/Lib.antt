@@ -5,3 +5,4 @@ pub mod Kept
 pub mod Counted
 pub mod Opening
 pub mod HeadLaws
+pub mod Whole

@@ -16,6 +16,7 @@ ghost use Rattle.cat_state.specs.Counting.{main_head};
 ghost use Rattle.cat_ledger.specs.Kept.{Stayed, spellings};
 ghost use Rattle.cat_core.specs.Opening.{IsIllegalAt, IsLedTo};
 ghost use Rattle.cat_core.specs.Stored.{IsSound, MayBeDown, log_of, opened_of};
+ghost use Rattle.cat_core.specs.Whole.{HasHeads, HasVisible};
 
 use crate::opening::{StoreFault, led_to};
 use crate::tickets::{Fallen, OpenDraft, Ticket};
@@ -181,6 +182,17 @@ impl<K: Keeper> Store<K> {
         ensures draft { self.now.mark.draft ≡ self.now.book.draft }
     {
         let _ = &self.fallen;
+    }
+
+    /// What holds of the state: each reference points at a commit that is there, or at the hash that
+    /// has no ancestor, and each content that is visible at a commit is there.
+    pub fn nothing_is_missing(&self)
+        ensures heads { HasHeads sha256 self.now.book.state }
+        ensures visible { HasVisible self.now.book.state }
+    {
+        let catalogue = self.ledger.catalogue();
+        let _ = catalogue.references();
+        catalogue.contents_are_held();
     }
 
     /// What holds of the book and of the drafts beside it.
