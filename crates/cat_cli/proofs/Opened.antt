@@ -1,10 +1,10 @@
 -- What a journal that was opened, or wasn't, says of its disk.
-use Rattle.std.proofs.Common.{◌≡◌, ◌⊎◌, ℕ, ◌<◌, ◌≤◌, List, [], ◌∷◌, ◌++◌, length, reverse, Option, Some, None, IfSome, Result, Ok, Err, refl, sym, ◌∙◌, ap, subst, inl, inr, ⊎_elim, arith}
+use Rattle.std.proofs.Common.{◌≡◌, ◌⊎◌, ℕ, ◌<◌, ◌≤◌, List, [], ◌∷◌, ◌++◌, length, reverse, Option, Some, None, IfSome, Bool, true, false, Result, Ok, Err, refl, sym, ◌∙◌, ap, subst, inl, inr, ⊎_elim, arith}
 use Rattle.std.specs.Option.{option_map}
 use Rattle.sha2.specs.Sha256.{sha256}
-use Rattle.cat_io.specs.Causes.{Rose}
+use Rattle.cat_io.specs.Causes.{Rose, raised_by}
 use Rattle.cat_io.specs.Crashes.{Told}
-use Rattle.cat_io.specs.Places.{stood, taken}
+use Rattle.cat_io.specs.Places.{IsHanded, stood, taken}
 use Rattle.cat_checks.specs.Legal.{replayed}
 use Rattle.cat_core.specs.declared.opening.StoreFault.{StoreFault}
 use Rattle.cat_core.specs.declared.opening.StoreFault.TheVariants as store_faults
@@ -23,23 +23,32 @@ use Rattle.cat_cli.specs.declared.status.Status.{Status}
 use Rattle.cat_cli.specs.declared.status.Status.TheVariants as statuses
 use Rattle.cat_cli.specs.declared.unopened.Unopened.{Unopened}
 use Rattle.cat_cli.specs.declared.unopened.Unopened.TheVariants as whys
-use Rattle.cat_cli.specs.Journals.{Begins, DiskRose, DiskRoseTo, DiskStays, Holds, IsBack, StandsFor, Stays, told_at}
-use Rattle.cat_cli.specs.Opening.{FaultKnown, FaultTold, IsReason, IsStored, Refused, RefusedKnown, by_journal, by_store}
-use Rattle.cat_cli.specs.Runs.{Refuses, RefusesSo, Seen}
+use Rattle.cat_cli.specs.Journals.{Begins, DisksFell, Holds, IsBack, IsJournalOf, RoseBy, StandsFor, TellsAs, told_at}
+use Rattle.cat_cli.specs.Opening.{FaultKnown, FaultTold, IsReason, IsStored, Refused, RefusedKnown, by_journal, by_store, is_unreadable}
+use Rattle.cat_cli.specs.Runs.{Refuses, RefusesSo, Seen, spares_disks}
 use Rattle.cat_cli.specs.Sessions.{Fallen}
 use Rattle.cat_cli.proofs.Told.{some_is, not_none}
 
 -- ---- counts of faults
 
-pub rose_later : (a b c : ℕ) → a ≤ b → Rose b c → Rose a c
-rose_later a b c le rose = omega (arith, le, rose)
+-- a count that rose from 0 isn't 0
+pub rose_first : (fresh now : ℕ) → fresh ≡ 0 → Rose fresh now → 0 < now
+rose_first fresh now is rose = omega (arith, is, rose)
 
-pub rose_on : (a b c : ℕ) → Rose a b → b ≤ c → Rose a c
-rose_on a b c rose le = omega (arith, rose, le)
+-- a disk was given back that had counted a fault
+rose_more : (before mid now more : ℕ) → mid ≡ before → now ≡ raised_by more mid → 0 < more → Rose before now
+rose_more before mid now more is by some = omega (arith, is, by, some)
 
--- a count that neither fell nor rose is as it was
-pub unraised : (before now : ℕ) → before ≤ now → (Rose before now → ⊥) → Stays before now
-unraised before now later stays = (omega (arith, later, stays), omega (arith, later, stays))
+-- one whose count rose to this one at least
+rose_by : (before mid now kept count : ℕ) → mid ≡ before → now ≡ raised_by kept mid → 0 < count → count ≤ kept → RoseBy before now count
+rose_by before mid now kept count is by some most = record { counted = some; rose = omega (arith, is, by, most) }
+
+-- an append failed at this count, on a disk that had counted no fault
+pub rises : (began kept before mid now count : ℕ) → began ≡ 0 → mid ≡ before → now ≡ raised_by kept mid → Rose began count × (count ≤ kept) → RoseBy before now count × (0 < kept)
+rises began kept before mid now count fresh is by rose =
+    let some : 0 < count = rose_first began count fresh rose.0 in
+    let most : count ≤ kept = rose.1 in
+    (rose_by before mid now kept count is by some most, omega (arith, some, most))
 
 -- ---- bytes, and the payloads that they recover to
 
@@ -122,6 +131,12 @@ store_failed store_faults.Fault e = refl
 store_failed store_faults.NoMemory e = cc
 store_failed (store_faults.Illegal p) e = cc
 
+pub journal_spared : (fault : OpenFault) → (by_journal fault ≡ whys.Fault → ⊥) → fault ≡ faults.Fault → ⊥
+journal_spared fault no is = no (ap by_journal is)
+
+pub store_spared : (fault : StoreFault) → (by_store fault ≡ whys.Fault → ⊥) → fault ≡ store_faults.Fault → ⊥
+store_spared fault no is = no (ap by_store is)
+
 -- a disk's fault is one of the reasons
 refused_fault : (w h : List ℕ) (status : Status) (before now : ℕ) → FaultTold w status h before now → Refused whys.Fault w status h before now
 refused_fault w h statuses.DiskFault before now p = (refl, p)
@@ -136,30 +151,61 @@ refused_fault w h statuses.Cut before now p = absurd p
 pub refused_known : (held after : Option (List ℕ)) (status : Status) (before now : ℕ) → FaultKnown held status after before now → RefusedKnown whys.Fault held status after before now
 refused_known held after status before now told w e = let x = told w e in (x.0, x.1, refused_fault w x.0 status before now x.2)
 
--- what the run says then
-refuses : (fell : Type 0) (s : Seen) (why : Unopened) (status : Status) → IsReason s.journal why → (why ≡ whys.Fault → fell) → Refused why s.written status s.held s.before s.now → Refuses fell s status
-refuses fell s why statuses.DiskFault reason cause p = (cause p.0, p.1)
-refuses fell s why statuses.WriteFault reason cause p = (cause p.0, p.1)
-refuses fell s why statuses.Unreadable reason cause p = (why, reason p.0, p.1)
-refuses fell s why statuses.NoMemory reason cause p = p
-refuses fell s why statuses.Done reason cause p = absurd p
-refuses fell s why statuses.Usage reason cause p = absurd p
-refuses fell s why statuses.ReadFault reason cause p = absurd p
-refuses fell s why statuses.Cut reason cause p = absurd p
+-- a fault is told, or a write of that failed
+abbrev pub EndsAtFault : Unopened → Status → Type 0
+EndsAtFault why status = why ≡ whys.Fault → (status ≡ statuses.DiskFault) ⊎ (status ≡ statuses.WriteFault)
 
-pub refuses_known : (fell : Type 0) (why : Unopened) (status : Status) (held after journal left : Option (List ℕ)) (before now : ℕ) (w : List ℕ)
-    → IsReason journal why → (why ≡ whys.Fault → fell) → StandsFor journal left → RefusedKnown why held status after before now → held ≡ Some w
-    → (h : List ℕ) × (after ≡ Some h) × RefusesSo fell (record { written = w; held = h; before = before; now = now; journal = journal; left = left }) status
-refuses_known fell why status held after journal left before now w reason cause stands told e =
+no_fault : (why : Unopened) → is_unreadable why ≡ true → why ≡ whys.Fault → ⊥
+no_fault whys.Fault is fault = cc
+no_fault whys.NoMemory is fault = cc
+no_fault (whys.Version n) is fault = cc
+no_fault (whys.Damaged o) is fault = cc
+no_fault (whys.Illegal p) is fault = cc
+
+clash : false ≡ true → ⊥
+clash e = cc
+
+memory_is_no_fault : statuses.NoMemory ≡ statuses.DiskFault → ⊥
+memory_is_no_fault is = cc
+
+memory_is_no_write : statuses.NoMemory ≡ statuses.WriteFault → ⊥
+memory_is_no_write is = cc
+
+-- what the run says then
+refuses : (fell level : Type 0) (s : Seen) (why : Unopened) (status : Status) → IsReason s.journal why → (why ≡ whys.Fault → fell) → ((why ≡ whys.Fault → ⊥) → level) → EndsAtFault why status
+    → Refused why s.written status s.held s.before s.now → Refuses fell level s status
+refuses fell level s why statuses.DiskFault reason cause spares ends p = (cause p.0, p.1)
+refuses fell level s why statuses.WriteFault reason cause spares ends p = (cause p.0, p.1)
+refuses fell level s why statuses.Unreadable reason cause spares ends p = (spares (no_fault why p.0), why, reason p.0, p.1)
+refuses fell level s why statuses.NoMemory reason cause spares ends p = (spares (λ is. ⊎_elim memory_is_no_fault memory_is_no_write (ends is)), p)
+refuses fell level s why statuses.Done reason cause spares ends p = absurd p
+refuses fell level s why statuses.Usage reason cause spares ends p = absurd p
+refuses fell level s why statuses.ReadFault reason cause spares ends p = absurd p
+refuses fell level s why statuses.Cut reason cause spares ends p = absurd p
+
+pub refuses_known : (fell level : Type 0) (why : Unopened) (status : Status) (held after journal left : Option (List ℕ)) (before now : ℕ) (w : List ℕ)
+    → IsReason journal why → (why ≡ whys.Fault → fell) → ((why ≡ whys.Fault → ⊥) → level) → EndsAtFault why status → StandsFor journal left → RefusedKnown why held status after before now → held ≡ Some w
+    → (h : List ℕ) × (after ≡ Some h) × RefusesSo fell level (record { written = w; held = h; before = before; now = now; journal = journal; left = left }) status
+refuses_known fell level why status held after journal left before now w reason cause spares ends stands told e =
     let x = told w e in
     let s : Seen = record { written = w; held = x.0; before = before; now = now; journal = journal; left = left } in
-    (x.0, x.1, (refuses fell s why status reason cause x.2, stands))
+    (x.0, x.1, (refuses fell level s why status reason cause spares ends x.2, stands))
+
+spares_fault : (status : Status) → spares_disks status ≡ true → status ≡ statuses.DiskFault → ⊥
+spares_fault status is e = let no : false ≡ true = subst (λ (st : Status). spares_disks st ≡ true) e is in clash no
+
+spares_write : (status : Status) → spares_disks status ≡ true → status ≡ statuses.WriteFault → ⊥
+spares_write status is e = let no : false ≡ true = subst (λ (st : Status). spares_disks st ≡ true) e is in clash no
+
+-- a status that spares the disks comes of no fault of theirs
+pub spares : (why : Unopened) (status : Status) → EndsAtFault why status → spares_disks status ≡ true → why ≡ whys.Fault → ⊥
+spares why status ends is fault = ⊎_elim (spares_fault status is) (spares_write status is) (ends fault)
 
 -- ---- the store that is opened
 
-pub stored : (told : Option (List ℕ)) (ps : Option (List (List ℕ))) (kept : ℕ) (limits : Limits) (book : Book) (down : Option ℕ) (before now : ℕ)
-    → limits ≡ program_limits → Told told ps (λ bytes l. recovered bytes ≡ Ok l) → IsLedTo ps kept limits book → down ≡ None → before ≤ now → IsStored told book down before now
-stored told ps kept limits book down before now program t led up later = record {
+pub stored : (told : Option (List ℕ)) (ps : Option (List (List ℕ))) (kept : ℕ) (limits : Limits) (book : Book) (down : Option ℕ)
+    → limits ≡ program_limits → Told told ps (λ bytes l. recovered bytes ≡ Ok l) → IsLedTo ps kept limits book → down ≡ None → IsStored told book down
+stored told ps kept limits book down program t led up = record {
   payloads = led.payloads;
   begins = record {
     recovers = recovers told ps led.payloads t led.are;
@@ -167,7 +213,6 @@ stored told ps kept limits book down before now program t led up later = record 
   };
   spelled = led.spelled;
   up = up;
-  later = later;
 }
 
 -- ---- its disk
@@ -180,22 +225,27 @@ outcome_ok (Ok l) ps e = ap (λ (x : List (List ℕ)). Ok x) (same l ps e)
 outcome_ok (Err f) ps e = cc
 
 -- a torn append
-torn : (ps : Option (List (List ℕ))) (told : Option (List ℕ)) (payloads : List (List ℕ)) (p : List ℕ) → Told ps told (λ l bytes. WithOrWithout l p (outcome bytes)) → IfSome ps (λ l. l ≡ payloads)
-    → IfSome told (λ bytes. (recovered bytes ≡ Ok payloads) ⊎ (recovered bytes ≡ Ok (payloads ++ p ∷ [])))
-torn ps None payloads p t are = tt
-torn None (Some bytes) payloads p t are = absurd t
-torn (Some l) (Some bytes) payloads p t are =
-    ⊎_elim (λ (e : outcome bytes ≡ Some l). inl (outcome_ok (recovered bytes) l e ∙ ap (λ (x : List (List ℕ)). Ok x) are))
-    (λ (e : outcome bytes ≡ Some (l ++ p ∷ [])). inr (outcome_ok (recovered bytes) (l ++ p ∷ []) e ∙ ap (λ (x : List (List ℕ)). Ok (x ++ p ∷ [])) are)) t
+torn : (ps : Option (List (List ℕ))) (told : Option (List ℕ)) (payloads : List (List ℕ)) (p : List ℕ) → IfSome told (λ bytes. 16 < length bytes) → Told ps told (λ l bytes. WithOrWithout l p (outcome bytes))
+    → IfSome ps (λ l. l ≡ payloads) → IfSome told (λ bytes. IsJournalOf payloads bytes ⊎ IsJournalOf (payloads ++ p ∷ []) bytes)
+torn ps None payloads p headed t are = tt
+torn None (Some bytes) payloads p headed t are = absurd t
+torn (Some l) (Some bytes) payloads p headed t are =
+    ⊎_elim (λ (e : outcome bytes ≡ Some l). inl (outcome_ok (recovered bytes) l e ∙ ap (λ (x : List (List ℕ)). Ok x) are, headed))
+    (λ (e : outcome bytes ≡ Some (l ++ p ∷ [])). inr (outcome_ok (recovered bytes) (l ++ p ∷ []) e ∙ ap (λ (x : List (List ℕ)). Ok (x ++ p ∷ [])) are, headed)) t
+
+is_journal : (told : Option (List ℕ)) (payloads : List (List ℕ)) → IfSome told (λ bytes. 16 < length bytes) → IfSome told (λ bytes. recovered bytes ≡ Ok payloads) → IfSome told (IsJournalOf payloads)
+is_journal None payloads headed is = tt
+is_journal (Some bytes) payloads headed is = (is, headed)
 
 pub holds_log : (ps : Option (List (List ℕ))) (told : Option (List ℕ)) (book : Book) (down : Option ℕ) (in_flight : Option (List ℕ))
+    → IfSome told (λ bytes. 16 < length bytes)
     → IfSome ps (λ l. l ≡ spellings (reverse book.log))
     → (down ≡ None → Told ps told (λ l bytes. recovered bytes ≡ Ok l))
     → ((p : List ℕ) → in_flight ≡ Some p → Told ps told (λ l bytes. WithOrWithout l p (outcome bytes)))
     → (fallen : Option Fallen) → down ≡ option_map (λ (f : Fallen). f.count) fallen → in_flight ≡ option_map (λ (f : Fallen). spelling f.entry) fallen
     → IfSome told (Holds (spellings (reverse book.log)) fallen)
-holds_log ps told book down in_flight are at_rest flies None is_up idle = recovers_back ps told (spellings (reverse book.log)) (at_rest is_up) are
-holds_log ps told book down in_flight are at_rest flies (Some f) is_down fly = torn ps told (spellings (reverse book.log)) (spelling f.entry) (flies (spelling f.entry) fly) are
+holds_log ps told book down in_flight headed are at_rest flies None is_up idle = is_journal told (spellings (reverse book.log)) headed (recovers_back ps told (spellings (reverse book.log)) (at_rest is_up) are)
+holds_log ps told book down in_flight headed are at_rest flies (Some f) is_down fly = torn ps told (spellings (reverse book.log)) (spelling f.entry) headed (flies (spelling f.entry) fly) are
 
 -- ---- the place of the disk
 
@@ -203,53 +253,67 @@ module _ {D : Type 0} (told : D → Option (List ℕ)) where
   none_stands : (disk : D) → ◌≡◌ {A = Option D} None (Some disk) → ⊥
   none_stands disk e = cc
 
+  stood_is : (a b : D) → ◌≡◌ {A = Option D} (Some a) (Some b) → a ≡ b
+  stood_is a b e = cc
+
+  -- a disk that was handed out tells what the one at its path did
+  pub tells_as : (handed : D → D) → ((d : D) → told (handed d) ≡ told d) → (place : Option (Option D)) (disk : D) → IfSome place (IsHanded handed disk) → TellsAs told place disk
+  tells_as handed tells None disk is = tt
+  tells_as handed tells (Some None) disk is = absurd (none_stands is.0 is.1)
+  tells_as handed tells (Some (Some d)) disk is = ap told (stood_is d is.0 is.1) ∙ sym (tells is.0) ∙ ap told (sym is.2)
+
   -- what a disk at a path tells, as far as the disks tell
-  pub reason_at : (place : Option (Option D)) (disk : D) (why : Unopened) → IfSome place (λ p. p ≡ Some disk) → IsReason (told disk) why → IsReason (told_at told place) why
+  pub reason_at : (place : Option (Option D)) (disk : D) (why : Unopened) → TellsAs told place disk → IsReason (told disk) why → IsReason (told_at told place) why
   reason_at None disk why is r = reason_untold (told disk) why r
-  reason_at (Some None) disk why is r = absurd (none_stands disk is)
-  reason_at (Some (Some d)) disk why is r = subst (λ (p : Option D). IsReason (told_at told (Some p)) why) (sym is) r
+  reason_at (Some None) disk why is r = absurd is
+  reason_at (Some (Some d)) disk why is r = subst (λ (t : Option (List ℕ)). IsReason t why) (sym is) r
 
-  pub stands_at : (place : Option (Option D)) (disk again : D) → IfSome place (λ p. p ≡ Some disk) → StandsFor (told disk) (told again) → StandsFor (told_at told place) (told_at told (stood again (taken place)))
+  stands_at : (place : Option (Option D)) (disk again : D) → TellsAs told place disk → StandsFor (told disk) (told again) → StandsFor (told_at told place) (told_at told (stood again (taken place)))
   stands_at None disk again is s before now e f = absurd (not_none before e)
-  stands_at (Some None) disk again is s before now e f = absurd (none_stands disk is)
-  stands_at (Some (Some d)) disk again is s before now e f = subst (λ (p : Option D). StandsFor (told_at told (Some p)) (told again)) (sym is) s before now e f
+  stands_at (Some None) disk again is s before now e f = absurd is
+  stands_at (Some (Some d)) disk again is s before now e f = subst (λ (t : Option (List ℕ)). StandsFor t (told again)) (sym is) s before now e f
 
-  pub begins_at : (place : Option (Option D)) (disk : D) (payloads : List (List ℕ)) (book : Book) → IfSome place (λ p. p ≡ Some disk) → Begins (told disk) payloads book → Begins (told_at told place) payloads book
+  pub begins_at : (place : Option (Option D)) (disk : D) (payloads : List (List ℕ)) (book : Book) → TellsAs told place disk → Begins (told disk) payloads book → Begins (told_at told place) payloads book
   begins_at None disk payloads book is b = record { recovers = tt; led = b.led }
-  begins_at (Some None) disk payloads book is b = absurd (none_stands disk is)
-  begins_at (Some (Some d)) disk payloads book is b = subst (λ (p : Option D). Begins (told_at told (Some p)) payloads book) (sym is) b
+  begins_at (Some None) disk payloads book is b = absurd is
+  begins_at (Some (Some d)) disk payloads book is b = subst (λ (t : Option (List ℕ)). Begins t payloads book) (sym is) b
 
   -- and what stands there once a disk was given back
   pub left_at : (place : Option (Option D)) (again : D) (P : List ℕ → Type 0) → IfSome (told again) P → IfSome (told_at told (stood again (taken place))) P
   left_at None again P p = tt
   left_at (Some place) again P p = p
 
-module _ {D : Type 0} where
-  nothing_stands : (disk : D) → ◌≡◌ {A = Option D} None (Some disk) → ⊥
-  nothing_stands disk e = cc
-
-  pub is_back : (place : Option (Option D)) (disk again : D) → IfSome place (λ p. p ≡ Some disk) → IsBack place (stood again (taken place))
+  is_back : (place : Option (Option D)) (disk again : D) → TellsAs told place disk → IsBack place (stood again (taken place))
   is_back None disk again is = refl
-  is_back (Some None) disk again is = absurd (nothing_stands disk is)
+  is_back (Some None) disk again is = absurd is
   is_back (Some (Some d)) disk again is = (again, refl)
 
+  -- the disk was taken from its path, and given back there
+  pub stands_back : (place mid place' : Option (Option D)) (disk again : D) → TellsAs told place disk → mid ≡ taken place → place' ≡ stood again mid → StandsFor (told disk) (told again) → StandsFor (told_at told place) (told_at told place')
+  stands_back place mid place' disk again is out back s =
+      subst (λ (q : Option (Option D)). StandsFor (told_at told place) (told_at told q)) (sym (back ∙ ap (stood again) out)) (stands_at place disk again is s)
+
+  pub back_again : (place mid place' : Option (Option D)) (disk again : D) → TellsAs told place disk → mid ≡ taken place → place' ≡ stood again mid → IsBack place place'
+  back_again place mid place' disk again is out back = subst (λ (q : Option (Option D)). IsBack place q) (sym (back ∙ ap (stood again) out)) (is_back place disk again is)
+
+module _ {D : Type 0} where
   pub is_back_untouched : (place : Option (Option D)) → IsBack place place
   is_back_untouched None = refl
   is_back_untouched (Some None) = refl
   is_back_untouched (Some (Some d)) = (d, refl)
 
-  pub is_there : (place : Option (Option D)) (again : D) → IfSome (stood again (taken place)) (λ p. p ≡ Some again)
+  is_there : (place : Option (Option D)) (again : D) → IfSome (stood again (taken place)) (λ p. p ≡ Some again)
   is_there None again = tt
   is_there (Some place) again = refl
 
-  pub disk_rose : (faults : D → ℕ) (place : Option (Option D)) (disk again : D) → IfSome place (λ p. p ≡ Some disk) → Rose (faults disk) (faults again) → DiskRose faults place (stood again (taken place))
-  disk_rose faults place disk again is rose = record { opened = disk; again = again; was = is; is = is_there place again; rose = rose }
-
-  pub disk_rose_to : (faults : D → ℕ) (place : Option (Option D)) (disk again : D) (count : ℕ) → IfSome place (λ p. p ≡ Some disk) → Rose (faults disk) count → count ≤ faults again
-      → DiskRoseTo faults place (stood again (taken place)) count
-  disk_rose_to faults place disk again count is rose most = record { opened = disk; again = again; was = is; is = is_there place again; rose = rose; most = most }
-
-  pub disk_stays : (faults : D → ℕ) (place : Option (Option D)) (disk again : D) → IfSome place (λ p. p ≡ Some disk) → Stays (faults disk) (faults again) → DiskStays faults place (stood again (taken place))
-  disk_stays faults None disk again is stays = tt
-  disk_stays faults (Some None) disk again is stays = absurd (nothing_stands disk is)
-  disk_stays faults (Some (Some d)) disk again is stays = subst (λ (p : Option D). DiskStays faults (Some p) (Some (Some again))) (sym is) stays
+  -- the disk of a path failed, and was given back
+  pub disk_fell : (refuses : Type 0) (faults : D → ℕ) (place mid place' : Option (Option D)) (again : D) (before opened now count : ℕ) → mid ≡ taken place → place' ≡ stood again mid → faults again ≡ count
+      → opened ≡ before → now ≡ raised_by count opened → 0 < count → DisksFell refuses faults place' before now
+  disk_fell refuses faults place mid place' again before opened now count out back counted level rises some = record {
+    rose = rose_more before opened now count level rises some;
+    cause = inr (record {
+      again = again;
+      is = subst (λ (q : Option (Option D)). IfSome q (λ p. p ≡ Some again)) (sym (back ∙ ap (stood again) out)) (is_there place again);
+      counted = subst (λ (n : ℕ). 0 < n) (sym counted) some;
+    });
+  }

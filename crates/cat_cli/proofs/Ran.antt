@@ -1,8 +1,7 @@
 -- A session on the catalogue of a journal that was opened, and is given back.
-use Rattle.std.proofs.Common.{◌≡◌, ◌⊎◌, ℕ, ◌≤◌, List, ◌++◌, reverse, Option, Some, None, IfSome, Bool, true, false, refl, sym, ◌∙◌, ap, subst, inl, inr, arith}
+use Rattle.std.proofs.Common.{◌≡◌, ℕ, ◌<◌, List, ◌++◌, reverse, Option, Some, None, IfSome, Bool, true, false, refl, sym, ◌∙◌, ap, subst, inl, inr, arith}
 use Rattle.std.specs.Option.{option_map}
 use Rattle.std.proofs.lemmas.List.{reverse-append, reverse-reverse, map-append}
-use Rattle.cat_io.specs.Causes.{Rose}
 use Rattle.cat_io.specs.Places.{stood, taken}
 use Rattle.cat_ledger.specs.Kept.{spelling, spellings}
 use Rattle.cat_core.specs.Stored.{Stored}
@@ -11,13 +10,13 @@ use Rattle.cat_cli.specs.declared.ending.Session.{Session as End}
 use Rattle.cat_cli.specs.declared.ending.Session.TheVariants as ends
 use Rattle.cat_cli.specs.declared.status.Status.{Status}
 use Rattle.cat_cli.specs.declared.status.Status.TheVariants as statuses
-use Rattle.cat_cli.specs.Journals.{DiskRose, DiskRoseTo, DiskStays, Holds, Stays, told_at}
+use Rattle.cat_cli.specs.Journals.{Holds, told_at}
 use Rattle.cat_cli.specs.Opening.{HoldsLog, IsOpened, IsClosed, status_of}
-use Rattle.cat_cli.specs.Runs.{Answers, Ran, RanWell, Says, Seen, start, tells_all}
+use Rattle.cat_cli.specs.Runs.{Answers, Ran, RanWell, Says, Seen, spares_disks, start, tells_all}
 use Rattle.cat_cli.specs.Sessions.{Readings, Fallen}
 use Rattle.cat_cli.specs.SessionLaws.{log_grows}
 use Rattle.cat_cli.specs.Stores.{RunsKnown}
-use Rattle.cat_cli.proofs.Opened.{begins_at, disk_rose, disk_rose_to, disk_stays, left_at, rose_later, rose_on, unraised}
+use Rattle.cat_cli.proofs.Opened.{begins_at, left_at}
 
 -- the entries of a log that grew
 log_of : (payloads : List (List ℕ)) (before after news : List LogEntry) → payloads ≡ spellings (reverse before) → after ≡ news ++ before → spellings (reverse after) ≡ payloads ++ spellings (reverse news)
@@ -81,6 +80,20 @@ disk_failed ends.Capped false e = cc
 disk_failed ends.BadHead false e = cc
 disk_failed ends.TooLarge false e = cc
 
+-- the disks are spared only where the disk didn't fail
+not_failed : (end : End) (rose : Bool) → spares_disks (status_of end rose) ≡ true → rose ≡ false
+not_failed end false e = refl
+not_failed ends.NoMemory true e = cc
+not_failed ends.WriteFault true e = cc
+not_failed ends.ReadFault true e = cc
+not_failed ends.Closed true e = cc
+not_failed ends.Capped true e = cc
+not_failed ends.BadHead true e = cc
+not_failed ends.TooLarge true e = cc
+
+pub spared : (end : End) (rose : Bool) (status : Status) → status ≡ status_of end rose → spares_disks status ≡ true → rose ≡ false
+spared end rose status is e = not_failed end rose (subst (λ (st : Status). spares_disks st ≡ true) is e)
+
 -- a session in which a write failed doesn't tell all
 pub not_all : (end : End) (rose : Bool) (status : Status) → status ≡ status_of end rose → tells_all status ≡ true → end ≡ ends.WriteFault → ⊥
 not_all end rose status is all e =
@@ -105,48 +118,30 @@ none_fell : (down : Option ℕ) (fallen : Option Fallen) → down ≡ option_map
 none_fell down None is up = refl
 none_fell down (Some f) is up = absurd (up f.count is)
 
--- and where one did, the disk's count rose so
+not_both : (n : ℕ) → 0 < n → n ≡ 0 → ⊥
+not_both n some none = omega (arith, some, none)
+
+-- and where one did, the disks' count rose so
 one_fell : (P : ℕ → Type 0) (down : Option ℕ) (fallen : Option Fallen) → down ≡ option_map (λ (f : Fallen). f.count) fallen → ((c : ℕ) → down ≡ Some c → P c) → IfSome fallen (λ f. P f.count)
 one_fell P down None is rose = tt
 one_fell P down (Some f) is rose = rose f.count is
 
 module _ {D K : Type 0} (told : D → Option (List ℕ)) (faults : D → ℕ) (down : K → Option ℕ) (in_flight : K → Option (List ℕ)) (kept_faults : K → ℕ)
-    (place mid place' : Option (Option D)) (count : ℕ) (old new : Stored K) (ahead ahead' : Option Readings) (bytes unread held after : Option (List ℕ)) (before now : ℕ) (end : End)
-    (opened : IsOpened told faults place mid count old.book (down old.keeper) (kept_faults old.keeper))
+    (place mid place' : Option (Option D)) (old new : Stored K) (ahead ahead' : Option Readings) (bytes unread held after : Option (List ℕ)) (before now : ℕ) (end : End)
+    (opened : IsOpened told place mid old.book (down old.keeper) (kept_faults old.keeper))
     (session : RunsKnown down in_flight old ahead bytes unread held end new ahead' after)
     (closed : IsClosed faults mid place' (kept_faults new.keeper) (λ disk. HoldsLog down in_flight new.keeper new.book (told disk))) where
   there : place' ≡ stood closed.disk (taken place)
   there = closed.back ∙ ap (stood closed.disk) opened.out
 
-  -- its disk failed
-  pub failed : Rose count (kept_faults new.keeper) → DiskRose faults place place'
-  failed rose =
-      let by_disk : Rose (faults opened.disk) (faults closed.disk) =
-      subst (λ (n : ℕ). Rose n (faults closed.disk)) opened.counted (subst (λ (n : ℕ). Rose count n) (sym closed.counted) rose) in
-      subst (λ (q : Option (Option D)). DiskRose faults place q) (sym there) (disk_rose faults place opened.disk closed.disk opened.was by_disk)
-
-  -- and its count rose to that one
-  failed_to : (c : ℕ) → Rose count c → c ≤ kept_faults new.keeper → DiskRoseTo faults place place' c
-  failed_to c rose most =
-      let by_disk : Rose (faults opened.disk) c = subst (λ (n : ℕ). Rose n c) opened.counted rose in
-      let at_most : c ≤ faults closed.disk = subst (λ (n : ℕ). c ≤ n) (sym closed.counted) most in
-      subst (λ (q : Option (Option D)). DiskRoseTo faults place q c) (sym there) (disk_rose_to faults place opened.disk closed.disk c opened.was by_disk at_most)
-
-  -- or didn't
-  stayed : count ≤ kept_faults new.keeper → (Rose count (kept_faults new.keeper) → ⊥) → DiskStays faults place place'
-  stayed later stays =
-      let at_rest : Stays (faults opened.disk) (faults closed.disk) =
-      subst (λ (n : ℕ). Stays n (faults closed.disk)) opened.counted (subst (λ (n : ℕ). Stays count n) (sym closed.counted) (unraised count (kept_faults new.keeper) later stays)) in
-      subst (λ (q : Option (Option D)). DiskStays faults place q) (sym there) (disk_stays faults place opened.disk closed.disk opened.was at_rest)
-
   -- what is seen of it
   abbrev pub seen : List ℕ → List ℕ → Seen
   seen w h = record { written = w; held = h; before = before; now = now; journal = told_at told place; left = told_at told place' }
 
-  -- how it went, where a failed append has raised its disk's count
-  pub ran : (clock : Readings) (b w : List ℕ) → ((c : ℕ) → down new.keeper ≡ Some c → Rose count c × (c ≤ kept_faults new.keeper)) → ahead ≡ Some clock → bytes ≡ Some b → held ≡ Some w
-      → (h : List ℕ) × (after ≡ Some h) × (r : Ran (DiskRoseTo faults place place') clock ahead' b unread (seen w h) end) × (down new.keeper ≡ option_map (λ (f : Fallen). f.count) r.last.fallen)
-  ran clock b w raised a e f =
+  -- how it went, where to is so of the count at which an append failed
+  pub ran : (to : ℕ → Type 0) (clock : Readings) (b w : List ℕ) → ((c : ℕ) → down new.keeper ≡ Some c → to c) → ahead ≡ Some clock → bytes ≡ Some b → held ≡ Some w
+      → (h : List ℕ) × (after ≡ Some h) × (r : Ran to clock ahead' b unread (seen w h) end) × (down new.keeper ≡ option_map (λ (f : Fallen). f.count) r.last.fallen)
+  ran to clock b w raised a e f =
       let x = session clock b w a e f in
       let grew = log_grows clock (start old.book b w) end x.0 x.2 unread x.3 in
       let holds : IfSome (told closed.disk) (Holds (spellings (reverse new.book.log)) x.2.fallen) = closed.has x.2.fallen x.4.down_is x.4.flies in
@@ -166,23 +161,18 @@ module _ {D K : Type 0} (told : D → Option (List ℕ)) (faults : D → ℕ) (d
               subst (λ (q : Option (Option D)). IfSome (told_at told q) (Holds (opened.stored.payloads ++ spellings (reverse grew.0)) x.2.fallen)) (sym there)
               (left_at told place closed.disk (Holds (opened.stored.payloads ++ spellings (reverse grew.0)) x.2.fallen)
               (subst (λ (l : List (List ℕ)). IfSome (told closed.disk) (Holds l x.2.fallen)) log holds));
-          cause = one_fell (DiskRoseTo faults place place') (down new.keeper) x.2.fallen x.4.down_is (λ c is. let r = raised c is in failed_to c r.0 r.1);
+          cause = one_fell to (down new.keeper) x.2.fallen x.4.down_is raised;
           reads_on = x.5;
         },
         x.4.down_is,
       )
 
-  -- and what it says, by the status
-  pub says : (others : Type 0) (clock : Readings) (b w : List ℕ) (rose : Bool) (status : Status) → status ≡ status_of end rose
-      → old.began ≡ kept_faults old.keeper → old.began ≤ kept_faults new.keeper → ((c : ℕ) → down new.keeper ≡ Some c → Rose old.began c × (c ≤ kept_faults new.keeper))
-      → (rose ≡ false → Rose count (kept_faults new.keeper) → ⊥)
-      → ahead ≡ Some clock → bytes ≡ Some b → held ≡ Some w → (h : List ℕ) × (after ≡ Some h) × Says (others ⊎ DiskRose faults place place') (DiskRoseTo faults place place') (DiskStays faults place place') clock ahead' b unread (seen w h) status
-  says others clock b w rose status is began later rises stays a e f =
-      let raised : (c : ℕ) → down new.keeper ≡ Some c → Rose count c × (c ≤ kept_faults new.keeper) =
-      λ c down_at. let r = rises c down_at in (rose_later count (kept_faults old.keeper) c opened.stored.later (subst (λ (n : ℕ). Rose n c) began r.0), r.1) in
-      let x = ran clock b w raised a e f in
-      let kept : count ≤ kept_faults new.keeper = omega (arith, opened.stored.later, subst (λ (n : ℕ). n ≤ kept_faults new.keeper) began later) in
-      let well : rose ≡ false → (x.2.last.fallen ≡ None) × DiskStays faults place place' =
-      λ still. (none_fell (down new.keeper) x.2.last.fallen x.3 (λ c down_at. let r = raised c down_at in stays still (rose_on count c (kept_faults new.keeper) r.0 r.1)), stayed kept (stays still)) in
-      let staying : Type 0 = DiskStays faults place place' in
-      (x.0, x.1, inl (subst (λ (st : Status). Answers (DiskRoseTo faults place place') staying clock ahead' b unread (seen w x.0) st) (sym is) (answers (DiskRoseTo faults place place') staying clock ahead' b unread (seen w x.0) end rose x.2 well)))
+  -- and what it says, by the status; level is so where the disk didn't fail
+  pub says : (fell : Type 0) (to : ℕ → Type 0) (level : Type 0) (clock : Readings) (b w : List ℕ) (failed : Bool) (status : Status) → status ≡ status_of end failed
+      → ((c : ℕ) → down new.keeper ≡ Some c → to c × (0 < kept_faults new.keeper)) → (failed ≡ false → kept_faults new.keeper ≡ 0) → (kept_faults new.keeper ≡ 0 → level)
+      → ahead ≡ Some clock → bytes ≡ Some b → held ≡ Some w → (h : List ℕ) × (after ≡ Some h) × Says fell to level clock ahead' b unread (seen w h) status
+  says fell to level clock b w failed status is rises stays same a e f =
+      let x = ran to clock b w (λ c fallen. (rises c fallen).0) a e f in
+      let well : failed ≡ false → (x.2.last.fallen ≡ None) × level =
+      λ still. (none_fell (down new.keeper) x.2.last.fallen x.3 (λ c fallen. not_both (kept_faults new.keeper) (rises c fallen).1 (stays still)), same (stays still)) in
+      (x.0, x.1, inl (subst (λ (st : Status). Answers to level clock ahead' b unread (seen w x.0) st) (sym is) (answers to level clock ahead' b unread (seen w x.0) end failed x.2 well)))

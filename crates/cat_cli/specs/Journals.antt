@@ -1,7 +1,7 @@
 -- The journal that a run opens: what its disk tells, and what that stands for.
-use Rattle.std.specs.Prelude.{ℕ, ◌<◌, ◌≤◌, ◌-◌, ◌^◌, ◌≡◌, ◌⊎◌, List, [], ◌∷◌, ◌++◌, length, Option, Some, None, IfSome, Ok, Err}
+use Rattle.std.specs.Prelude.{ℕ, ◌<◌, ◌≤◌, ◌≡◌, ◌⊎◌, List, [], ◌∷◌, ◌++◌, length, Option, Some, None, IfSome, Ok, Err}
 use Rattle.sha2.specs.Sha256.{sha256}
-use Rattle.cat_io.specs.Causes.{Rose}
+use Rattle.cat_io.specs.Causes.{Rose, raised_by}
 use Rattle.cat_checks.specs.Legal.{replayed}
 use Rattle.cat_ledger.specs.Kept.{spelling}
 use Rattle.cat_journal.specs.declared.fault.OpenFault.TheVariants as faults
@@ -26,34 +26,29 @@ IsBack None after = after ≡ None
 IsBack (Some None) after = after ≡ Some None
 IsBack {D} (Some (Some disk)) after = (again : D) × (after ≡ Some (Some again))
 
--- a disk that was opened at a path was given back there, and its count of faults rose between
-pub record DiskRose {D : Type 0} (faults : D → ℕ) (before after : Option (Option D)) : Type 0 where
-  pub opened : D
+-- what stands at a path, as far as that is known, tells the same as this disk
+abbrev pub TellsAs : {D : Type 0} → (D → Option (List ℕ)) → Option (Option D) → D → Type 0
+TellsAs told None disk = Unit {0}
+TellsAs told (Some None) disk = ⊥
+TellsAs told (Some (Some stood)) disk = told stood ≡ told disk
+
+-- ---- faults of the disks
+
+-- the disk of a path was given back there, and had counted a fault
+pub record DiskFailed {D : Type 0} (faults : D → ℕ) (after : Option (Option D)) : Type 0 where
   pub again : D
-  pub was : IfSome before (λ place. place ≡ Some opened)
   pub is : IfSome after (λ place. place ≡ Some again)
-  pub rose : Rose (faults opened) (faults again)
+  pub counted : 0 < faults again
 
--- and between, it rose to this count, and maybe further
-pub record DiskRoseTo {D : Type 0} (faults : D → ℕ) (before after : Option (Option D)) (count : ℕ) : Type 0 where
-  pub opened : D
-  pub again : D
-  pub was : IfSome before (λ place. place ≡ Some opened)
-  pub is : IfSome after (λ place. place ≡ Some again)
-  pub rose : Rose (faults opened) count
-  pub most : count ≤ faults again
+-- the disks' count of faults rose: they refused to open the journal's path, or its disk failed
+pub record DisksFell {D : Type 0} (refuses : Type 0) (faults : D → ℕ) (after : Option (Option D)) (before now : ℕ) : Type 0 where
+  pub rose : Rose before now
+  pub cause : refuses ⊎ DiskFailed faults after
 
--- the count is as it was, below its type's end
-abbrev pub Stays : ℕ → ℕ → Type 0
-Stays before now = (now ≡ before) × (now < 2 ^ 64 - 1)
-
--- and where both are known, it didn't rise
-abbrev pub DiskStays : {D : Type 0} → (D → ℕ) → Option (Option D) → Option (Option D) → Type 0
-DiskStays faults None after = Unit {0}
-DiskStays faults (Some None) after = Unit {0}
-DiskStays faults (Some (Some opened)) None = Unit {0}
-DiskStays faults (Some (Some opened)) (Some None) = Unit {0}
-DiskStays faults (Some (Some opened)) (Some (Some again)) = Stays (faults opened) (faults again)
+-- the disks' count of faults rose by this one, and maybe further
+pub record RoseBy (before now count : ℕ) : Type 0 where
+  pub counted : 0 < count
+  pub rose : raised_by count before ≤ now
 
 -- ---- what a journal stands for
 
@@ -82,8 +77,11 @@ StandsFor told after =
     (before now : List ℕ) → told ≡ Some before → after ≡ Some now
     → (recovered now ≡ recovered before) ⊎ ((before ≡ []) × (length now ≤ length new_journal))
 
--- the bytes recover to the payloads, or where an append failed, maybe to these and its entry
+-- the bytes are a journal of the payloads, with its header
+abbrev pub IsJournalOf : List (List ℕ) → List ℕ → Type 0
+IsJournalOf payloads bytes = (recovered bytes ≡ Ok payloads) × (16 < length bytes)
+
+-- the bytes are a journal of the payloads, or where an append failed, maybe of these and its entry
 abbrev pub Holds : List (List ℕ) → Option Fallen → List ℕ → Type 0
-Holds payloads None bytes = recovered bytes ≡ Ok payloads
-Holds payloads (Some fallen) bytes =
-    (recovered bytes ≡ Ok payloads) ⊎ (recovered bytes ≡ Ok (payloads ++ spelling fallen.entry ∷ []))
+Holds payloads None bytes = IsJournalOf payloads bytes
+Holds payloads (Some fallen) bytes = IsJournalOf payloads bytes ⊎ IsJournalOf (payloads ++ spelling fallen.entry ∷ []) bytes

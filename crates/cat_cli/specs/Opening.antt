@@ -1,5 +1,5 @@
 -- What opening a store over a journal does, and what is told where none is opened.
-use Rattle.std.specs.Prelude.{ℕ, ◌≡◌, ◌≤◌, List, ◌++◌, Option, Some, None, IfSome, Bool, true, false, reverse, if◌then◌else◌}
+use Rattle.std.specs.Prelude.{ℕ, ◌≡◌, List, ◌++◌, Option, Some, None, IfSome, Bool, true, false, reverse, if◌then◌else◌}
 use Rattle.std.specs.Option.{option_map}
 use Rattle.cat_io.specs.Places.{stood, taken}
 use Rattle.cat_core.specs.declared.opening.StoreFault.{StoreFault}
@@ -14,7 +14,7 @@ use Rattle.cat_cli.specs.declared.status.Status.{Status}
 use Rattle.cat_cli.specs.declared.status.Status.TheVariants as statuses
 use Rattle.cat_cli.specs.declared.unopened.Unopened.{Unopened}
 use Rattle.cat_cli.specs.declared.unopened.Unopened.TheVariants as whys
-use Rattle.cat_cli.specs.Journals.{Begins, Holds, unopened_of}
+use Rattle.cat_cli.specs.Journals.{Begins, Holds, TellsAs, unopened_of}
 use Rattle.cat_cli.specs.Lines.{disk_fault_line, no_memory_line, unopened_line}
 use Rattle.cat_cli.specs.Runs.{IsFront, IsTold}
 use Rattle.cat_cli.specs.Sessions.{Fallen}
@@ -66,43 +66,41 @@ abbrev pub FaultKnown : Option (List ℕ) → Status → Option (List ℕ) → �
 FaultKnown held status after before now =
     (w : List ℕ) → held ≡ Some w → (h : List ℕ) × (after ≡ Some h) × FaultTold w status h before now
 
--- what is told of a journal that was opened and has this line, by whether the disk failed, and by the run's status
-abbrev pub Counted : List ℕ → Bool → List ℕ → Status → List ℕ → ℕ → ℕ → Type 0
-Counted line true written status held before now = FaultTold written status held before now
-Counted line false written statuses.Done held before now = held ≡ written ++ line
-Counted line false written statuses.WriteFault held before now = IsFront line written held before now
-Counted line false written _ held before now = ⊥
+-- what is told of a journal that was opened and has this line, by the run's status
+abbrev pub Counted : List ℕ → List ℕ → Status → List ℕ → ℕ → ℕ → Type 0
+Counted line written statuses.Done held before now = held ≡ written ++ line
+Counted line written statuses.WriteFault held before now = IsFront line written held before now
+Counted line written _ held before now = ⊥
 
 -- the same where the sink tells what it has
-abbrev pub CountedKnown : List ℕ → Bool → Option (List ℕ) → Status → Option (List ℕ) → ℕ → ℕ → Type 0
-CountedKnown line rose held status after before now =
-    (w : List ℕ) → held ≡ Some w → (h : List ℕ) × (after ≡ Some h) × Counted line rose w status h before now
+abbrev pub CountedKnown : List ℕ → Option (List ℕ) → Status → Option (List ℕ) → ℕ → ℕ → Type 0
+CountedKnown line held status after before now =
+    (w : List ℕ) → held ≡ Some w → (h : List ℕ) × (after ≡ Some h) × Counted line w status h before now
 
--- the status after a session, by whether the disk's count of faults rose
+-- the status after a session, by whether the disk failed
 abbrev pub status_of : End → Bool → Status
-status_of ends.NoMemory rose = statuses.NoMemory
-status_of ends.WriteFault rose = statuses.WriteFault
-status_of ends.ReadFault rose = statuses.ReadFault
-status_of ends.Closed rose = if rose then statuses.DiskFault else statuses.Done
-status_of _ rose = if rose then statuses.DiskFault else statuses.Cut
+status_of ends.NoMemory failed = statuses.NoMemory
+status_of ends.WriteFault failed = statuses.WriteFault
+status_of ends.ReadFault failed = statuses.ReadFault
+status_of ends.Closed failed = if failed then statuses.DiskFault else statuses.Done
+status_of _ failed = if failed then statuses.DiskFault else statuses.Cut
 
 -- ---- a store that is opened
 
 -- the book is the one that the journal's payloads lead to, over a keeper of them that is up
-pub record IsStored (told : Option (List ℕ)) (book : Book) (down : Option ℕ) (before now : ℕ) : Type 0 where
+pub record IsStored (told : Option (List ℕ)) (book : Book) (down : Option ℕ) : Type 0 where
   pub payloads : List (List ℕ)
   pub begins : Begins told payloads book
   pub spelled : payloads ≡ spellings (reverse book.log)
   pub up : down ≡ None
-  pub later : before ≤ now
 
--- the disk was taken from its path, where it had this count of faults
-pub record IsOpened {D : Type 0} (told : D → Option (List ℕ)) (faults : D → ℕ) (before after : Option (Option D)) (count : ℕ) (book : Book) (down : Option ℕ) (now : ℕ) : Type 0 where
+-- the disk was taken from its path, and has counted no fault
+pub record IsOpened {D : Type 0} (told : D → Option (List ℕ)) (before after : Option (Option D)) (book : Book) (down : Option ℕ) (faults : ℕ) : Type 0 where
   pub disk : D
-  pub was : IfSome before (λ place. place ≡ Some disk)
+  pub was : TellsAs told before disk
   pub out : after ≡ taken before
-  pub counted : count ≡ faults disk
-  pub stored : IsStored (told disk) book down count now
+  pub stored : IsStored (told disk) book down
+  pub fresh : faults ≡ 0
 
 -- what the disk of a store holds: the entries of the log, and where an append failed, maybe the one that it was to keep
 abbrev pub HoldsLog : {K : Type 0} → (K → Option ℕ) → (K → Option (List ℕ)) → K → Book → Option (List ℕ) → Type 0

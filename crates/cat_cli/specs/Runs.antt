@@ -1,8 +1,7 @@
 -- What a run's status says.
-use Rattle.std.specs.Prelude.{ℕ, ◌≡◌, ◌⊎◌, List, ◌++◌, take, reverse, Option, Some, None, IfSome, Bool, true, false, Ok}
+use Rattle.std.specs.Prelude.{ℕ, ◌≡◌, ◌⊎◌, List, ◌++◌, take, reverse, Option, Some, None, IfSome, Bool, true, false}
 use Rattle.cat_io.specs.Causes.{Rose}
 use Rattle.cat_io.specs.Clocks.{from}
-use Rattle.cat_journal.specs.Frames.{recovered}
 use Rattle.cat_model.specs.declared.log_entry.LogEntry.{LogEntry}
 use Rattle.cat_model.specs.Book.{Book}
 use Rattle.cat_ledger.specs.Kept.{spellings}
@@ -12,7 +11,7 @@ use Rattle.cat_cli.specs.declared.ending.Session.TheVariants as ends
 use Rattle.cat_cli.specs.declared.unopened.Unopened.{Unopened}
 use Rattle.cat_cli.specs.declared.status.Status.{Status}
 use Rattle.cat_cli.specs.declared.status.Status.TheVariants as statuses
-use Rattle.cat_cli.specs.Journals.{Begins, Holds, StandsFor, unopened_of}
+use Rattle.cat_cli.specs.Journals.{Begins, Holds, IsJournalOf, StandsFor, unopened_of}
 use Rattle.cat_cli.specs.Lines.{check_line, disk_fault_line, no_memory_line, unopened_line}
 use Rattle.cat_cli.specs.Sessions.{Readings, Point, Standing, Ends}
 
@@ -34,6 +33,14 @@ tells_all statuses.Cut = true
 tells_all statuses.ReadFault = true
 tells_all statuses.DiskFault = true
 tells_all _ = false
+
+-- no fault of the disks is to be told
+abbrev pub spares_disks : Status → Bool
+spares_disks statuses.Done = true
+spares_disks statuses.Usage = true
+spares_disks statuses.Unreadable = true
+spares_disks statuses.Cut = true
+spares_disks _ = false
 
 -- the journal of a command
 abbrev pub journal_of : Task → Option (List ℕ)
@@ -65,17 +72,17 @@ Tells line s = IsTold line s.written s.held s.before s.now
 
 -- ---- no journal was opened
 
--- what the sink holds then, by the status; fell says that a count of faults of the disks rose
-abbrev pub Refuses : Type 0 → Seen → Status → Type 0
-Refuses fell s statuses.DiskFault = fell × (s.held ≡ s.written ++ disk_fault_line)
-Refuses fell s statuses.WriteFault = fell × IsFront disk_fault_line s.written s.held s.before s.now
-Refuses fell s statuses.Unreadable = (why : Unopened) × unopened_of s.journal why × Tells (unopened_line why) s
-Refuses fell s statuses.NoMemory = Tells no_memory_line s
-Refuses fell s _ = ⊥
+-- what the sink holds then, by the status; fell says why the disks' count of faults rose, and level that it is as it was
+abbrev pub Refuses : Type 0 → Type 0 → Seen → Status → Type 0
+Refuses fell level s statuses.DiskFault = fell × (s.held ≡ s.written ++ disk_fault_line)
+Refuses fell level s statuses.WriteFault = fell × IsFront disk_fault_line s.written s.held s.before s.now
+Refuses fell level s statuses.Unreadable = level × ((why : Unopened) × unopened_of s.journal why × Tells (unopened_line why) s)
+Refuses fell level s statuses.NoMemory = level × Tells no_memory_line s
+Refuses fell level s _ = ⊥
 
 -- and the journal stands for what it did
-abbrev pub RefusesSo : Type 0 → Seen → Status → Type 0
-RefusesSo fell s status = Refuses fell s status × StandsFor s.journal s.left
+abbrev pub RefusesSo : Type 0 → Type 0 → Seen → Status → Type 0
+RefusesSo fell level s status = Refuses fell level s status × StandsFor s.journal s.left
 
 -- ---- a script
 
@@ -96,7 +103,7 @@ pub record Ran (to : ℕ → Type 0) (clock : Readings) (to_come : Option Readin
   pub cause : IfSome last.fallen (λ f. to f.count)
   pub reads_on : to_come ≡ Some (from last.readings clock)
 
--- and no append failed; stays says that the count of faults of the journal's disk didn't rise
+-- and no append failed; stays says that the disks' count of faults is as it was
 abbrev pub RanWell : (ℕ → Type 0) → Type 0 → Readings → Option Readings → List ℕ → Option (List ℕ) → Seen → End → Type 0
 RanWell to stays clock to_come bytes unread s end = (ran : Ran to clock to_come bytes unread s end) × (ran.last.fallen ≡ None) × stays
 
@@ -115,7 +122,7 @@ Answers to stays clock to_come bytes unread s _ = ⊥
 
 -- what a run of `script` does, by its status; where no session was held the clock wasn't read
 abbrev pub Says : Type 0 → (ℕ → Type 0) → Type 0 → Readings → Option Readings → List ℕ → Option (List ℕ) → Seen → Status → Type 0
-Says fell to stays clock to_come bytes unread s status = Answers to stays clock to_come bytes unread s status ⊎ (RefusesSo fell s status × (to_come ≡ Some clock))
+Says fell to stays clock to_come bytes unread s status = Answers to stays clock to_come bytes unread s status ⊎ (RefusesSo fell stays s status × (to_come ≡ Some clock))
 
 -- the same where the clock, the source and the sink tell what they have
 abbrev pub SaysKnown : Type 0 → (ℕ → Type 0) → Type 0 → Option Readings → Option Readings → Option (List ℕ) → Option (List ℕ) → Option (List ℕ) → Status → Option (List ℕ) → ℕ → ℕ → Option (List ℕ) → Option (List ℕ) → Type 0
@@ -129,17 +136,17 @@ SaysKnown fell to stays ahead to_come bytes unread held status after before now 
 pub record Opens (s : Seen) (book : Book) : Type 0 where
   pub payloads : List (List ℕ)
   pub begins : Begins s.journal payloads book
-  pub keeps : IfSome s.left (λ bytes. recovered bytes ≡ Ok payloads)
+  pub keeps : IfSome s.left (IsJournalOf payloads)
 
--- its catalogue was counted, by the status; stays says that the count of faults of its disk didn't rise
+-- its catalogue was counted, by the status; stays says that the disks' count of faults is as it was
 abbrev pub Counts : Type 0 → Seen → Status → Type 0
 Counts stays s statuses.Done = (book : Book) × Opens s book × (s.held ≡ s.written ++ check_line book) × stays
-Counts stays s statuses.WriteFault = (book : Book) × Opens s book × IsFront (check_line book) s.written s.held s.before s.now
+Counts stays s statuses.WriteFault = (book : Book) × Opens s book × IsFront (check_line book) s.written s.held s.before s.now × stays
 Counts stays s _ = ⊥
 
 -- what a run of `check` does, by its status
 abbrev pub Checks : Type 0 → Type 0 → Seen → Status → Type 0
-Checks fell stays s status = Counts stays s status ⊎ RefusesSo fell s status
+Checks fell stays s status = Counts stays s status ⊎ RefusesSo fell stays s status
 
 -- the same where the sink tells what it has
 abbrev pub ChecksKnown : Type 0 → Type 0 → Option (List ℕ) → Status → Option (List ℕ) → ℕ → ℕ → Option (List ℕ) → Option (List ℕ) → Type 0

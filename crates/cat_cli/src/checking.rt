@@ -1,16 +1,16 @@
 //! What a journal holds, in one line.
 
-ghost use Rattle.std.specs.Prelude.{◌≡◌, ◌≢◌, ◌⊎◌, IfOk, IsTrue, string_bytes, true};
+ghost use Rattle.std.specs.Prelude.{◌≡◌, ◌≢◌, IfOk, IsTrue, string_bytes};
 ghost use Rattle.cat_io.specs.Causes.{Rose};
 ghost use Rattle.cat_io.specs.Places.{OthersStay};
-ghost use Rattle.cat_cli.specs.Journals.{DiskRose, DiskStays, IsBack, told_at};
+ghost use Rattle.cat_cli.specs.Journals.{DisksFell, IsBack, told_at};
 ghost use Rattle.cat_cli.specs.Lines.{check_line, counts_line};
 ghost use Rattle.cat_cli.specs.Opening.{CountedKnown};
-ghost use Rattle.cat_cli.specs.Runs.{ChecksKnown, tells_all};
+ghost use Rattle.cat_cli.specs.Runs.{ChecksKnown, spares_disks, tells_all};
 
 use crate::journal::{close, open};
 use crate::status::Status;
-use crate::telling::{tell_disk_fault, tell_no_memory};
+use crate::telling::tell_no_memory;
 use crate::unopened::refuse;
 use cat_codes::fault::NoMemory;
 use cat_core::{Counts, Store};
@@ -44,18 +44,15 @@ fn check_line<J: Keeper>(alloc: Global, store: &Store<J>) -> Result<String, NoMe
     Ok(counts_line(alloc, &counts, head.as_str())?)
 }
 
-// Tells the line, unless the disk failed.
-fn tell_counts<K: Sink>(line: &str, rose: bool, sink: &mut K) -> Status
-    ensures told { CountedKnown line.now rose (K.held sink.old) result (K.held sink.new) (K.faults sink.old) (K.faults sink.new) }
-    ensures fault { result ≡ Status.DiskFault → rose ≡ true }
+// Tells the line.
+fn tell_counts<K: Sink>(line: &str, sink: &mut K) -> Status
+    ensures told { CountedKnown line.now (K.held sink.old) result (K.held sink.new) (K.faults sink.old) (K.faults sink.new) }
+    ensures fault { result ≢ Status.DiskFault }
     ensures write { result ≡ Status.WriteFault → Rose (K.faults sink.old) (K.faults sink.new) }
     ensures stays { IsTrue (tells_all result) → K.faults sink.new ≡ K.faults sink.old }
     ensures taken { result ≢ Status.Usage }
     ensures unread { result ≢ Status.ReadFault }
 {
-    if rose {
-        return tell_disk_fault(sink);
-    }
     match write_all(sink, line.as_bytes()) {
         Ok(()) => Status::Done,
         Err(_) => Status::WriteFault,
@@ -69,24 +66,24 @@ pub(crate) fn check<O: Disks, K: Sink>(
     disks: &mut O,
     sink: &mut K,
 ) -> Status
-    ensures checked { ChecksKnown (Rose (O.faults disks.old) (O.faults disks.new) ⊎ DiskRose O.D.faults (O.at_path disks.old path.now) (O.at_path disks.new path.now))
-        (DiskStays O.D.faults (O.at_path disks.old path.now) (O.at_path disks.new path.now)) (K.held sink.old) result (K.held sink.new) (K.faults sink.old) (K.faults sink.new)
+    ensures checked { ChecksKnown (DisksFell (O.refuses disks.old path.now) O.D.faults (O.at_path disks.new path.now) (O.faults disks.old) (O.faults disks.new))
+        (O.faults disks.new ≡ O.faults disks.old) (K.held sink.old) result (K.held sink.new) (K.faults sink.old) (K.faults sink.new)
         (told_at O.D.told (O.at_path disks.old path.now)) (told_at O.D.told (O.at_path disks.new path.now)) }
     ensures taken { result ≢ Status.Usage }
     ensures unread { result ≢ Status.ReadFault }
     ensures write { result ≡ Status.WriteFault → Rose (K.faults sink.old) (K.faults sink.new) }
     ensures sink_stays { IsTrue (tells_all result) → K.faults sink.new ≡ K.faults sink.old }
-    ensures disks_stay { result ≢ Status.DiskFault → result ≢ Status.WriteFault → O.faults disks.new ≡ O.faults disks.old }
-    ensures disk { result ≡ Status.DiskFault → Rose (O.faults disks.old) (O.faults disks.new) ⊎ DiskRose O.D.faults (O.at_path disks.old path.now) (O.at_path disks.new path.now) }
+    ensures disks_stay { IsTrue (spares_disks result) → O.faults disks.new ≡ O.faults disks.old }
+    ensures disk { result ≡ Status.DiskFault → DisksFell (O.refuses disks.old path.now) O.D.faults (O.at_path disks.new path.now) (O.faults disks.old) (O.faults disks.new) }
     ensures back { IsBack (O.at_path disks.old path.now) (O.at_path disks.new path.now) }
     ensures others { OthersStay path.now (O.at_path disks.old) (O.at_path disks.new) }
 {
     match open(alloc, disks, path) {
-        Ok((store, faults)) => {
+        Ok(store) => {
             let line = check_line(alloc, &store);
-            let rose = close(disks, path, store, faults);
+            close(disks, path, store);
             match line {
-                Ok(line) => tell_counts(line.as_str(), rose, sink),
+                Ok(line) => tell_counts(line.as_str(), sink),
                 Err(_) => tell_no_memory(sink),
             }
         }

@@ -1,10 +1,10 @@
 //! The journal of a run: a store over it, and its disk, which goes back where it stood.
 
-ghost use Rattle.std.specs.Prelude.{◌≡◌, ◌≢◌, ◌⊎◌, None, IfErr, IfOk, MatchResult, false, true};
+ghost use Rattle.std.specs.Prelude.{◌≡◌, ◌≢◌, ◌<◌, None, IfErr, IfOk, MatchResult, false, true};
 ghost use Rattle.cat_model.specs.Drafts.{nothing_open};
-ghost use Rattle.cat_io.specs.Causes.{Rose};
+ghost use Rattle.cat_io.specs.Causes.{Rose, raised_by};
 ghost use Rattle.cat_io.specs.Places.{OthersStay};
-ghost use Rattle.cat_cli.specs.Journals.{DiskRose, IsBack, StandsFor, told_at};
+ghost use Rattle.cat_cli.specs.Journals.{DisksFell, IsBack, StandsFor, told_at};
 ghost use Rattle.cat_cli.specs.Opening.{HoldsLog, IsClosed, IsOpened, IsReason, IsStored};
 
 use crate::unopened::Unopened;
@@ -18,11 +18,12 @@ use std::marker::Send;
 
 // The store of a journal's catalogue, over the journal.
 fn store_on<D: Disk + Send>(alloc: Global, disk: D) -> Result<Store<Journal<D>>, (D, Unopened)>
-    ensures stored { IfOk result (λ store. IsStored (D.told disk) store.book (⟦<Journal<D> as Keeper>⟧.down store.keeper) (D.faults disk) (⟦<Journal<D> as Keeper>⟧.faults store.keeper)) }
+    ensures stored { IfOk result (λ store. IsStored (D.told disk) store.book (⟦<Journal<D> as Keeper>⟧.down store.keeper)) }
     ensures fresh { IfOk result (λ store. (store.left_open ≡ nothing_open) × (store.mark.fault ≡ None) × (store.began ≡ ⟦<Journal<D> as Keeper>⟧.faults store.keeper)) }
     ensures reason { IfErr result (λ e. IsReason (D.told disk) e.1) }
     ensures stands { IfErr result (λ e. StandsFor (D.told disk) (D.told e.0)) }
     ensures cause { IfErr result (λ e. e.1 ≡ Unopened.Fault → Rose (D.faults disk) (D.faults e.0)) }
+    ensures level { MatchResult result (λ store. ⟦<Journal<D> as Keeper>⟧.faults store.keeper ≡ D.faults disk) (λ e. e.1 ≢ Unopened.Fault → D.faults e.0 ≡ D.faults disk) }
 {
     match Journal::open(alloc, disk) {
         Ok(journal) => match Store::open(alloc, journal, Limits::program()) {
@@ -33,19 +34,18 @@ fn store_on<D: Disk + Send>(alloc: Global, disk: D) -> Result<Store<Journal<D>>,
     }
 }
 
-/// The store of the journal at a path, and how many faults its disk had counted before. Where none
-/// is opened the disk is given back.
+/// The store of the journal at a path. Where none is opened the disk is given back.
 pub(crate) fn open<O: Disks>(
     alloc: Global,
     disks: &mut O,
     path: &str,
-) -> Result<(Store<Journal<O::D>>, u64), Unopened>
-    ensures opened { IfOk result (λ r. IsOpened O.D.told O.D.faults (O.at_path disks.old path.now) (O.at_path disks.new path.now) r.1 r.0.book
-        (⟦<Journal<O::D> as Keeper>⟧.down r.0.keeper) (⟦<Journal<O::D> as Keeper>⟧.faults r.0.keeper)) }
-    ensures fresh { IfOk result (λ r. (r.0.left_open ≡ nothing_open) × (r.0.mark.fault ≡ None) × (r.0.began ≡ ⟦<Journal<O::D> as Keeper>⟧.faults r.0.keeper)) }
+) -> Result<Store<Journal<O::D>>, Unopened>
+    ensures opened { IfOk result (λ store. IsOpened O.D.told (O.at_path disks.old path.now) (O.at_path disks.new path.now) store.book
+        (⟦<Journal<O::D> as Keeper>⟧.down store.keeper) (⟦<Journal<O::D> as Keeper>⟧.faults store.keeper)) }
+    ensures fresh { IfOk result (λ store. (store.left_open ≡ nothing_open) × (store.mark.fault ≡ None) × (store.began ≡ ⟦<Journal<O::D> as Keeper>⟧.faults store.keeper)) }
     ensures reason { IfErr result (λ why. IsReason (told_at O.D.told (O.at_path disks.old path.now)) why) }
     ensures stands { IfErr result (λ why. StandsFor (told_at O.D.told (O.at_path disks.old path.now)) (told_at O.D.told (O.at_path disks.new path.now))) }
-    ensures cause { IfErr result (λ why. why ≡ Unopened.Fault → Rose (O.faults disks.old) (O.faults disks.new) ⊎ DiskRose O.D.faults (O.at_path disks.old path.now) (O.at_path disks.new path.now)) }
+    ensures cause { IfErr result (λ why. why ≡ Unopened.Fault → DisksFell (O.refuses disks.old path.now) O.D.faults (O.at_path disks.new path.now) (O.faults disks.old) (O.faults disks.new)) }
     ensures disks_stay { MatchResult result (λ _. O.faults disks.new ≡ O.faults disks.old) (λ why. why ≢ Unopened.Fault → O.faults disks.new ≡ O.faults disks.old) }
     ensures back { IfErr result (λ why. IsBack (O.at_path disks.old path.now) (O.at_path disks.new path.now)) }
     ensures others { OthersStay path.now (O.at_path disks.old) (O.at_path disks.new) }
@@ -53,9 +53,8 @@ pub(crate) fn open<O: Disks>(
     let Ok(disk) = disks.open(path) else {
         return Err(Unopened::Fault);
     };
-    let faults = disk.fault_count();
     match store_on(alloc, disk) {
-        Ok(store) => Ok((store, faults)),
+        Ok(store) => Ok(store),
         Err((disk, why)) => {
             disks.back(path, disk);
             Err(why)
@@ -63,31 +62,19 @@ pub(crate) fn open<O: Disks>(
     }
 }
 
-// Whether a count of faults rose, or stands at its type's end.
-fn rose(before: u64, now: u64) -> bool
-    ensures rose { result ≡ true → Rose before now }
-    ensures stays { result ≡ false → Rose before now → ⊥ }
-{
-    before < now || now == u64::MAX
-}
-
-/// Gives the disk of a store back to its path, and says whether its count of faults rose.
-pub(crate) fn close<O: Disks>(
-    disks: &mut O,
-    path: &str,
-    store: Store<Journal<O::D>>,
-    faults: u64,
-) -> bool
+/// Gives the disk of a store back to its path, and says whether it has counted a fault.
+pub(crate) fn close<O: Disks>(disks: &mut O, path: &str, store: Store<Journal<O::D>>) -> bool
     ensures closed { IsClosed O.D.faults (O.at_path disks.old path.now) (O.at_path disks.new path.now) (⟦<Journal<O::D> as Keeper>⟧.faults store.keeper)
         (λ disk. HoldsLog ⟦<Journal<O::D> as Keeper>⟧.down ⟦<Journal<O::D> as Keeper>⟧.in_flight store.keeper store.book (O.D.told disk)) }
     ensures others { OthersStay path.now (O.at_path disks.old) (O.at_path disks.new) }
-    ensures rose { result ≡ true → Rose faults (⟦<Journal<O::D> as Keeper>⟧.faults store.keeper) }
-    ensures stays { result ≡ false → Rose faults (⟦<Journal<O::D> as Keeper>⟧.faults store.keeper) → ⊥ }
-    ensures later { O.faults disks.new ≡ O.faults disks.old }
+    ensures failed { result ≡ true → 0 < ⟦<Journal<O::D> as Keeper>⟧.faults store.keeper }
+    ensures stays { result ≡ false → ⟦<Journal<O::D> as Keeper>⟧.faults store.keeper ≡ 0 }
+    ensures counts { O.faults disks.new ≡ raised_by (⟦<Journal<O::D> as Keeper>⟧.faults store.keeper) (O.faults disks.old) }
+    ensures level { ⟦<Journal<O::D> as Keeper>⟧.faults store.keeper ≡ 0 → O.faults disks.new ≡ O.faults disks.old }
 {
     store.log_is_kept();
     let disk = store.into_keeper().into_disk();
-    let now = disk.fault_count();
+    let failed = disk.fault_count() > 0;
     disks.back(path, disk);
-    rose(faults, now)
+    failed
 }

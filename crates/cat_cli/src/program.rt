@@ -6,9 +6,9 @@ ghost use Rattle.cat_io.specs.Causes.{Rose};
 ghost use Rattle.cat_io.specs.Places.{OthersStay};
 ghost use Rattle.cat_words.specs.Asked.{asked, check, drill, script};
 ghost use Rattle.cat_drill.specs.Drill.{drill_line};
-ghost use Rattle.cat_cli.specs.Journals.{DiskRose, DiskRoseTo, DiskStays, IsBack, told_at};
+ghost use Rattle.cat_cli.specs.Journals.{DisksFell, IsBack, RoseBy, told_at};
 ghost use Rattle.cat_cli.specs.Lines.{no_memory_line, usage_line};
-ghost use Rattle.cat_cli.specs.Runs.{ChecksKnown, DrillsKnown, SaysKnown, TellsKnown, ends_drill, journal_of, tells_all};
+ghost use Rattle.cat_cli.specs.Runs.{ChecksKnown, DrillsKnown, SaysKnown, TellsKnown, ends_drill, journal_of, spares_disks, tells_all};
 
 use crate::checking::check;
 use crate::scripting::script;
@@ -46,32 +46,32 @@ pub fn run<R: Threads + Wait + Sync, O: Disks, S: Source, K: Sink, C: Clock, L: 
         → TellsKnown no_memory_line (K.held sink.old) (K.held sink.new) (K.faults sink.old) (K.faults sink.new) }
     // What a script writes are the replies to the requests in the bytes of the source, the journal has the entries of all that they changed, and the clock stands where their moments left it. Where a read failed, no whole request was read that isn't answered.
     ensures replies { (journal : List ℕ) → asked (map (λ word. word.now) words.now) ≡ Some (script journal)
-        → SaysKnown (Rose (O.faults disks.old) (O.faults disks.new) ⊎ DiskRose O.D.faults (O.at_path disks.old journal) (O.at_path disks.new journal))
-        (DiskRoseTo O.D.faults (O.at_path disks.old journal) (O.at_path disks.new journal)) (DiskStays O.D.faults (O.at_path disks.old journal) (O.at_path disks.new journal))
+        → SaysKnown (DisksFell (O.refuses disks.old journal) O.D.faults (O.at_path disks.new journal) (O.faults disks.old) (O.faults disks.new))
+        (RoseBy (O.faults disks.old) (O.faults disks.new)) (O.faults disks.new ≡ O.faults disks.old)
         (C.ahead clock.old) (C.ahead clock.new) (S.left source.old) (S.left source.new) (K.held sink.old) result (K.held sink.new) (K.faults sink.old) (K.faults sink.new)
         (told_at O.D.told (O.at_path disks.old journal)) (told_at O.D.told (O.at_path disks.new journal)) }
     // What a check writes is the line of the catalogue that the journal's entries lead to.
     ensures checked { (journal : List ℕ) → asked (map (λ word. word.now) words.now) ≡ Some (check journal)
-        → ChecksKnown (Rose (O.faults disks.old) (O.faults disks.new) ⊎ DiskRose O.D.faults (O.at_path disks.old journal) (O.at_path disks.new journal))
-        (DiskStays O.D.faults (O.at_path disks.old journal) (O.at_path disks.new journal)) (K.held sink.old) result (K.held sink.new) (K.faults sink.old) (K.faults sink.new)
+        → ChecksKnown (DisksFell (O.refuses disks.old journal) O.D.faults (O.at_path disks.new journal) (O.faults disks.old) (O.faults disks.new))
+        (O.faults disks.new ≡ O.faults disks.old) (K.held sink.old) result (K.held sink.new) (K.faults sink.old) (K.faults sink.new)
         (told_at O.D.told (O.at_path disks.old journal)) (told_at O.D.told (O.at_path disks.new journal)) }
     // What a drill writes is the line of the catalogue that its seed and its steps make.
     ensures drilled { (seed commits : ℕ) → asked (map (λ word. word.now) words.now) ≡ Some (drill seed commits)
         → DrillsKnown (drill_line seed commits) (K.held sink.old) result (K.held sink.new) (K.faults sink.old) (K.faults sink.new) }
     ensures drill_ends { (seed commits : ℕ) → asked (map (λ word. word.now) words.now) ≡ Some (drill seed commits) → IsTrue (ends_drill result) }
-    // A fault comes only where the count of faults rose.
+    // A fault comes only where the count of faults rose; the disks' only at the journal's path, by an open that they refuse or by a failed call of its disk.
     ensures read { result ≡ Status.ReadFault → Rose (S.faults source.old) (S.faults source.new) }
     ensures write { result ≡ Status.WriteFault → Rose (K.faults sink.old) (K.faults sink.new) }
     ensures disk { result ≡ Status.DiskFault → (journal : List ℕ) × (option_and_then journal_of (asked (map (λ word. word.now) words.now)) ≡ Some journal)
-        × (Rose (O.faults disks.old) (O.faults disks.new) ⊎ DiskRose O.D.faults (O.at_path disks.old journal) (O.at_path disks.new journal)) }
-    // The source's count stays unless a read failed, the sink's where it took all that was written, and the disks' own where no fault of theirs was to be told.
+        × DisksFell (O.refuses disks.old journal) O.D.faults (O.at_path disks.new journal) (O.faults disks.old) (O.faults disks.new) }
+    // The source's count stays unless a read failed, the sink's where it took all that was written, and the disks' where no fault of theirs was to be told.
     ensures source_stays { result ≢ Status.ReadFault → S.faults source.new ≡ S.faults source.old }
     ensures sink_stays { IsTrue (tells_all result) → K.faults sink.new ≡ K.faults sink.old }
-    ensures disks_stay { result ≢ Status.DiskFault → result ≢ Status.WriteFault → O.faults disks.new ≡ O.faults disks.old }
+    ensures disks_stay { IsTrue (spares_disks result) → O.faults disks.new ≡ O.faults disks.old }
     // The journal's disk goes back where it stood, and no other is touched.
     ensures back { (journal : List ℕ) → option_and_then journal_of (asked (map (λ word. word.now) words.now)) ≡ Some journal
         → IsBack (O.at_path disks.old journal) (O.at_path disks.new journal) × OthersStay journal (O.at_path disks.old) (O.at_path disks.new) }
-    ensures untouched { option_and_then journal_of (asked (map (λ word. word.now) words.now)) ≡ None → (path : List ℕ) → O.at_path disks.new path ≡ O.at_path disks.old path }
+    ensures untouched { option_and_then journal_of (asked (map (λ word. word.now) words.now)) ≡ None → disks.new ≡ disks.old }
     // Only a script reads the source or the clock, and the listener is left alone.
     ensures still { ((journal : List ℕ) → asked (map (λ word. word.now) words.now) ≡ Some (script journal) → ⊥) → (source.new ≡ source.old) × (clock.new ≡ clock.old) }
     ensures listener { _listener.new ≡ _listener.old }

@@ -1,11 +1,11 @@
 //! A session on the catalogue of a journal.
 
-ghost use Rattle.std.specs.Prelude.{ℕ, ◌≡◌, ◌≢◌, ◌≤◌, ◌⊎◌, IfErr, IfOk, IsTrue, None, Some};
+ghost use Rattle.std.specs.Prelude.{ℕ, ◌≡◌, ◌≢◌, ◌≤◌, IfErr, IfOk, IsTrue, None, Some};
 ghost use Rattle.cat_io.specs.Causes.{Rose};
 ghost use Rattle.cat_io.specs.Places.{OthersStay};
-ghost use Rattle.cat_cli.specs.Journals.{DiskRose, DiskRoseTo, DiskStays, IsBack, told_at};
+ghost use Rattle.cat_cli.specs.Journals.{DisksFell, IsBack, RoseBy, told_at};
 ghost use Rattle.cat_cli.specs.Opening.{status_of};
-ghost use Rattle.cat_cli.specs.Runs.{SaysKnown, tells_all};
+ghost use Rattle.cat_cli.specs.Runs.{SaysKnown, spares_disks, tells_all};
 ghost use Rattle.cat_cli.specs.Stores.{RunsKnown};
 ghost use Rattle.cat_model.specs.Drafts.{nothing_open};
 
@@ -23,15 +23,15 @@ use cat_work::{hold, release};
 use std::alloc::Global;
 use std::sync::Wait;
 
-// The status after a session, by whether the disk's count of faults rose.
-fn status_of(end: Session, rose: bool) -> Status
-    ensures { result ≡ status_of end rose }
+// The status after a session, by whether the disk failed.
+fn status_of(end: Session, failed: bool) -> Status
+    ensures { result ≡ status_of end failed }
 {
     match end {
         Session::NoMemory => Status::NoMemory,
         Session::WriteFault => Status::WriteFault,
         Session::ReadFault => Status::ReadFault,
-        _ if rose => Status::DiskFault,
+        _ if failed => Status::DiskFault,
         Session::Closed => Status::Done,
         _ => Status::Cut,
     }
@@ -82,8 +82,8 @@ pub(crate) fn script<R: Wait, O: Disks, S: Source, K: Sink, C: Clock>(
     sink: &mut K,
     clock: &mut C,
 ) -> Status
-    ensures replies { SaysKnown (Rose (O.faults disks.old) (O.faults disks.new) ⊎ DiskRose O.D.faults (O.at_path disks.old path.now) (O.at_path disks.new path.now))
-        (DiskRoseTo O.D.faults (O.at_path disks.old path.now) (O.at_path disks.new path.now)) (DiskStays O.D.faults (O.at_path disks.old path.now) (O.at_path disks.new path.now))
+    ensures replies { SaysKnown (DisksFell (O.refuses disks.old path.now) O.D.faults (O.at_path disks.new path.now) (O.faults disks.old) (O.faults disks.new))
+        (RoseBy (O.faults disks.old) (O.faults disks.new)) (O.faults disks.new ≡ O.faults disks.old)
         (C.ahead clock.old) (C.ahead clock.new) (S.left source.old) (S.left source.new) (K.held sink.old) result (K.held sink.new) (K.faults sink.old) (K.faults sink.new)
         (told_at O.D.told (O.at_path disks.old path.now)) (told_at O.D.told (O.at_path disks.new path.now)) }
     ensures taken { result ≢ Status.Usage }
@@ -91,19 +91,19 @@ pub(crate) fn script<R: Wait, O: Disks, S: Source, K: Sink, C: Clock>(
     ensures write { result ≡ Status.WriteFault → Rose (K.faults sink.old) (K.faults sink.new) }
     ensures source_stays { result ≢ Status.ReadFault → S.faults source.new ≡ S.faults source.old }
     ensures sink_stays { IsTrue (tells_all result) → K.faults sink.new ≡ K.faults sink.old }
-    ensures disks_stay { result ≢ Status.DiskFault → result ≢ Status.WriteFault → O.faults disks.new ≡ O.faults disks.old }
-    ensures disk { result ≡ Status.DiskFault → Rose (O.faults disks.old) (O.faults disks.new) ⊎ DiskRose O.D.faults (O.at_path disks.old path.now) (O.at_path disks.new path.now) }
+    ensures disks_stay { IsTrue (spares_disks result) → O.faults disks.new ≡ O.faults disks.old }
+    ensures disk { result ≡ Status.DiskFault → DisksFell (O.refuses disks.old path.now) O.D.faults (O.at_path disks.new path.now) (O.faults disks.old) (O.faults disks.new) }
     ensures back { IsBack (O.at_path disks.old path.now) (O.at_path disks.new path.now) }
     ensures others { OthersStay path.now (O.at_path disks.old) (O.at_path disks.new) }
 {
     match open(alloc, disks, path) {
-        Ok((store, faults)) => match hold_session(rt, alloc, store, source, sink, clock) {
+        Ok(store) => match hold_session(rt, alloc, store, source, sink, clock) {
             Ok((store, end)) => {
-                let rose = close(disks, path, store, faults);
-                status_of(end, rose)
+                let failed = close(disks, path, store);
+                status_of(end, failed)
             }
             Err((store, _)) => {
-                close(disks, path, store, faults);
+                close(disks, path, store);
                 tell_no_memory(sink)
             }
         },
