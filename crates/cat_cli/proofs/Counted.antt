@@ -71,6 +71,6 @@ module _ {D K : Type 0} (told : D → Option (List ℕ)) (faults : D → ℕ) (d
     checks_none w status is told e = let x = tells_none w status is told e in (x.0, x.1, inr x.2)
 
     -- where it ran out before a session on the catalogue began
-    pub says_none : (to : ℕ → Type 0) (clock : Readings) (to_come : Option Readings) (b : List ℕ) (unread : Option (List ℕ)) (w : List ℕ) (status : Status) → status ≡ statuses.NoMemory → TellsKnown no_memory_line held after before now → to_come ≡ Some clock → held ≡ Some w
-        → (h : List ℕ) × (after ≡ Some h) × Says fell to level clock to_come b unread (seen w h) status
-    says_none to clock to_come b unread w status is told still e = let x = tells_none w status is told e in (x.0, x.1, inr (x.2, still))
+    pub says_none : (to : ℕ → Type 0) (clock : Readings) (ahead to_come : Option Readings) (b : List ℕ) (unread : Option (List ℕ)) (w : List ℕ) (status : Status) → status ≡ statuses.NoMemory → TellsKnown no_memory_line held after before now → to_come ≡ ahead → held ≡ Some w
+        → (h : List ℕ) × (after ≡ Some h) × Says fell to level clock ahead to_come b unread (seen w h) status
+    says_none to clock ahead to_come b unread w status is told still e = let x = tells_none w status is told e in (x.0, x.1, inr (x.2, still))

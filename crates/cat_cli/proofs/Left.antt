@@ -9,7 +9,7 @@ use Rattle.cat_core.specs.Stored.{Stored, opened_of}
 use Rattle.cat_desk.specs.Pass.{DeskId, mark_of}
 use Rattle.cat_desk.specs.declared.pass.Pass.{Pass}
 use Rattle.cat_work.specs.Passes.{book_of}
-use Rattle.cat_cli.specs.Sessions.{Readings, Fallen, Standing, IsAt, seen_failed, seen_fallen}
+use Rattle.cat_cli.specs.Sessions.{Fallen, Standing, IsAt, seen_failed, seen_fallen}
 use Rattle.cat_cli.specs.Stores.{IsLeftSo}
 
 -- the count and the payload of what is seen
@@ -51,11 +51,11 @@ fallen_at P down (Some x) is holds count fell = subst P (some_is x.count count (
 pub began_on : {K : Type 0} (old new : Stored K) (opened : Opened) → opened ≡ opened_of old → opened_of new ≡ opened → new.began ≡ old.began
 began_on old new opened was is = ap (λ (x : Opened). x.faults) (is ∙ was)
 
-pub left_so : {K : Type 0} (down : K → Option ℕ) (in_flight : K → Option (List ℕ)) (desk : DeskId) (clock : Readings) (last : Standing) (pass : Pass) (ahead : Option Readings) (store : Stored K)
-    → IsAt desk clock last pass ahead → store.book ≡ book_of desk pass → store.mark ≡ mark_of pass
+pub left_so : {K : Type 0} (down : K → Option ℕ) (in_flight : K → Option (List ℕ)) (desk : DeskId) (last : Standing) (pass : Pass) (store : Stored K)
+    → IsAt desk last pass → store.book ≡ book_of desk pass → store.mark ≡ mark_of pass
     → down store.keeper ≡ option_map (λ (x : FailedAppend). x.count) store.mark.fault → in_flight store.keeper ≡ option_map (λ (x : FailedAppend). x.payload) store.mark.fault
     → IsLeftSo down in_flight last store
-left_so down in_flight desk clock last pass ahead store at book mark fallen flies =
+left_so down in_flight desk last pass store at book mark fallen flies =
     let seen : seen_failed store.mark.fault ≡ seen_fallen last.fallen = ap (λ (x : Mark). seen_failed x.fault) mark ∙ at.fault_is in
     record {
       log_is = ap (λ (x : Book). x.log) (book ∙ at.book_is);

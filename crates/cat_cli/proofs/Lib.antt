@@ -1,4 +1,5 @@
 pub mod Points
+pub mod Clocked
 pub mod Told
 pub mod Calls
 pub mod Changing

@@ -13,7 +13,7 @@ use Rattle.cat_cli.specs.declared.status.Status.TheVariants as statuses
 use Rattle.cat_cli.specs.Journals.{Holds, told_at}
 use Rattle.cat_cli.specs.Opening.{HoldsLog, IsOpened, IsClosed, status_of}
 use Rattle.cat_cli.specs.Runs.{Answers, Ran, RanWell, Says, Seen, spares_disks, start, tells_all}
-use Rattle.cat_cli.specs.Sessions.{Readings, Fallen}
+use Rattle.cat_cli.specs.Sessions.{AreAhead, Readings, ReadsOn, Fallen}
 use Rattle.cat_cli.specs.SessionLaws.{log_grows}
 use Rattle.cat_cli.specs.Stores.{RunsKnown}
 use Rattle.cat_cli.proofs.Opened.{begins_at, left_at}
@@ -27,7 +27,7 @@ log_of payloads before after news is grew =
     ∙ ap (λ (l : List (List ℕ)). l ++ spellings (reverse news)) (sym is)
 
 -- by how it ended, and whether the disk failed
-module _ (to : ℕ → Type 0) (stays : Type 0) (clock : Readings) (to_come : Option Readings) (bytes : List ℕ) (unread : Option (List ℕ)) (s : Seen) where
+module _ (to : ℕ → Type 0) (stays : Type 0) (clock : Readings) (to_come : ℕ → Type 0) (bytes : List ℕ) (unread : Option (List ℕ)) (s : Seen) where
   ran_well : (end : End) (ran : Ran to clock to_come bytes unread s end) → (ran.last.fallen ≡ None) × stays → RanWell to stays clock to_come bytes unread s end
   ran_well end ran (none, same) = (ran, none, same)
 
@@ -139,40 +139,46 @@ module _ {D K : Type 0} (told : D → Option (List ℕ)) (faults : D → ℕ) (d
   seen w h = record { written = w; held = h; before = before; now = now; journal = told_at told place; left = told_at told place' }
 
   -- how it went, where to is so of the count at which an append failed
-  pub ran : (to : ℕ → Type 0) (clock : Readings) (b w : List ℕ) → ((c : ℕ) → down new.keeper ≡ Some c → to c) → ahead ≡ Some clock → bytes ≡ Some b → held ≡ Some w
-      → (h : List ℕ) × (after ≡ Some h) × (r : Ran to clock ahead' b unread (seen w h) end) × (down new.keeper ≡ option_map (λ (f : Fallen). f.count) r.last.fallen)
-  ran to clock b w raised a e f =
-      let x = session clock b w a e f in
-      let grew = log_grows clock (start old.book b w) end x.0 x.2 unread x.3 in
-      let holds : IfSome (told closed.disk) (Holds (spellings (reverse new.book.log)) x.2.fallen) = closed.has x.2.fallen x.4.down_is x.4.flies in
+  pub ran : (to : ℕ → Type 0) (b w : List ℕ) → ((c : ℕ) → down new.keeper ≡ Some c → to c) → bytes ≡ Some b → held ≡ Some w
+      → (clock : Readings) × AreAhead ahead clock × (h : List ℕ) × (after ≡ Some h) × (r : Ran to clock (ReadsOn ahead ahead') b unread (seen w h) end) × (down new.keeper ≡ option_map (λ (f : Fallen). f.count) r.last.fallen)
+  ran to b w raised e f =
+      let x = session b w e f in
+      let last = x.4 in
+      let left = x.6 in
+      let grew = log_grows x.0 (start old.book b w) end x.2 last unread x.5 in
+      let holds : IfSome (told closed.disk) (Holds (spellings (reverse new.book.log)) last.fallen) = closed.has last.fallen left.down_is left.flies in
       let log : spellings (reverse new.book.log) ≡ opened.stored.payloads ++ spellings (reverse grew.0) =
-      log_of opened.stored.payloads old.book.log new.book.log grew.0 opened.stored.spelled (x.4.log_is ∙ grew.1) in (
+      log_of opened.stored.payloads old.book.log new.book.log grew.0 opened.stored.spelled (left.log_is ∙ grew.1) in (
         x.0,
         x.1,
+        x.2,
+        x.3,
         record {
           payloads = opened.stored.payloads;
           book = old.book;
           begins = begins_at told place opened.disk opened.stored.payloads old.book opened.was opened.stored.begins;
-          last = x.2;
-          ends = x.3;
+          last = last;
+          ends = x.5;
           added = reverse grew.0;
           grows = grew.1 ∙ ap (λ (l : List LogEntry). l ++ old.book.log) (sym (reverse-reverse grew.0));
           keeps =
-              subst (λ (q : Option (Option D)). IfSome (told_at told q) (Holds (opened.stored.payloads ++ spellings (reverse grew.0)) x.2.fallen)) (sym there)
-              (left_at told place closed.disk (Holds (opened.stored.payloads ++ spellings (reverse grew.0)) x.2.fallen)
-              (subst (λ (l : List (List ℕ)). IfSome (told closed.disk) (Holds l x.2.fallen)) log holds));
-          cause = one_fell to (down new.keeper) x.2.fallen x.4.down_is raised;
-          reads_on = x.5;
+              subst (λ (q : Option (Option D)). IfSome (told_at told q) (Holds (opened.stored.payloads ++ spellings (reverse grew.0)) last.fallen)) (sym there)
+              (left_at told place closed.disk (Holds (opened.stored.payloads ++ spellings (reverse grew.0)) last.fallen)
+              (subst (λ (l : List (List ℕ)). IfSome (told closed.disk) (Holds l last.fallen)) log holds));
+          cause = one_fell to (down new.keeper) last.fallen left.down_is raised;
+          reads_on = x.7;
         },
-        x.4.down_is,
+        left.down_is,
       )
 
   -- and what it says, by the status; level is so where the disk didn't fail
-  pub says : (fell : Type 0) (to : ℕ → Type 0) (level : Type 0) (clock : Readings) (b w : List ℕ) (failed : Bool) (status : Status) → status ≡ status_of end failed
+  pub says : (fell : Type 0) (to : ℕ → Type 0) (level : Type 0) (b w : List ℕ) (failed : Bool) (status : Status) → status ≡ status_of end failed
       → ((c : ℕ) → down new.keeper ≡ Some c → to c × (0 < kept_faults new.keeper)) → (failed ≡ false → kept_faults new.keeper ≡ 0) → (kept_faults new.keeper ≡ 0 → level)
-      → ahead ≡ Some clock → bytes ≡ Some b → held ≡ Some w → (h : List ℕ) × (after ≡ Some h) × Says fell to level clock ahead' b unread (seen w h) status
-  says fell to level clock b w failed status is rises stays same a e f =
-      let x = ran to clock b w (λ c fallen. (rises c fallen).0) a e f in
-      let well : failed ≡ false → (x.2.last.fallen ≡ None) × level =
-      λ still. (none_fell (down new.keeper) x.2.last.fallen x.3 (λ c fallen. not_both (kept_faults new.keeper) (rises c fallen).1 (stays still)), same (stays still)) in
-      (x.0, x.1, inl (subst (λ (st : Status). Answers to level clock ahead' b unread (seen w x.0) st) (sym is) (answers to level clock ahead' b unread (seen w x.0) end failed x.2 well)))
+      → bytes ≡ Some b → held ≡ Some w
+      → (clock : Readings) × AreAhead ahead clock × (h : List ℕ) × (after ≡ Some h) × Says fell to level clock ahead ahead' b unread (seen w h) status
+  says fell to level b w failed status is rises stays same e f =
+      let x = ran to b w (λ c fallen. (rises c fallen).0) e f in
+      let run = x.4 in
+      let well : failed ≡ false → (run.last.fallen ≡ None) × level =
+      λ still. (none_fell (down new.keeper) run.last.fallen x.5 (λ c fallen. not_both (kept_faults new.keeper) (rises c fallen).1 (stays still)), same (stays still)) in
+      (x.0, x.1, x.2, x.3, inl (subst (λ (st : Status). Answers to level x.0 (ReadsOn ahead ahead') b unread (seen w x.2) st) (sym is) (answers to level x.0 (ReadsOn ahead ahead') b unread (seen w x.2) end failed run well)))

@@ -1,6 +1,5 @@
--- From what a clock, a source and a sink tell to the first point of a session.
-use Rattle.std.proofs.Common.{◌≡◌, ℕ, ◌+◌, List, ◌++◌, take, Option, Some, None, Result, Ok, Err, refl, ap, ◌∙◌, inl, inr, arith}
-use Rattle.cat_io.specs.Clocks.{from}
+-- From what a source and a sink tell to the first point of a session.
+use Rattle.std.proofs.Common.{◌≡◌, ℕ, List, ◌++◌, take, Option, Some, None, Result, Ok, Err, refl, ap, ◌∙◌, inl, inr}
 use Rattle.cat_http.specs.Writing.{Wrote}
 use Rattle.cat_model.specs.Book.{Book}
 use Rattle.cat_model.specs.Mark.{Mark}
@@ -8,27 +7,20 @@ use Rattle.cat_desk.specs.Pass.{DeskId, mark_of, number_of}
 use Rattle.cat_desk.specs.declared.pass.Pass.{Pass}
 use Rattle.cat_work.specs.Passes.{IsAlone, IsReady, book_of}
 use Rattle.cat_cli.specs.Runs.{IsTold, start}
-use Rattle.cat_cli.specs.Sessions.{Readings, Stands, seen_failed}
+use Rattle.cat_cli.specs.Sessions.{Stands, seen_failed}
 use Rattle.cat_cli.proofs.Told.{appended}
 
-from_first : (clock : Readings) → clock ≡ from 0 clock
-from_first clock = λ i k. clock (same k i)
-  where
-    same : (k : ℕ) → k ≡ 0 + k
-    same k = omega arith
-
 -- the first pass of a desk whose store's appends have all succeeded stands at the start of a session
-pub started : (desk : DeskId) (pass : Pass) (book : Book) (mark : Mark) (ahead : Option Readings) (bytes held : Option (List ℕ)) (clock : Readings) (b w : List ℕ)
+pub started : (desk : DeskId) (pass : Pass) (book : Book) (mark : Mark) (bytes held : Option (List ℕ)) (b w : List ℕ)
     → IsReady desk pass → IsAlone pass → number_of pass ≡ 1 → book_of desk pass ≡ book → mark_of pass ≡ mark → mark.fault ≡ None
-    → ahead ≡ Some clock → bytes ≡ Some b → held ≡ Some w → Stands desk clock (start book b w) pass ahead bytes held
-started desk pass book mark ahead bytes held clock b w ready alone number book_is mark_is up a e f = record {
+    → bytes ≡ Some b → held ≡ Some w → Stands desk (start book b w) pass bytes held
+started desk pass book mark bytes held b w ready alone number book_is mark_is up e f = record {
   pass_at = record {
     ready = ready;
     alone = alone;
     number = number;
     book_is = book_is;
     fault_is = ap seen_failed (ap (λ (x : Mark). x.fault) mark_is ∙ up);
-    to_come = a ∙ ap Some (from_first clock);
   };
   bytes_are = e;
   held_is = f;

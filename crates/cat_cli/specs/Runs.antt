@@ -1,7 +1,6 @@
 -- What a run's status says.
 use Rattle.std.specs.Prelude.{ℕ, ◌≡◌, ◌⊎◌, List, ◌++◌, take, reverse, Option, Some, None, IfSome, Bool, true, false}
 use Rattle.cat_io.specs.Causes.{Rose}
-use Rattle.cat_io.specs.Clocks.{from}
 use Rattle.cat_model.specs.declared.log_entry.LogEntry.{LogEntry}
 use Rattle.cat_model.specs.Book.{Book}
 use Rattle.cat_ledger.specs.Kept.{spellings}
@@ -13,7 +12,7 @@ use Rattle.cat_cli.specs.declared.status.Status.{Status}
 use Rattle.cat_cli.specs.declared.status.Status.TheVariants as statuses
 use Rattle.cat_cli.specs.Journals.{Begins, Holds, IsJournalOf, StandsFor, unopened_of}
 use Rattle.cat_cli.specs.Lines.{check_line, disk_fault_line, no_memory_line, unopened_line}
-use Rattle.cat_cli.specs.Sessions.{Readings, Point, Standing, Ends}
+use Rattle.cat_cli.specs.Sessions.{AreAhead, Readings, ReadsOn, Point, Standing, Ends}
 
 -- the process's status
 abbrev pub code_of : Status → ℕ
@@ -90,8 +89,8 @@ RefusesSo fell level s status = Refuses fell level s status × StandsFor s.journ
 abbrev pub start : Book → List ℕ → List ℕ → Point
 start book bytes written = record { left = 1000; standing = record { book = book; readings = 0; fallen = None }; bytes = bytes; written = written }
 
--- a session on the journal's catalogue ended so, and the journal has its entries; where an append failed, to is so of the count of faults that is told of it; and the clock has these readings to come
-pub record Ran (to : ℕ → Type 0) (clock : Readings) (to_come : Option Readings) (bytes : List ℕ) (unread : Option (List ℕ)) (s : Seen) (end : End) : Type 0 where
+-- a session on the journal's catalogue ended so, and the journal has its entries; where an append failed, to is so of the count of faults that is told of it; and to_come is so of how many readings were taken
+pub record Ran (to : ℕ → Type 0) (clock : Readings) (to_come : ℕ → Type 0) (bytes : List ℕ) (unread : Option (List ℕ)) (s : Seen) (end : End) : Type 0 where
   pub payloads : List (List ℕ)
   pub book : Book
   pub begins : Begins s.journal payloads book
@@ -101,14 +100,14 @@ pub record Ran (to : ℕ → Type 0) (clock : Readings) (to_come : Option Readin
   pub grows : last.book.log ≡ reverse added ++ book.log
   pub keeps : IfSome s.left (Holds (payloads ++ spellings added) last.fallen)
   pub cause : IfSome last.fallen (λ f. to f.count)
-  pub reads_on : to_come ≡ Some (from last.readings clock)
+  pub reads_on : to_come last.readings
 
 -- and no append failed; stays says that the disks' count of faults is as it was
-abbrev pub RanWell : (ℕ → Type 0) → Type 0 → Readings → Option Readings → List ℕ → Option (List ℕ) → Seen → End → Type 0
+abbrev pub RanWell : (ℕ → Type 0) → Type 0 → Readings → (ℕ → Type 0) → List ℕ → Option (List ℕ) → Seen → End → Type 0
 RanWell to stays clock to_come bytes unread s end = (ran : Ran to clock to_come bytes unread s end) × (ran.last.fallen ≡ None) × stays
 
 -- a session was held, by the status
-abbrev pub Answers : (ℕ → Type 0) → Type 0 → Readings → Option Readings → List ℕ → Option (List ℕ) → Seen → Status → Type 0
+abbrev pub Answers : (ℕ → Type 0) → Type 0 → Readings → (ℕ → Type 0) → List ℕ → Option (List ℕ) → Seen → Status → Type 0
 Answers to stays clock to_come bytes unread s statuses.Done = RanWell to stays clock to_come bytes unread s ends.Closed
 Answers to stays clock to_come bytes unread s statuses.Cut =
     RanWell to stays clock to_come bytes unread s ends.Capped ⊎ RanWell to stays clock to_come bytes unread s ends.BadHead ⊎ RanWell to stays clock to_come bytes unread s ends.TooLarge
@@ -120,15 +119,16 @@ Answers to stays clock to_come bytes unread s statuses.WriteFault = Ran to clock
 Answers to stays clock to_come bytes unread s statuses.NoMemory = Ran to clock to_come bytes unread s ends.NoMemory
 Answers to stays clock to_come bytes unread s _ = ⊥
 
--- what a run of `script` does, by its status; where no session was held the clock wasn't read
-abbrev pub Says : Type 0 → (ℕ → Type 0) → Type 0 → Readings → Option Readings → List ℕ → Option (List ℕ) → Seen → Status → Type 0
-Says fell to stays clock to_come bytes unread s status = Answers to stays clock to_come bytes unread s status ⊎ (RefusesSo fell stays s status × (to_come ≡ Some clock))
+-- what a run of `script` does with these readings, by its status; the clock tells ahead before it, and then what is to come: where no session was held it wasn't read
+abbrev pub Says : Type 0 → (ℕ → Type 0) → Type 0 → Readings → Option Readings → Option Readings → List ℕ → Option (List ℕ) → Seen → Status → Type 0
+Says fell to stays clock ahead to_come bytes unread s status = Answers to stays clock (ReadsOn ahead to_come) bytes unread s status ⊎ (RefusesSo fell stays s status × (to_come ≡ ahead))
 
--- the same where the clock, the source and the sink tell what they have
+-- the same where the source and the sink tell what they have, by some readings: the clock's own, where it tells them
 abbrev pub SaysKnown : Type 0 → (ℕ → Type 0) → Type 0 → Option Readings → Option Readings → Option (List ℕ) → Option (List ℕ) → Option (List ℕ) → Status → Option (List ℕ) → ℕ → ℕ → Option (List ℕ) → Option (List ℕ) → Type 0
 SaysKnown fell to stays ahead to_come bytes unread held status after before now journal left =
-    (clock : Readings) (b w : List ℕ) → ahead ≡ Some clock → bytes ≡ Some b → held ≡ Some w
-    → (h : List ℕ) × (after ≡ Some h) × Says fell to stays clock to_come b unread (record { written = w; held = h; before = before; now = now; journal = journal; left = left }) status
+    (b w : List ℕ) → bytes ≡ Some b → held ≡ Some w
+    → (clock : Readings) × AreAhead ahead clock
+    × (h : List ℕ) × (after ≡ Some h) × Says fell to stays clock ahead to_come b unread (record { written = w; held = h; before = before; now = now; journal = journal; left = left }) status
 
 -- ---- a check
 

@@ -1,7 +1,7 @@
 -- A session over one stream of bytes: the requests in turn, the replies to them, and how it ends.
-use Rattle.std.specs.Prelude.{ℕ, ◌+◌, ◌<◌, ◌==◌, ◌≡◌, ◌⊎◌, List, [], ◌∷◌, ◌++◌, take, Option, Some, None, Bool, true, false, ◌||◌, Result, Ok, Err}
+use Rattle.std.specs.Prelude.{ℕ, ◌+◌, ◌<◌, ◌==◌, ◌≡◌, ◌⊎◌, List, [], ◌∷◌, ◌++◌, length, take, Option, Some, None, Bool, true, false, ◌||◌, Result, Ok, Err}
 use Rattle.sha2.specs.Sha256.{sha256}
-use Rattle.cat_io.specs.Clocks.{from}
+use Rattle.cat_io.specs.Clocks.{Ticks, from}
 use Rattle.cat_model.specs.declared.log_entry.LogEntry.{LogEntry}
 use Rattle.cat_model.specs.declared.refusal.Refusal.{Refusal}
 use Rattle.cat_model.specs.declared.refusal.Refusal.TheVariants.{BadRequest, Down, Fault, TooLarge}
@@ -23,9 +23,29 @@ use Rattle.cat_cli.specs.declared.ending.Session.{Session as End}
 use Rattle.cat_cli.specs.declared.ending.Session.TheVariants as ends
 use Rattle.cat_cli.specs.Replies.{IsRefusalOf, is_head, must_be_told, said_bytes}
 
+-- ---- readings
+
 -- the readings of a clock, the first at 0
 abbrev pub Readings : Type 0
 Readings = ℕ → ℕ
+
+-- these were taken of a clock, one after another
+abbrev pub Took : List ℕ → Option Readings → Option Readings → Type 0
+Took [] ahead now = now ≡ ahead
+Took (reading ∷ readings) ahead now = (next : Option Readings) × Ticks ahead next reading × Took readings next now
+
+-- the readings from the n-th on begin with these
+abbrev pub BeginsAt : ℕ → Readings → List ℕ → Type 0
+BeginsAt n clock [] = Unit {0}
+BeginsAt n clock (reading ∷ readings) = (clock n ≡ reading) × BeginsAt (n + 1) clock readings
+
+-- where the clock tells what is ahead, it tells these
+abbrev pub AreAhead : Option Readings → Readings → Type 0
+AreAhead ahead clock = (told : Readings) → ahead ≡ Some told → clock ≡ told
+
+-- and then it tells afterwards what comes behind so many
+abbrev pub ReadsOn : Option Readings → Option Readings → ℕ → Type 0
+ReadsOn ahead now count = (told : Readings) → ahead ≡ Some told → now ≡ Some (from count told)
 
 -- ---- one request on a store
 
@@ -167,7 +187,7 @@ LeavesCut bytes unread = (left : List ℕ) × (unread ≡ Some left) × IsCut by
 abbrev pub Ends : Readings → Point → End → List ℕ → Standing → Option (List ℕ) → Type 0
 Ends clock a end held last unread = (c : Point) × Reaches clock a c × EndsAt clock c end held last × (end ≡ ends.ReadFault → LeavesCut c.bytes unread)
 
--- ---- what a pass, a clock, a source and a sink tell
+-- ---- what a pass, a source and a sink tell
 
 -- what is seen of an append that failed: the count of faults then, and the payload
 abbrev pub seen_failed : Option FailedAppend → Option (ℕ × List ℕ)
@@ -178,23 +198,30 @@ abbrev pub seen_fallen : Option Fallen → Option (ℕ × List ℕ)
 seen_fallen None = None
 seen_fallen (Some x) = Some (x.count, spelling x.entry)
 
--- the caller of the only pass of a desk has nothing open, and the pass and the clock stand so
-pub record IsAt (desk : DeskId) (clock : Readings) (s : Standing) (pass : Pass) (ahead : Option Readings) : Type 0 where
+-- the caller of the only pass of a desk has nothing open, and the pass stands so
+pub record IsAt (desk : DeskId) (s : Standing) (pass : Pass) : Type 0 where
   pub ready : IsReady desk pass
   pub alone : IsAlone pass
   pub number : number_of pass ≡ 1
   pub book_is : book_of desk pass ≡ s.book
   pub fault_is : seen_failed (mark_of pass).fault ≡ seen_fallen s.fallen
-  pub to_come : ahead ≡ Some (from s.readings clock)
 
--- the pass, the clock, the source and the sink stand at a point
-pub record Stands (desk : DeskId) (clock : Readings) (c : Point) (pass : Pass) (ahead : Option Readings) (bytes held : Option (List ℕ)) : Type 0 where
-  pub pass_at : IsAt desk clock c.standing pass ahead
+-- the pass, the source and the sink stand at a point
+pub record Stands (desk : DeskId) (c : Point) (pass : Pass) (bytes held : Option (List ℕ)) : Type 0 where
+  pub pass_at : IsAt desk c.standing pass
   pub bytes_are : bytes ≡ Some c.bytes
   pub held_is : held ≡ Some c.written
 
--- a session that begins so ends so, where the clock, the source and the sink tell what they have
+-- so many readings more were taken
+abbrev pub HasTaken : List ℕ → Standing → Standing → Type 0
+HasTaken taken before after = after.readings ≡ before.readings + length taken
+
+-- some readings were taken of the clock, and this is so by all readings that go on with these at a point
+abbrev pub ByReadings : Option Readings → Option Readings → (List ℕ → Readings → Point → Type 0) → Type 0
+ByReadings ahead now so = (taken : List ℕ) × Took taken ahead now × ((clock : Readings) (c : Point) → BeginsAt c.standing.readings clock taken → so taken clock c)
+
+-- a session that begins so ends so, where the source and the sink tell what they have
 abbrev pub EndsKnown : DeskId → ℕ → Pass → Pass → Option Readings → Option Readings → Option (List ℕ) → Option (List ℕ) → Option (List ℕ) → End → Option (List ℕ) → Type 0
-EndsKnown desk most pass pass' ahead ahead' bytes unread held end after =
-    (clock : Readings) (a : Point) → a.left ≡ most → Stands desk clock a pass ahead bytes held
-    → (h : List ℕ) × (after ≡ Some h) × (last : Standing) × Ends clock a end h last unread × IsAt desk clock last pass' ahead'
+EndsKnown desk most pass pass' ahead now bytes unread held end after =
+    ByReadings ahead now (λ (taken : List ℕ) (clock : Readings) (a : Point). a.left ≡ most → Stands desk a pass bytes held
+    → (h : List ℕ) × (after ≡ Some h) × (last : Standing) × Ends clock a end h last unread × IsAt desk last pass' × HasTaken taken a.standing last)

@@ -1,11 +1,10 @@
 -- A session on a store, which a desk holds meanwhile.
 use Rattle.std.specs.Prelude.{ℕ, ◌≡◌, List, Option, Some, option_map}
-use Rattle.cat_io.specs.Clocks.{from}
 use Rattle.cat_ledger.specs.Kept.{spelling}
 use Rattle.cat_core.specs.Stored.{Stored}
 use Rattle.cat_cli.specs.declared.ending.Session.{Session as End}
 use Rattle.cat_cli.specs.Runs.{start}
-use Rattle.cat_cli.specs.Sessions.{Readings, Fallen, Standing, Ends}
+use Rattle.cat_cli.specs.Sessions.{AreAhead, Readings, ReadsOn, Fallen, Standing, Ends}
 
 -- what a session left of a store: the log of its last standing, and a keeper that is down where an append failed
 pub record IsLeftSo {K : Type 0} (down : K → Option ℕ) (in_flight : K → Option (List ℕ)) (last : Standing) (store : Stored K) : Type 0 where
@@ -13,8 +12,9 @@ pub record IsLeftSo {K : Type 0} (down : K → Option ℕ) (in_flight : K → Op
   pub down_is : down store.keeper ≡ option_map (λ (f : Fallen). f.count) last.fallen
   pub flies : in_flight store.keeper ≡ option_map (λ (f : Fallen). spelling f.entry) last.fallen
 
--- a session on a store ended so, where the clock, the source and the sink tell what they have
+-- a session on a store ended so by some readings, the clock's own where it tells them, where the source and the sink tell what they have
 abbrev pub RunsKnown : {K : Type 0} → (K → Option ℕ) → (K → Option (List ℕ)) → Stored K → Option Readings → Option (List ℕ) → Option (List ℕ) → Option (List ℕ) → End → Stored K → Option Readings → Option (List ℕ) → Type 0
-RunsKnown down in_flight store ahead bytes unread held end store' ahead' after =
-    (clock : Readings) (b w : List ℕ) → ahead ≡ Some clock → bytes ≡ Some b → held ≡ Some w
-    → (h : List ℕ) × (after ≡ Some h) × (last : Standing) × Ends clock (start store.book b w) end h last unread × IsLeftSo down in_flight last store' × (ahead' ≡ Some (from last.readings clock))
+RunsKnown down in_flight store ahead bytes unread held end store' now after =
+    (b w : List ℕ) → bytes ≡ Some b → held ≡ Some w
+    → (clock : Readings) × AreAhead ahead clock
+    × (h : List ℕ) × (after ≡ Some h) × (last : Standing) × Ends clock (start store.book b w) end h last unread × IsLeftSo down in_flight last store' × ReadsOn ahead now last.readings

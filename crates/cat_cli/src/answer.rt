@@ -4,7 +4,7 @@ ghost use Rattle.std.specs.Prelude.{◌≡◌, ◌≢◌, ◌==◌, ◌||◌, �
 ghost use Rattle.cat_desk.specs.Pass.{Keeps};
 ghost use Rattle.cat_work.specs.Passes.{IsReady};
 ghost use Rattle.cat_io.specs.Causes.{Rose};
-ghost use Rattle.cat_cli.specs.Sessions.{Readings, Point, Turn};
+ghost use Rattle.cat_cli.specs.Sessions.{ByReadings, Readings, Point, Turn};
 ghost use Rattle.std.specs.Io.KnownBytes.{Appends};
 ghost use Rattle.cat_http.specs.Writing.{AppendsFront};
 ghost use Rattle.cat_cli.specs.Answers.{SaysTo, IsAsked, IsAnswered, LeavesAt};
@@ -66,12 +66,12 @@ pub(crate) fn answer<R: Wait, K0: Keeper, K: Sink, C: Clock>(
     left: u64,
 ) -> Option<Session>
     requires { IsReady desk.now pass.old }
-    ensures on { IfNone result ((k : Readings) (c : Point) (rest : List ℕ)
-        → IsAsked desk.now k c left request.now rest pass.old (C.ahead clock.old) (K.held sink.old)
-        → (t : Turn) × IsAnswered desk.now k c left rest t pass.new (C.ahead clock.new) (K.held sink.new)) }
-    ensures ends { IfSome result (λ end. (k : Readings) (c : Point) (rest : List ℕ)
-        → IsAsked desk.now k c left request.now rest pass.old (C.ahead clock.old) (K.held sink.old)
-        → LeavesAt desk.now k c end pass.new (C.ahead clock.new) (K.held sink.new)) }
+    ensures on { IfNone result (ByReadings (C.ahead clock.old) (C.ahead clock.new) (λ (taken : List ℕ) (k : Readings) (c : Point). (rest : List ℕ)
+        → IsAsked desk.now c left request.now rest pass.old (K.held sink.old)
+        → (t : Turn) × IsAnswered desk.now taken k c left rest t pass.new (K.held sink.new))) }
+    ensures ends { IfSome result (λ end. ByReadings (C.ahead clock.old) (C.ahead clock.new) (λ (taken : List ℕ) (k : Readings) (c : Point). (rest : List ℕ)
+        → IsAsked desk.now c left request.now rest pass.old (K.held sink.old)
+        → LeavesAt desk.now taken k c end pass.new (K.held sink.new))) }
     ensures ready { IsReady desk.now pass.new }
     ensures kept { Keeps desk.now pass.old pass.new }
     ensures open { result ≢ Some Session.Capped }

@@ -5,7 +5,7 @@ ghost use Rattle.cat_desk.specs.Pass.{Keeps};
 ghost use Rattle.cat_work.specs.Passes.{IsReady};
 ghost use Rattle.std.specs.Io.KnownBytes.{prepend_known};
 ghost use Rattle.cat_io.specs.Causes.{Rose};
-ghost use Rattle.cat_cli.specs.Sessions.{Readings, Point, Turn, Stands, EndsKnown, LeavesCut};
+ghost use Rattle.cat_cli.specs.Sessions.{ByReadings, Readings, Point, Turn, Stands, EndsKnown, LeavesCut};
 ghost use Rattle.cat_cli.specs.Answers.{GoesTo, LeavesAt};
 
 use crate::answer::{answer, refuse};
@@ -39,12 +39,12 @@ fn turn<R: Wait, K0: Keeper, S: Source, K: Sink, C: Clock>(
     left: u64,
 ) -> Option<Session>
     requires { IsReady desk.now pass.old }
-    ensures on { IfNone result ((k : Readings) (c : Point) → c.left ≡ left + 1
-        → Stands desk.now k c pass.old (C.ahead clock.old) (prepend_known buffer.old.unread (S.left source.old)) (K.held sink.old)
-        → (t : Turn) × GoesTo desk.now k c left t pass.new (C.ahead clock.new) (prepend_known buffer.new.unread (S.left source.new)) (K.held sink.new)) }
-    ensures ends { IfSome result (λ end. (k : Readings) (c : Point) → c.left ≡ left + 1
-        → Stands desk.now k c pass.old (C.ahead clock.old) (prepend_known buffer.old.unread (S.left source.old)) (K.held sink.old)
-        → LeavesAt desk.now k c end pass.new (C.ahead clock.new) (K.held sink.new)) }
+    ensures on { IfNone result (ByReadings (C.ahead clock.old) (C.ahead clock.new) (λ (taken : List ℕ) (k : Readings) (c : Point). c.left ≡ left + 1
+        → Stands desk.now c pass.old (prepend_known buffer.old.unread (S.left source.old)) (K.held sink.old)
+        → (t : Turn) × GoesTo desk.now taken k c left t pass.new (prepend_known buffer.new.unread (S.left source.new)) (K.held sink.new))) }
+    ensures ends { IfSome result (λ end. ByReadings (C.ahead clock.old) (C.ahead clock.new) (λ (taken : List ℕ) (k : Readings) (c : Point). c.left ≡ left + 1
+        → Stands desk.now c pass.old (prepend_known buffer.old.unread (S.left source.old)) (K.held sink.old)
+        → LeavesAt desk.now taken k c end pass.new (K.held sink.new))) }
     ensures cut { result ≡ Some Session.ReadFault → (b : List ℕ) → prepend_known buffer.old.unread (S.left source.old) ≡ Some b → LeavesCut b (S.left source.new) }
     ensures ready { IsReady desk.now pass.new }
     ensures kept { Keeps desk.now pass.old pass.new }

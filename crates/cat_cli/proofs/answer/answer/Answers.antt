@@ -3,19 +3,38 @@ use Rattle.cat_cli.proofs.Answering.{closed, cut, goes_on, untold}
 use Rattle.cat_cli.proofs.answer.answer.Goals as goal
 
 pub returns-else-closes-clause-on : goal.returns-else-closes-clause-on
-returns-else-closes-clause-on g c k p rest asked =
-    let replies = rw (c.is_last.ensures, c.closes-closes.ensures, c.is_head.ensures) at c.in-Ok.ensures.reply in
-    goes_on c.args.desk.now k p c.args.left c.args.request.now rest _ c.args.pass.now _ _ _ _ _ _ asked c.said_to-said.ensures.says replies (sym c.closes-closes.ensures ∙ c.if-closes.false) c.in-Ok-send.ensures.ok
+returns-else-closes-clause-on g c =
+    let says = c.said_to-said.ensures.says in
+    let replies = rw (c.is_last.ensures, c.closes-closes.ensures, c.is_head.ensures) at c.in-Ok.ensures.reply in (
+      says.0,
+      says.1,
+      λ k p begins rest asked. goes_on c.args.desk.now says.0 k p c.args.left c.args.request.now rest _ c.args.pass.now _ _ _ _ asked begins says.2 replies
+          (sym c.closes-closes.ensures ∙ c.if-closes.false) c.in-Ok-send.ensures.ok,
+    )
 
 pub returns-then-closes-clause-ends : goal.returns-then-closes-clause-ends
-returns-then-closes-clause-ends g c k p rest asked =
-    let replies = rw (c.is_last.ensures, c.closes-closes.ensures, c.is_head.ensures) at c.in-Ok.ensures.reply in
-    closed c.args.desk.now k p c.args.left c.args.request.now rest _ c.args.pass.now _ _ _ _ _ _ asked c.said_to-said.ensures.says replies (sym c.closes-closes.ensures ∙ c.if-closes.true) c.in-Ok-send.ensures.ok
+returns-then-closes-clause-ends g c =
+    let says = c.said_to-said.ensures.says in
+    let replies = rw (c.is_last.ensures, c.closes-closes.ensures, c.is_head.ensures) at c.in-Ok.ensures.reply in (
+      says.0,
+      says.1,
+      λ k p begins rest asked. closed c.args.desk.now says.0 k p c.args.left c.args.request.now rest _ c.args.pass.now _ _ _ _ asked begins says.2 replies
+          (sym c.closes-closes.ensures ∙ c.if-closes.true) c.in-Ok-send.ensures.ok,
+    )
 
 pub returns-in-Err-send-clause-ends : goal.returns-in-Err-send-clause-ends
-returns-in-Err-send-clause-ends g c k p rest asked =
-    let replies = rw (c.is_last.ensures, c.closes-closes.ensures, c.is_head.ensures) at c.in-Ok.ensures.reply in
-    cut c.args.desk.now k p c.args.left c.args.request.now rest _ c.args.pass.now _ _ _ _ _ _ asked c.said_to-said.ensures.says replies c.in-Err-send.ensures.front
+returns-in-Err-send-clause-ends g c =
+    let says = c.said_to-said.ensures.says in
+    let replies = rw (c.is_last.ensures, c.closes-closes.ensures, c.is_head.ensures) at c.in-Ok.ensures.reply in (
+      says.0,
+      says.1,
+      λ k p begins rest asked. cut c.args.desk.now says.0 k p c.args.left c.args.request.now rest _ c.args.pass.now _ _ _ _ asked begins says.2 replies c.in-Err-send.ensures.front,
+    )
 
 pub returns-in-Err-clause-ends : goal.returns-in-Err-clause-ends
-returns-in-Err-clause-ends g c k p rest asked = untold c.args.desk.now k p c.args.left c.args.request.now rest c.args.pass.now _ _ _ _ _ asked c.said_to-said.ensures.says c.in-Err.ensures.untold
+returns-in-Err-clause-ends g c =
+    let says = c.said_to-said.ensures.says in (
+      says.0,
+      says.1,
+      λ k p begins rest asked. untold c.args.desk.now says.0 k p c.args.left c.args.request.now rest c.args.pass.now _ _ _ asked begins says.2 c.in-Err.ensures.untold,
+    )

@@ -1,19 +1,29 @@
+use Rattle.std.proofs.Common.{[], ◌∷◌, refl}
 use Rattle.cat_cli.proofs.Standing.{from_change, from_reading, from_refusal, keeps_self}
 use Rattle.cat_cli.proofs.answer.said_to.Goals as goal
 
 pub returns-in-Ok-Read-clause-says : goal.returns-in-Ok-Read-clause-says
-returns-in-Ok-Read-clause-says g c k s at =
-    let wants = rw c.in-Ok-Read.field-0-is at c.in-Ok-Read.ensures.wanted in
-    from_reading c.args.desk.now k s c.args.request.now c.args.pass.now _ _ c.in-Ok-Read.ask c.read.result at wants c.read.ensures.kept c.read.ensures.ready c.read.ensures.reads c.read.ensures.alone
+returns-in-Ok-Read-clause-says g c =
+    let wants = rw c.in-Ok-Read.field-0-is at c.in-Ok-Read.ensures.wanted in (
+      [],
+      refl,
+      λ k s at begins.
+          from_reading c.args.desk.now k s c.args.request.now c.args.pass.now _ c.in-Ok-Read.ask c.read.result at wants c.read.ensures.kept c.read.ensures.ready c.read.ensures.reads c.read.ensures.alone,
+    )
 
 pub returns-in-Ok-Change-clause-says : goal.returns-in-Ok-Change-clause-says
-returns-in-Ok-Change-clause-says g c k s at =
+returns-in-Ok-Change-clause-says g c =
     let wants = rw c.in-Ok-Change.field-0-is at c.in-Ok-Change.ensures.wanted in
-    let answers = c.call.ensures.answers in
-    from_change c.args.desk.now k s c.args.request.now c.in-Ok-Change.command c.args.pass.now _ _ _ answers.0 c.call.result at wants c.call.ensures.kept c.call.ensures.ready answers.1 answers.3
+    let answers = c.call.ensures.answers in (
+      answers.0 ∷ [],
+      (_, answers.1, refl),
+      λ k s at begins.
+          from_change c.args.desk.now k s c.args.request.now c.in-Ok-Change.command c.args.pass.now _ answers.0 c.call.result at wants c.call.ensures.kept c.call.ensures.ready begins.0 answers.3,
+    )
 
 pub returns-in-Err-clause-says : goal.returns-in-Err-clause-says
-returns-in-Err-clause-says g c k s at = from_refusal c.args.desk.now k s c.args.request.now c.args.pass.now _ c.in-Err.refused at c.in-Err.ensures.wanted
+returns-in-Err-clause-says g c =
+    ([], refl, λ k s at begins. from_refusal c.args.desk.now k s c.args.request.now c.args.pass.now c.in-Err.refused at c.in-Err.ensures.wanted)
 
 pub returns-in-Err-clause-kept : goal.returns-in-Err-clause-kept
 returns-in-Err-clause-kept g c = keeps_self c.args.desk.now c.args.pass.now c.requires.free

@@ -1,5 +1,7 @@
-use Rattle.std.proofs.Common.{◌≡◌, ℕ, List, Option, Some, sym, ◌∙◌, ap}
+use Rattle.std.proofs.Common.{◌≡◌, ℕ, List, [], Option, Some, inr, refl, sym, ◌∙◌, ap}
 use Rattle.cat_words.specs.Asked.{Task, check, script, task}
+use Rattle.cat_cli.proofs.Clocked.{some_readings}
+use Rattle.cat_cli.proofs.Opened.{stands_untouched}
 use Rattle.cat_cli.proofs.program.run.Goals as goal
 
 same_journal : (a b : List ℕ) → ◌≡◌ {A = Option Task} (Some (script a)) (Some (script b)) → a ≡ b
@@ -18,3 +20,10 @@ returns-in-Ok-Check-clause-checked g c journal asks =
 
 pub returns-in-Ok-Script-clause-still : goal.returns-in-Ok-Script-clause-still
 returns-in-Ok-Script-clause-still g c none = absurd (none c.in-Ok-Script.journal.now (c.in-Ok-Script.ensures.ok ∙ ap (λ what. Some (task what)) c.in-Ok-Script.field-0-is))
+
+-- memory ran out before the words were known
+pub returns-in-Err-NoMemory-clause-replies : goal.returns-in-Err-NoMemory-clause-replies
+returns-in-Err-NoMemory-clause-replies g c journal asks b w e f =
+    let k = some_readings [] (g.C.Clock.ahead c.args.clock.now) _ refl in
+    let told = c.tell_no_memory.ensures.told w f in
+    (k.0, k.1, told.0, told.1, inr (rw c.tell_no_memory.ensures.status (told.2, stands_untouched _), refl))

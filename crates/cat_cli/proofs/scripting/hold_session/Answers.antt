@@ -1,6 +1,7 @@
 use Rattle.std.proofs.Common.{ℕ, ◌≤◌, refl, subst}
 use Rattle.cat_io.specs.Causes.{Rose}
 use Rattle.cat_cli.specs.Runs.{start}
+use Rattle.cat_cli.proofs.Clocked.{reads_on, some_readings}
 use Rattle.cat_cli.proofs.Left.{began_on, fallen_at, left_so}
 use Rattle.cat_cli.proofs.Standing.{alone_on}
 use Rattle.cat_cli.proofs.Starting.{started}
@@ -10,17 +11,21 @@ pub release-store-requires-clause-alone : goal.release-store-requires-clause-alo
 release-store-requires-clause-alone g c lives alive = alone_on c.in-Ok.desk c.in-Ok.pass _ c.run_session-end.ensures.kept c.in-Ok.ensures.ready.1
 
 pub returns-in-Ok-clause-ends : goal.returns-in-Ok-clause-ends
-returns-in-Ok-clause-ends g c clock b w a e f =
+returns-in-Ok-clause-ends g c b w e f =
     let ready = c.in-Ok.ensures.ready in
-    let begins = started c.in-Ok.desk c.in-Ok.pass c.args.store.book c.args.store.mark _ _ _ clock b w ready.0 ready.1 ready.2 c.in-Ok.ensures.book c.in-Ok.ensures.mark c.requires.up a e f in
-    let x = c.run_session-end.ensures.ends clock (start c.args.store.book b w) refl begins in (
+    let begins = started c.in-Ok.desk c.in-Ok.pass c.args.store.book c.args.store.mark _ _ b w ready.0 ready.1 ready.2 c.in-Ok.ensures.book c.in-Ok.ensures.mark c.requires.up e f in
+    let ends = c.run_session-end.ensures.ends in
+    let k = some_readings ends.0 _ _ ends.1 in
+    let x = ends.2 k.0 (start c.args.store.book b w) k.2 refl begins in (
+      k.0,
+      k.1,
       x.0,
       x.1,
       x.2,
       x.3,
-      left_so g.K0.Keeper.down g.K0.Keeper.in_flight c.in-Ok.desk clock x.2 c.run_session-end.new.pass _ c.release-store.result x.4 c.release-store.ensures.book c.release-store.ensures.mark
+      left_so g.K0.Keeper.down g.K0.Keeper.in_flight c.in-Ok.desk x.2 c.run_session-end.new.pass c.release-store.result x.4 c.release-store.ensures.book c.release-store.ensures.mark
           c.log_is_kept.ensures.fallen c.log_is_kept.ensures.flies,
-      x.4.to_come,
+      reads_on ends.0 _ _ x.2.readings ends.1 x.5,
     )
 
 pub returns-in-Ok-clause-later : goal.returns-in-Ok-clause-later

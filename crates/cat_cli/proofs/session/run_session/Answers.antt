@@ -1,7 +1,11 @@
-use Rattle.std.proofs.Common.{◌≡◌, ℕ, ◌+◌, ◌-◌, ◌<◌, ◌≤◌, Some, refl, ap, arith}
+use Rattle.std.proofs.Common.{◌≡◌, ℕ, ◌+◌, ◌-◌, ◌<◌, ◌≤◌, [], ◌++◌, Some, refl, ap, ◌∙◌, arith}
+use Rattle.std.specs.Io.KnownBytes.{prepend_known}
 use Rattle.cat_cli.specs.declared.ending.Session.TheVariants as ends
+use Rattle.cat_cli.specs.Sessions.{Stands}
+use Rattle.cat_cli.proofs.Clocked.{begins_first, begins_then, takes_none, takes_on, took_on}
 use Rattle.cat_cli.proofs.Points.{reaches_on}
-use Rattle.cat_cli.proofs.Standing.{keeps_on}
+use Rattle.cat_cli.proofs.Reading.{not_begun, nothing_held}
+use Rattle.cat_cli.proofs.Standing.{keeps_on, keeps_self}
 use Rattle.cat_cli.proofs.session.run_session.Goals as goal
 
 -- so many requests may follow the next one
@@ -17,28 +21,77 @@ none_left left count e h = omega arith
 not_cut : ends.Capped ≡ ends.ReadFault → ⊥
 not_cut e = cc
 
-pub turns-preserved : goal.turns-preserved
-turns-preserved g c = record {
-  reached = λ k a whole stands.
-      let x = c.turns.invariant.reached k a whole stands in
-      let t = c.in_default-turn.ensures.on k x.0 (next_left x.0.left c.turns.count x.2 c.turns-test.true) x.3 in
-      (t.0.after, reaches_on k a x.0 t.0 x.1 t.1.answered t.1.goes_on, counted t.0.after.left c.turns.count t.1.left_is c.turns-test.true, t.1.stands);
-  ready = c.in_default-turn.ensures.ready;
-  kept = keeps_on c.args.desk.now c.args.pass.now _ _ c.turns.invariant.kept c.in_default-turn.ensures.kept;
-  source_faults = grind (arith, c.in_default-turn.ensures.source_stays, c.turns.invariant.source_faults);
-  sink_faults = grind (arith, c.in_default-turn.ensures.sink_stays, c.turns.invariant.sink_faults);
+whole_left : (left : ℕ) → left ≡ 1000 → left + 0 ≡ 1000
+whole_left left whole = omega (arith, whole)
+
+-- memory ran out before the first request
+pub returns-in_default-clause-ends : goal.returns-in_default-clause-ends
+returns-in_default-clause-ends g c = not_begun c.args.desk.now c.args.pass.now _ _ _ _
+
+pub returns-in_default-new-clause-ends : goal.returns-in_default-new-clause-ends
+returns-in_default-new-clause-ends g c = not_begun c.args.desk.now c.args.pass.now _ _ _ _
+
+pub turns-init : goal.turns-init
+turns-init g c = record {
+  reached = (
+    [],
+    refl,
+    λ k a begins whole stands.
+        let starts : Stands c.args.desk.now a c.args.pass.now (prepend_known c.in-Ok.buffer.unread (g.S.Source.left c.args.source.now)) (g.K.Sink.held c.args.sink.now) =
+        record { pass_at = stands.pass_at; bytes_are = nothing_held _ _ c.in-Ok.ensures ∙ stands.bytes_are; held_is = stands.held_is } in
+        (a, ([], refl), whole_left a.left whole, starts, takes_none a.standing),
+  );
+  ready = c.requires;
+  kept = keeps_self c.args.desk.now c.args.pass.now c.requires.free;
+  source_faults = refl;
+  sink_faults = refl;
 }
 
+pub turns-preserved : goal.turns-preserved
+turns-preserved g c =
+    let so_far = c.turns.invariant.reached in
+    let on = c.in_default-turn.ensures.on in
+    record {
+      reached = (
+        so_far.0 ++ on.0,
+        took_on so_far.0 on.0 _ _ _ so_far.1 on.1,
+        λ k a begins whole stands.
+            let x = so_far.2 k a (begins_first _ k so_far.0 on.0 begins) whole stands in
+            let t = on.2 k x.0 (begins_then k so_far.0 on.0 a.standing x.0.standing x.4 begins) (next_left x.0.left c.turns.count x.2 c.turns-test.true) x.3 in (
+              t.0.after,
+              reaches_on k a x.0 t.0 x.1 t.1.answered t.1.goes_on,
+              counted t.0.after.left c.turns.count t.1.left_is c.turns-test.true,
+              t.1.stands,
+              takes_on so_far.0 on.0 a.standing x.0.standing t.0.after.standing x.4 t.1.takes,
+            ),
+      );
+      ready = c.in_default-turn.ensures.ready;
+      kept = keeps_on c.args.desk.now c.args.pass.now _ _ c.turns.invariant.kept c.in_default-turn.ensures.kept;
+      source_faults = grind (arith, c.in_default-turn.ensures.source_stays, c.turns.invariant.source_faults);
+      sink_faults = grind (arith, c.in_default-turn.ensures.sink_stays, c.turns.invariant.sink_faults);
+    }
+
 pub returns-in-Some-clause-ends : goal.returns-in-Some-clause-ends
-returns-in-Some-clause-ends g c k a whole stands =
-    let x = c.turns.invariant.reached k a whole stands in
-    let t = c.in-Some.ensures.ends k x.0 (next_left x.0.left c.turns.count x.2 c.turns-test.true) x.3 in
-    (t.0, t.1, t.2, (x.0, x.1, t.3, λ e. c.in-Some.ensures.cut (ap Some e) x.0.bytes x.3.bytes_are), t.4)
+returns-in-Some-clause-ends g c =
+    let so_far = c.turns.invariant.reached in
+    let ends = c.in-Some.ensures.ends in (
+      so_far.0 ++ ends.0,
+      took_on so_far.0 ends.0 _ _ _ so_far.1 ends.1,
+      λ k a begins whole stands.
+          let x = so_far.2 k a (begins_first _ k so_far.0 ends.0 begins) whole stands in
+          let t = ends.2 k x.0 (begins_then k so_far.0 ends.0 a.standing x.0.standing x.4 begins) (next_left x.0.left c.turns.count x.2 c.turns-test.true) x.3 in
+          (t.0, t.1, t.2, (x.0, x.1, t.3, λ e. c.in-Some.ensures.cut (ap Some e) x.0.bytes x.3.bytes_are), t.4, takes_on so_far.0 ends.0 a.standing x.0.standing t.2 x.4 t.5),
+    )
 
 pub returns-in-Some-clause-kept : goal.returns-in-Some-clause-kept
 returns-in-Some-clause-kept g c = keeps_on c.args.desk.now c.args.pass.now _ _ c.turns.invariant.kept c.in-Some.ensures.kept
 
 pub returns-clause-ends : goal.returns-clause-ends
-returns-clause-ends g c k a whole stands =
-    let x = c.turns.invariant.reached k a whole stands in
-    (x.0.written, x.3.held_is, x.0.standing, (x.0, x.1, (none_left x.0.left c.turns.count x.2 c.turns-test.false, refl, refl), λ e. absurd (not_cut e)), x.3.pass_at)
+returns-clause-ends g c =
+    let so_far = c.turns.invariant.reached in (
+      so_far.0,
+      so_far.1,
+      λ k a begins whole stands.
+          let x = so_far.2 k a begins whole stands in
+          (x.0.written, x.3.held_is, x.0.standing, (x.0, x.1, (none_left x.0.left c.turns.count x.2 c.turns-test.false, refl, refl), λ e. absurd (not_cut e)), x.3.pass_at, x.4),
+    )

@@ -1,16 +1,16 @@
-use Rattle.std.proofs.Common.{◌≡◌, ◌+◌}
+use Rattle.std.proofs.Common.{◌≡◌, ◌+◌, ℕ, List}
 use Rattle.std.specs.Io.KnownBytes.{prepend_known}
 use Rattle.cat_desk.specs.Pass.{Keeps}
 use Rattle.cat_work.specs.Passes.{IsReady}
-use Rattle.cat_cli.specs.Sessions.{Readings, Point, Reaches, Stands}
+use Rattle.cat_cli.specs.Sessions.{ByReadings, HasTaken, Readings, Point, Reaches, Stands}
 use Rattle.cat_cli.proofs.session.run_session.Given as goal
 
 abbrev pub invariant-turns : goal.invariant-turns
 invariant-turns g l = record {
-  reached : (k : Readings) (a : Point) → a.left ≡ 1000
-      → Stands l.fn.desk k a l.fn.pass (g.C.Clock.ahead l.fn.clock) (g.S.Source.left l.fn.source) (g.K.Sink.held l.fn.sink)
+  reached : ByReadings (g.C.Clock.ahead l.fn.clock) (g.C.Clock.ahead l.clock) (λ (taken : List ℕ) (k : Readings) (a : Point). a.left ≡ 1000
+      → Stands l.fn.desk a l.fn.pass (g.S.Source.left l.fn.source) (g.K.Sink.held l.fn.sink)
       → (c : Point) × Reaches k a c × (c.left + l.count ≡ 1000)
-      × Stands l.fn.desk k c l.pass (g.C.Clock.ahead l.clock) (prepend_known l.buffer.unread (g.S.Source.left l.source)) (g.K.Sink.held l.sink);
+      × Stands l.fn.desk c l.pass (prepend_known l.buffer.unread (g.S.Source.left l.source)) (g.K.Sink.held l.sink) × HasTaken taken a.standing c.standing);
   ready : IsReady l.fn.desk l.pass;
   kept : Keeps l.fn.desk l.fn.pass l.pass;
   source_faults : g.S.Source.faults l.source ≡ g.S.Source.faults l.fn.source;

@@ -1,46 +1,74 @@
-use Rattle.std.proofs.Common.{refl, inl, inr}
+use Rattle.std.proofs.Common.{[], refl, inl, inr}
 use Rattle.cat_http.specs.declared.buffer.Incoming.TheVariants as incoming
 use Rattle.cat_cli.specs.declared.ending.Session.TheVariants as ends
 use Rattle.cat_cli.proofs.Reading.{asked, at_end, cut_short, goes_to, map_none, map_some, read_is, told_front, told_refused}
 use Rattle.cat_cli.proofs.session.turn.Goals as goal
 
 pub returns-in-Request-clause-on : goal.returns-in-Request-clause-on
-returns-in-Request-clause-on g c = map_none c.answer.result c.answer.ensures.on (λ on k p one stands.
-    let r = read_is _ _ _ c.args.buffer.now c.read_request.new.buffer p.bytes c.in-Request.ensures.is stands.bytes_are in
-    let t = on k p r.0 (asked c.args.desk.now k p c.args.left c.request.result _ c.read_request.new.buffer _ r.0 _ _ _ _ c.request.ensures r.1 one stands) in
-    (t.0, goes_to c.args.desk.now k p c.args.left r.0 t.0 _ _ _ _ t.1 r.1.rest_is))
+returns-in-Request-clause-on g c = map_none c.answer.result c.answer.ensures.on (λ on. (
+  on.0,
+  on.1,
+  λ k p begins one stands.
+      let r = read_is _ _ _ c.args.buffer.now c.read_request.new.buffer p.bytes c.in-Request.ensures.is stands.bytes_are in
+      let t = on.2 k p begins r.0 (asked c.args.desk.now p c.args.left c.request.result _ c.read_request.new.buffer _ r.0 _ _ _ c.request.ensures r.1 one stands) in
+      (t.0, goes_to c.args.desk.now on.0 k p c.args.left r.0 t.0 _ _ _ t.1 r.1.rest_is),
+))
 
 pub returns-in-Request-clause-ends : goal.returns-in-Request-clause-ends
-returns-in-Request-clause-ends g c = map_some _ _ c.answer.result c.answer.ensures.ends (λ end ends k p one stands.
-    let r = read_is _ _ _ c.args.buffer.now c.read_request.new.buffer p.bytes c.in-Request.ensures.is stands.bytes_are in
-    ends k p r.0 (asked c.args.desk.now k p c.args.left c.request.result _ c.read_request.new.buffer _ r.0 _ _ _ _ c.request.ensures r.1 one stands))
+returns-in-Request-clause-ends g c = map_some _ _ c.answer.result c.answer.ensures.ends (λ end ends. (
+  ends.0,
+  ends.1,
+  λ k p begins one stands.
+      let r = read_is _ _ _ c.args.buffer.now c.read_request.new.buffer p.bytes c.in-Request.ensures.is stands.bytes_are in
+      ends.2 k p begins r.0 (asked c.args.desk.now p c.args.left c.request.result _ c.read_request.new.buffer _ r.0 _ _ _ c.request.ensures r.1 one stands),
+))
 
 pub returns-in-End-clause-ends : goal.returns-in-End-clause-ends
-returns-in-End-clause-ends g c k p one stands =
-    let r = read_is incoming.End (g.S.Source.left c.args.source.now) (g.S.Source.left c.read_request.new.source) c.args.buffer.now c.read_request.new.buffer p.bytes c.in-End.ensures.is stands.bytes_are in
-    at_end c.args.desk.now k p c.args.left _ _ _ _ one r.1.is_so stands
+returns-in-End-clause-ends g c = (
+  [],
+  refl,
+  λ k p begins one stands.
+      let r = read_is incoming.End (g.S.Source.left c.args.source.now) (g.S.Source.left c.read_request.new.source) c.args.buffer.now c.read_request.new.buffer p.bytes c.in-End.ensures.is stands.bytes_are in
+      at_end c.args.desk.now k p c.args.left _ _ _ one r.1.is_so stands,
+)
 
 pub returns-in-Ok-clause-ends : goal.returns-in-Ok-clause-ends
-returns-in-Ok-clause-ends g c k p one stands =
-    let r = read_is incoming.BadHead (g.S.Source.left c.args.source.now) (g.S.Source.left c.read_request.new.source) c.args.buffer.now c.read_request.new.buffer p.bytes c.in-BadHead.ensures.is stands.bytes_are in
-    told_refused c.args.desk.now k p c.args.left _ _ ends.BadHead _ _ _ _ _ (λ h last x. x) one r.1.is_so stands c.in-Ok.ensures.written
+returns-in-Ok-clause-ends g c = (
+  [],
+  refl,
+  λ k p begins one stands.
+      let r = read_is incoming.BadHead (g.S.Source.left c.args.source.now) (g.S.Source.left c.read_request.new.source) c.args.buffer.now c.read_request.new.buffer p.bytes c.in-BadHead.ensures.is stands.bytes_are in
+      told_refused c.args.desk.now k p c.args.left _ _ ends.BadHead _ _ _ _ (λ h last x. x) one r.1.is_so stands c.in-Ok.ensures.written,
+)
 
 pub returns-in-Err-clause-ends : goal.returns-in-Err-clause-ends
-returns-in-Err-clause-ends g c k p one stands =
-    let r = read_is incoming.BadHead (g.S.Source.left c.args.source.now) (g.S.Source.left c.read_request.new.source) c.args.buffer.now c.read_request.new.buffer p.bytes c.in-BadHead.ensures.is stands.bytes_are in
-    let cut = c.in-Err.ensures.cut in
-    told_front c.args.desk.now k p cut.0 _ _ _ _ _ (inr (inl (r.1.is_so, cut.1, refl))) stands cut.2
+returns-in-Err-clause-ends g c = (
+  [],
+  refl,
+  λ k p begins one stands.
+      let r = read_is incoming.BadHead (g.S.Source.left c.args.source.now) (g.S.Source.left c.read_request.new.source) c.args.buffer.now c.read_request.new.buffer p.bytes c.in-BadHead.ensures.is stands.bytes_are in
+      let cut = c.in-Err.ensures.cut in
+      told_front c.args.desk.now k p cut.0 _ _ _ _ (inr (inl (r.1.is_so, cut.1, refl))) stands cut.2,
+)
 
 pub returns-in-Ok-refuse-clause-ends : goal.returns-in-Ok-refuse-clause-ends
-returns-in-Ok-refuse-clause-ends g c k p one stands =
-    let r = read_is incoming.TooLarge (g.S.Source.left c.args.source.now) (g.S.Source.left c.read_request.new.source) c.args.buffer.now c.read_request.new.buffer p.bytes c.in-TooLarge.ensures.is stands.bytes_are in
-    told_refused c.args.desk.now k p c.args.left _ _ ends.TooLarge _ _ _ _ _ (λ h last x. x) one r.1.is_so stands c.in-Ok-refuse.ensures.written
+returns-in-Ok-refuse-clause-ends g c = (
+  [],
+  refl,
+  λ k p begins one stands.
+      let r = read_is incoming.TooLarge (g.S.Source.left c.args.source.now) (g.S.Source.left c.read_request.new.source) c.args.buffer.now c.read_request.new.buffer p.bytes c.in-TooLarge.ensures.is stands.bytes_are in
+      told_refused c.args.desk.now k p c.args.left _ _ ends.TooLarge _ _ _ _ (λ h last x. x) one r.1.is_so stands c.in-Ok-refuse.ensures.written,
+)
 
 pub returns-in-Err-refuse-clause-ends : goal.returns-in-Err-refuse-clause-ends
-returns-in-Err-refuse-clause-ends g c k p one stands =
-    let r = read_is incoming.TooLarge (g.S.Source.left c.args.source.now) (g.S.Source.left c.read_request.new.source) c.args.buffer.now c.read_request.new.buffer p.bytes c.in-TooLarge.ensures.is stands.bytes_are in
-    let cut = c.in-Err-refuse.ensures.cut in
-    told_front c.args.desk.now k p cut.0 _ _ _ _ _ (inr (inr (r.1.is_so, cut.1, refl))) stands cut.2
+returns-in-Err-refuse-clause-ends g c = (
+  [],
+  refl,
+  λ k p begins one stands.
+      let r = read_is incoming.TooLarge (g.S.Source.left c.args.source.now) (g.S.Source.left c.read_request.new.source) c.args.buffer.now c.read_request.new.buffer p.bytes c.in-TooLarge.ensures.is stands.bytes_are in
+      let cut = c.in-Err-refuse.ensures.cut in
+      told_front c.args.desk.now k p cut.0 _ _ _ _ (inr (inr (r.1.is_so, cut.1, refl))) stands cut.2,
+)
 
 pub returns-in-ReadFault-clause-cut : goal.returns-in-ReadFault-clause-cut
 returns-in-ReadFault-clause-cut g c is b e =
@@ -48,4 +76,4 @@ returns-in-ReadFault-clause-cut g c is b e =
     (r.1.after, r.1.left_is, r.1.is_so)
 
 pub returns-in-ReadFault-clause-ends : goal.returns-in-ReadFault-clause-ends
-returns-in-ReadFault-clause-ends g c k p one stands = cut_short c.args.desk.now k p _ _ _ _ stands
+returns-in-ReadFault-clause-ends g c = ([], refl, λ k p begins one stands. cut_short c.args.desk.now k p _ _ _ stands)
