@@ -21,8 +21,8 @@ use Rattle.cat_cli.specs.Sessions.{Readings, Fallen, Standing, Went, MayComeTo, 
 use Rattle.cat_cli.specs.Answers.{Brings, given_up}
 use Rattle.cat_cli.specs.Replies.{must_be_told}
 use Rattle.cat_cli.proofs.Brought.{no_memory_at}
-use Rattle.cat_cli.proofs.Calls.{Spares, call_draft, call_spares}
-use Rattle.cat_cli.proofs.Changing.{SaysChange, call_says}
+use Rattle.cat_cli.proofs.Calls.{call_draft}
+use Rattle.cat_cli.proofs.Changing.{Settles, Spares, call_settles}
 
 -- a standing after a change: its moment is taken
 abbrev pub after_change : Standing → Book → Option Fallen → Standing
@@ -63,10 +63,9 @@ clash : (b : Bool) → b ≡ true → b ≡ false → ⊥
 clash b one other = cc
 
 -- a call of which want of memory may be told spared the book
-spared : (called : Called) (state : State) (told : Result Told Refused) → called.said ≡ told → SaysChange called.said → ((e : Refused) → called.said ≡ Err e → Spares called state) → must_be_told told ≡ false
-    → Spares called state
-spared called state (Ok t) said says refused h = absurd (clash (must_be_told (Ok t)) (subst (λ (r : Result Told Refused). SaysChange r) said says) h)
-spared called state (Err e) said says refused h = refused e said
+spared : (called : Called) (state : State) (told : Result Told Refused) → called.said ≡ told → Settles called state → must_be_told told ≡ false → Spares called state
+spared called state told said (inl must) h = absurd (clash (must_be_told told) (ap must_be_told (sym said) ∙ must) h)
+spared called state told said (inr spares) h = spares
 
 -- what was told is what the call brings
 pub called : (k : Readings) (s : Standing) (m : Message) (command : Command) (after : Book) (told : Result Told Refused) → s.fallen ≡ None → wanted m ≡ Ok (Change command)
@@ -76,7 +75,7 @@ called k s m command after told at w p =
     let c = call_on sha256 1 s.book command (k s.readings) in
     let draft = call_draft sha256 1 s.book.state s.book.draft command (k s.readings) in
     let spares : must_be_told told ≡ false → Spares c s.book.state =
-    spared c s.book.state told p.said (call_says 1 s.book.state s.book.draft command (k s.readings)) (call_spares sha256 1 s.book.state s.book.draft command (k s.readings)) in
+    spared c s.book.state told p.said (call_settles 1 s.book.state s.book.draft command (k s.readings)) in
     record {
       comes = at_fallen k s None m _ _ at (inl (inl (ap (request sha256 1 k (session_of s)) (sym w)), record { book = p.book; readings = refl }, refl));
       said = p.said;

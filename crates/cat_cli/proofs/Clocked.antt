@@ -1,6 +1,6 @@
 -- Readings that were taken of a clock.
 use Rattle.std.proofs.Common.{◌≡◌, ℕ, suc, ◌+◌, List, [], ◌∷◌, ◌++◌, length, get_or, Option, Some, None, refl, sym, ◌∙◌, ap, subst, arith, length-append}
-use Rattle.cat_io.specs.Clocks.{from, Ticks, ticks_on}
+use Rattle.cat_io.specs.Clocks.{from, ticks_on}
 use Rattle.cat_cli.specs.Sessions.{AreAhead, BeginsAt, HasTaken, Readings, ReadsOn, Standing, Took}
 
 none_more : (n : ℕ) → n ≡ n + 0

@@ -52,11 +52,11 @@ is_head m = bytes_eq m.method (codes "HEAD")
 
 -- ---- where no memory is left for the text of a reply
 
--- the reply tells of a change, as that of no reading call does
+-- the reply tells of a change that was made, as no reading call's does, nor that of a merge that changed nothing
 abbrev pub tells_change : Reply → Bool
 tells_change (replies.Reference reference) = true
 tells_change (replies.Committed committed) = true
-tells_change (replies.Merged merged) = true
+tells_change (replies.Merged merged) = merged.was_applied
 tells_change _ = false
 
 abbrev pub is_fault : Refusal → Bool
