@@ -8,6 +8,7 @@ pub mod Changed
 pub mod Standing
 pub mod Answering
 pub mod Reading
+pub mod Visiting
 pub mod Starting
 pub mod Left
 pub mod Opened

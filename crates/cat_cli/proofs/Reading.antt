@@ -47,8 +47,8 @@ nothing_held unread None none = refl
 nothing_held unread (Some x) none = ap (λ (u : List ℕ). Some (u ++ x)) none
 
 -- what follows a request is the rest
-pub request_is : (c : Point) (old now : Buffered) (left : Option (List ℕ)) (rest : List ℕ) → IsRead incoming.Request c.bytes old now left rest → IsRequest c.bytes now.message rest
-request_is c old now left rest r = subst (λ x. IsRequest c.bytes now.message x) (sym r.split) r.is_so
+pub request_is : (bytes : List ℕ) (old now : Buffered) (left : Option (List ℕ)) (rest : List ℕ) → IsRead incoming.Request bytes old now left rest → IsRequest bytes now.message rest
+request_is bytes old now left rest r = subst (λ x. IsRequest bytes now.message x) (sym r.split) r.is_so
 
 pub some_left : (left n : ℕ) → n ≡ left + 1 → 0 < n
 some_left left n e = omega arith
@@ -66,7 +66,7 @@ module _ (desk : DeskId) where
   pub asked : (c : Point) (left : ℕ) (m : Message) (old now : Buffered) (after : Option (List ℕ)) (rest : List ℕ) (pass : Pass) (before held : Option (List ℕ))
       → m ≡ now.message → IsRead incoming.Request c.bytes old now after rest → c.left ≡ left + 1 → Stands desk c pass before held → IsAsked desk c left m rest pass held
   asked c left m old now after rest pass before held is r one s = record {
-    reads = subst (λ x. IsRequest c.bytes x rest) (sym is) (request_is c old now after rest r);
+    reads = subst (λ x. IsRequest c.bytes x rest) (sym is) (request_is c.bytes old now after rest r);
     one_more = one;
     pass_at = s.pass_at;
     held_is = s.held_is;

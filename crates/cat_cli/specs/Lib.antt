@@ -2,6 +2,7 @@ pub mod Replies
 pub mod Sessions
 pub mod SessionLaws
 pub mod Answers
+pub mod Passes
 pub mod Lines
 pub mod Journals
 pub mod Runs

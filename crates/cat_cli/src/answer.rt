@@ -1,13 +1,14 @@
 //! The replies to single requests.
 
-ghost use Rattle.std.specs.Prelude.{◌≡◌, ◌≢◌, ◌==◌, ◌||◌, ℕ, List, IfNone, IfSome, Some, None, OnErr, OnOk};
+ghost use Rattle.std.specs.Prelude.{◌≡◌, ◌≢◌, ◌==◌, ◌||◌, ℕ, List, IfNone, IfSome, Some, None, OnErr, OnOk, false};
 ghost use Rattle.cat_desk.specs.Pass.{Keeps};
 ghost use Rattle.cat_work.specs.Passes.{IsReady};
 ghost use Rattle.cat_io.specs.Causes.{Rose};
-ghost use Rattle.cat_cli.specs.Sessions.{ByReadings, Readings, Point, Turn};
+ghost use Rattle.cat_cli.specs.Sessions.{ByReadings, Readings, Point, Turn, asks_to_close};
 ghost use Rattle.std.specs.Io.KnownBytes.{Appends};
 ghost use Rattle.cat_http.specs.Writing.{AppendsFront};
 ghost use Rattle.cat_cli.specs.Answers.{SaysTo, IsAsked, IsAnswered, LeavesAt};
+ghost use Rattle.cat_cli.specs.Passes.{ComesTo, IsVisit, TellsLast, Visit};
 ghost use Rattle.cat_cli.specs.Replies.{IsRefusalOf, is_head};
 
 use crate::ending::Session;
@@ -39,6 +40,7 @@ fn said_to<R: Wait, K0: Keeper, C: Clock>(
 ) -> Result<Told, Refused>
     requires { IsReady desk.now pass.old }
     ensures says { SaysTo desk.now request.now pass.old (C.ahead clock.old) result pass.new (C.ahead clock.new) }
+    ensures comes { ComesTo desk.now 8 request.now pass.old (C.ahead clock.old) result pass.new (C.ahead clock.new) }
     ensures ready { IsReady desk.now pass.new }
     ensures kept { Keeps desk.now pass.old pass.new }
 {
@@ -72,6 +74,10 @@ pub(crate) fn answer<R: Wait, K0: Keeper, K: Sink, C: Clock>(
     ensures ends { IfSome result (λ end. ByReadings (C.ahead clock.old) (C.ahead clock.new) (λ (taken : List ℕ) (k : Readings) (c : Point). (rest : List ℕ)
         → IsAsked desk.now c left request.now rest pass.old (K.held sink.old)
         → LeavesAt desk.now taken k c end pass.new (K.held sink.new))) }
+    ensures visit { IfNone result ((v : Visit) × (v.message ≡ request.now) × IsVisit desk.now 8 left pass.old (C.ahead clock.old) v pass.new (C.ahead clock.new)
+        × (asks_to_close v.message ≡ false) × Appends (K.held sink.old) (K.held sink.new) v.reply) }
+    ensures last { IfSome result (λ end. (v : Visit) × (v.message ≡ request.now) × IsVisit desk.now 8 left pass.old (C.ahead clock.old) v pass.new (C.ahead clock.new)
+        × TellsLast end v (K.held sink.old) (K.held sink.new)) }
     ensures ready { IsReady desk.now pass.new }
     ensures kept { Keeps desk.now pass.old pass.new }
     ensures open { result ≢ Some Session.Capped }

@@ -1,12 +1,13 @@
 //! A session: the requests of a source, one after another, and the replies to them.
 
-ghost use Rattle.std.specs.Prelude.{◌≡◌, ◌≢◌, ◌+◌, IfNone, IfSome, List, Some, ℕ};
+ghost use Rattle.std.specs.Prelude.{◌≡◌, ◌≢◌, ◌+◌, IfNone, IfSome, List, Some, false, ℕ};
 ghost use Rattle.cat_desk.specs.Pass.{Keeps};
 ghost use Rattle.cat_work.specs.Passes.{IsReady};
-ghost use Rattle.std.specs.Io.KnownBytes.{prepend_known};
+ghost use Rattle.std.specs.Io.KnownBytes.{Appends, prepend_known};
 ghost use Rattle.cat_io.specs.Causes.{Rose};
-ghost use Rattle.cat_cli.specs.Sessions.{ByReadings, Readings, Point, Turn, Stands, EndsKnown, LeavesCut};
+ghost use Rattle.cat_cli.specs.Sessions.{ByReadings, Readings, Point, Turn, Stands, EndsKnown, LeavesCut, asks_to_close};
 ghost use Rattle.cat_cli.specs.Answers.{GoesTo, LeavesAt};
+ghost use Rattle.cat_cli.specs.Passes.{EndsBy, EndsVisits, Visit, Visits, place};
 
 use crate::answer::{answer, refuse};
 use crate::ending::Session;
@@ -45,6 +46,10 @@ fn turn<R: Wait, K0: Keeper, S: Source, K: Sink, C: Clock>(
     ensures ends { IfSome result (λ end. ByReadings (C.ahead clock.old) (C.ahead clock.new) (λ (taken : List ℕ) (k : Readings) (c : Point). c.left ≡ left + 1
         → Stands desk.now c pass.old (prepend_known buffer.old.unread (S.left source.old)) (K.held sink.old)
         → LeavesAt desk.now taken k c end pass.new (K.held sink.new))) }
+    ensures visit { IfNone result ((v : Visit) × Visits desk.now 8 (place (left + 1) pass.old (C.ahead clock.old) (prepend_known buffer.old.unread (S.left source.old)) (K.held sink.old)) v
+        (place left pass.new (C.ahead clock.new) (prepend_known buffer.new.unread (S.left source.new)) (K.held sink.new)) × (asks_to_close v.message ≡ false) × Appends (K.held sink.old) (K.held sink.new) v.reply) }
+    ensures last { IfSome result (λ end. EndsBy desk.now 8 (place (left + 1) pass.old (C.ahead clock.old) (prepend_known buffer.old.unread (S.left source.old)) (K.held sink.old)) end (S.left source.new)
+        (place left pass.new (C.ahead clock.new) (prepend_known buffer.new.unread (S.left source.new)) (K.held sink.new))) }
     ensures cut { result ≡ Some Session.ReadFault → (b : List ℕ) → prepend_known buffer.old.unread (S.left source.old) ≡ Some b → LeavesCut b (S.left source.new) }
     ensures ready { IsReady desk.now pass.new }
     ensures kept { Keeps desk.now pass.old pass.new }
@@ -92,6 +97,8 @@ pub(crate) fn run_session<R: Wait, K0: Keeper, S: Source, K: Sink, C: Clock>(
 ) -> Session
     requires { IsReady desk.now pass.old }
     ensures ends { EndsKnown desk.now 1000 pass.old pass.new (C.ahead clock.old) (C.ahead clock.new) (S.left source.old) (S.left source.new) (K.held sink.old) result (K.held sink.new) }
+    // Whatever other callers do at once, each reply is that of a request on the pass, in at most 8 attempts.
+    ensures visits { EndsVisits desk.now 8 (place 1000 pass.old (C.ahead clock.old) (S.left source.old) (K.held sink.old)) result (S.left source.new) pass.new (C.ahead clock.new) (K.held sink.new) }
     ensures ready { IsReady desk.now pass.new }
     ensures kept { Keeps desk.now pass.old pass.new }
     ensures read { result ≡ Session.ReadFault → Rose (S.faults source.old) (S.faults source.new) }

@@ -1,5 +1,6 @@
-use Rattle.std.proofs.Common.{[], ◌∷◌, refl}
+use Rattle.std.proofs.Common.{[], ◌∷◌, refl, inl, inr}
 use Rattle.cat_cli.proofs.Standing.{from_change, from_reading, from_refusal, keeps_self}
+use Rattle.cat_cli.proofs.Visiting.{called_for}
 use Rattle.cat_cli.proofs.answer.said_to.Goals as goal
 
 pub returns-in-Ok-Read-clause-says : goal.returns-in-Ok-Read-clause-says
@@ -24,6 +25,40 @@ returns-in-Ok-Change-clause-says g c =
 pub returns-in-Err-clause-says : goal.returns-in-Err-clause-says
 returns-in-Err-clause-says g c =
     ([], refl, λ k s at begins. from_refusal c.args.desk.now k s c.args.request.now c.args.pass.now c.in-Err.refused at c.in-Err.ensures.wanted)
+
+pub returns-in-Ok-Read-clause-comes : goal.returns-in-Ok-Read-clause-comes
+returns-in-Ok-Read-clause-comes g c =
+    let wants = rw c.in-Ok-Read.field-0-is at c.in-Ok-Read.ensures.wanted in
+    let known = c.read.ensures.known in (
+      [],
+      refl,
+      inl (called_for c.args.desk.now 8 _ _ [] c.args.pass.now _ c.read.result wants (record {
+        none = refl;
+        reads = c.read.ensures.reads;
+        follows = c.read.ensures.follows;
+        knew = known.0;
+        knows = known.1;
+        grows = c.read.ensures.grows;
+      })),
+    )
+
+pub returns-in-Ok-Change-clause-comes : goal.returns-in-Ok-Change-clause-comes
+returns-in-Ok-Change-clause-comes g c =
+    let wants = rw c.in-Ok-Change.field-0-is at c.in-Ok-Change.ensures.wanted in
+    let answers = c.call.ensures.answers in (
+      answers.0 ∷ [],
+      (_, answers.1, refl),
+      inl (called_for c.args.desk.now 8 _ _ (answers.0 ∷ []) c.args.pass.now _ c.call.result wants (record {
+        moment = answers.0;
+        one = refl;
+        answers = answers.2;
+        knows = c.call.ensures.known;
+        grows = c.call.ensures.grows;
+      })),
+    )
+
+pub returns-in-Err-clause-comes : goal.returns-in-Err-clause-comes
+returns-in-Err-clause-comes g c = ([], refl, inr (record { none = refl; stays = refl; refused = c.in-Err.refused; told_is = refl; by_bytes = c.in-Err.ensures.wanted }))
 
 pub returns-in-Err-clause-kept : goal.returns-in-Err-clause-kept
 returns-in-Err-clause-kept g c = keeps_self c.args.desk.now c.args.pass.now c.requires.free

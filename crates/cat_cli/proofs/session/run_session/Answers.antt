@@ -1,11 +1,13 @@
-use Rattle.std.proofs.Common.{◌≡◌, ℕ, ◌+◌, ◌-◌, ◌<◌, ◌≤◌, [], ◌++◌, Some, refl, ap, ◌∙◌, arith}
+use Rattle.std.proofs.Common.{◌≡◌, ℕ, ◌+◌, ◌-◌, ◌<◌, ◌≤◌, [], ◌∷◌, ◌++◌, Some, refl, ap, ◌∙◌, inr, arith}
 use Rattle.std.specs.Io.KnownBytes.{prepend_known}
 use Rattle.cat_cli.specs.declared.ending.Session.TheVariants as ends
+use Rattle.cat_cli.specs.Passes.{place}
 use Rattle.cat_cli.specs.Sessions.{Stands}
 use Rattle.cat_cli.proofs.Clocked.{begins_first, begins_then, takes_none, takes_on, took_on}
 use Rattle.cat_cli.proofs.Points.{reaches_on}
 use Rattle.cat_cli.proofs.Reading.{not_begun, nothing_held}
 use Rattle.cat_cli.proofs.Standing.{keeps_on, keeps_self}
+use Rattle.cat_cli.proofs.Visiting.{at_first, at_left, goes_on, none_visited}
 use Rattle.cat_cli.proofs.session.run_session.Goals as goal
 
 -- so many requests may follow the next one
@@ -31,6 +33,12 @@ returns-in_default-clause-ends g c = not_begun c.args.desk.now c.args.pass.now _
 pub returns-in_default-new-clause-ends : goal.returns-in_default-new-clause-ends
 returns-in_default-new-clause-ends g c = not_begun c.args.desk.now c.args.pass.now _ _ _ _
 
+pub returns-in_default-clause-visits : goal.returns-in_default-clause-visits
+returns-in_default-clause-visits g c = none_visited c.args.desk.now 8 c.args.pass.now _ _ _ _
+
+pub returns-in_default-new-clause-visits : goal.returns-in_default-new-clause-visits
+returns-in_default-new-clause-visits g c = none_visited c.args.desk.now 8 c.args.pass.now _ _ _ _
+
 pub turns-init : goal.turns-init
 turns-init g c = record {
   reached = (
@@ -41,6 +49,7 @@ turns-init g c = record {
         record { pass_at = stands.pass_at; bytes_are = nothing_held _ _ c.in-Ok.ensures ∙ stands.bytes_are; held_is = stands.held_is } in
         (a, ([], refl), whole_left a.left whole, starts, takes_none a.standing),
   );
+  visited = ([], 1000, refl, at_first _ _ _ _ _ (nothing_held _ _ c.in-Ok.ensures));
   ready = c.requires;
   kept = keeps_self c.args.desk.now c.args.pass.now c.requires.free;
   source_faults = refl;
@@ -51,6 +60,8 @@ pub turns-preserved : goal.turns-preserved
 turns-preserved g c =
     let so_far = c.turns.invariant.reached in
     let on = c.in_default-turn.ensures.on in
+    let been = c.turns.invariant.visited in
+    let visit = c.in_default-turn.ensures.visit in
     record {
       reached = (
         so_far.0 ++ on.0,
@@ -64,6 +75,12 @@ turns-preserved g c =
               t.1.stands,
               takes_on so_far.0 on.0 a.standing x.0.standing t.0.after.standing x.4 t.1.takes,
             ),
+      );
+      visited = (
+        been.0 ++ visit.0 ∷ [],
+        1000 - 1 - c.turns.count,
+        counted (1000 - 1 - c.turns.count) c.turns.count refl c.turns-test.true,
+        goes_on c.args.desk.now 8 been.0 _ _ _ visit.0 (at_left c.args.desk.now 8 been.0 _ been.1 _ _ _ _ _ (next_left been.1 c.turns.count been.2 c.turns-test.true) been.3) visit.1 visit.2 visit.3,
       );
       ready = c.in_default-turn.ensures.ready;
       kept = keeps_on c.args.desk.now c.args.pass.now _ _ c.turns.invariant.kept c.in_default-turn.ensures.kept;
@@ -95,3 +112,32 @@ returns-clause-ends g c =
           let x = so_far.2 k a begins whole stands in
           (x.0.written, x.3.held_is, x.0.standing, (x.0, x.1, (none_left x.0.left c.turns.count x.2 c.turns-test.false, refl, refl), λ e. absurd (not_cut e)), x.3.pass_at, x.4),
     )
+
+pub returns-in-Some-clause-visits : goal.returns-in-Some-clause-visits
+returns-in-Some-clause-visits g c =
+    let been = c.turns.invariant.visited in
+    record {
+      visits = been.0;
+      c = _;
+      goes = at_left c.args.desk.now 8 been.0 _ been.1 _ _ _ _ _ (next_left been.1 c.turns.count been.2 c.turns-test.true) been.3;
+      z = _;
+      ends = c.in-Some.ensures.last;
+      pass_is = refl;
+      now_is = refl;
+      held_is = refl;
+    }
+
+pub returns-clause-visits : goal.returns-clause-visits
+returns-clause-visits g c =
+    let been = c.turns.invariant.visited in
+    let here = place been.1 c.turns.pass (g.C.Clock.ahead c.turns.clock) (prepend_known c.turns.buffer.unread (g.S.Source.left c.turns.source)) (g.K.Sink.held c.turns.sink) in
+    record {
+      visits = been.0;
+      c = here;
+      goes = been.3;
+      z = here;
+      ends = inr (refl, refl, (none_left been.1 c.turns.count been.2 c.turns-test.false, refl));
+      pass_is = refl;
+      now_is = refl;
+      held_is = refl;
+    }

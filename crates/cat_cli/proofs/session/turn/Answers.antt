@@ -1,7 +1,10 @@
-use Rattle.std.proofs.Common.{[], refl, inl, inr}
+use Rattle.std.proofs.Common.{[], refl, ◌∙◌, inl, inr}
 use Rattle.cat_http.specs.declared.buffer.Incoming.TheVariants as incoming
 use Rattle.cat_cli.specs.declared.ending.Session.TheVariants as ends
 use Rattle.cat_cli.proofs.Reading.{asked, at_end, cut_short, goes_to, map_none, map_some, read_is, told_front, told_refused}
+use Rattle.cat_model.specs.declared.refusal.Reason.TheVariants.{BadHead}
+use Rattle.cat_model.specs.declared.refusal.Refusal.TheVariants.{BadRequest, TooLarge}
+use Rattle.cat_cli.proofs.Visiting.{ends_so, malformed_so, too_large_so, visited}
 use Rattle.cat_cli.proofs.session.turn.Goals as goal
 
 pub returns-in-Request-clause-on : goal.returns-in-Request-clause-on
@@ -77,3 +80,51 @@ returns-in-ReadFault-clause-cut g c is b e =
 
 pub returns-in-ReadFault-clause-ends : goal.returns-in-ReadFault-clause-ends
 returns-in-ReadFault-clause-ends g c = ([], refl, λ k p begins one stands. cut_short c.args.desk.now k p _ _ _ stands)
+
+-- ---- on any pass
+
+pub returns-in-Request-clause-visit : goal.returns-in-Request-clause-visit
+returns-in-Request-clause-visit g c = map_none c.answer.result c.answer.ensures.visit (λ x. (
+  x.0,
+  visited c.args.desk.now 8 c.args.left c.args.pass.now _ _ _ _ _ _ _ c.args.buffer.now c.read_request.new.buffer x.0 c.in-Request.ensures.is (x.1 ∙ c.request.ensures) x.2,
+  x.3,
+  x.4,
+))
+
+pub returns-in-Request-clause-last : goal.returns-in-Request-clause-last
+returns-in-Request-clause-last g c = map_some _ _ c.answer.result c.answer.ensures.last (λ end x. inl (
+  x.0,
+  visited c.args.desk.now 8 c.args.left c.args.pass.now _ _ _ _ _ _ _ c.args.buffer.now c.read_request.new.buffer x.0 c.in-Request.ensures.is (x.1 ∙ c.request.ensures) x.2,
+  x.3,
+))
+
+pub returns-in-End-clause-last : goal.returns-in-End-clause-last
+returns-in-End-clause-last g c = inr (refl, refl, (ends_so _ _ c.args.buffer.now c.read_request.new.buffer c.in-End.ensures.is, refl))
+
+pub returns-in-Ok-clause-last : goal.returns-in-Ok-clause-last
+returns-in-Ok-clause-last g c = inr (refl, refl, (malformed_so _ _ c.args.buffer.now c.read_request.new.buffer c.in-BadHead.ensures.is, c.in-Ok.ensures.written))
+
+pub returns-in-Err-clause-last : goal.returns-in-Err-clause-last
+returns-in-Err-clause-last g c =
+    let cut = c.in-Err.ensures.cut in
+    inr (refl, refl, (BadRequest BadHead, malformed_so _ _ c.args.buffer.now c.read_request.new.buffer c.in-BadHead.ensures.is, cut.0, cut.1, cut.2))
+
+pub returns-in-Ok-refuse-clause-last : goal.returns-in-Ok-refuse-clause-last
+returns-in-Ok-refuse-clause-last g c = inr (refl, refl, (too_large_so _ _ c.args.buffer.now c.read_request.new.buffer c.in-TooLarge.ensures.is, c.in-Ok-refuse.ensures.written))
+
+pub returns-in-Err-refuse-clause-last : goal.returns-in-Err-refuse-clause-last
+returns-in-Err-refuse-clause-last g c =
+    let cut = c.in-Err-refuse.ensures.cut in
+    inr (refl, refl, (TooLarge, too_large_so _ _ c.args.buffer.now c.read_request.new.buffer c.in-TooLarge.ensures.is, cut.0, cut.1, cut.2))
+
+pub returns-in-ReadFault-clause-last : goal.returns-in-ReadFault-clause-last
+returns-in-ReadFault-clause-last g c = inr (
+  refl,
+  refl,
+  (
+    λ b e.
+        let r = read_is incoming.ReadFault (g.S.Source.left c.args.source.now) (g.S.Source.left c.read_request.new.source) c.args.buffer.now c.read_request.new.buffer b c.in-ReadFault.ensures.is e in
+        (r.1.after, r.1.left_is, r.1.is_so),
+    refl,
+  ),
+)
