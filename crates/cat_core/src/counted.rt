@@ -24,7 +24,7 @@ impl Counted {
 
 impl Keeper for Counted {
     ghost use Rattle.std.specs.Prelude.{None, refl};
-    ghost use Rattle.cat_io.specs.Crashes.{none_is_not_some};
+    ghost use Rattle.cat_io.specs.Crashes.{never_known, none_is_not_some, none_known};
     ghost use Rattle.cat_core.specs.Counted.{never_left, nothing_left, unseen, untold};
 
     ghost told = { λ _. None };
@@ -45,9 +45,17 @@ impl Keeper for Counted {
 
     ghost left_since = { λ _. never_left };
 
+    ghost stands_for = { λ _. None };
+
+    ghost bytes_left = { λ _. none_known };
+
+    ghost bytes_since = { λ _. never_known };
+
     ghost counts_now = { λ k t c le now. now };
 
     ghost only_now = { λ k c left. left };
+
+    ghost bytes_count_now = { λ k t b le now. now };
 
     ghost safe = { λ k ps c up told now. unseen now };
 

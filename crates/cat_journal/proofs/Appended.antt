@@ -12,7 +12,7 @@ use Rattle.cat_io.specs.Crashes.{LeavesOnly}
 use Rattle.cat_journal.specs.Frames.{max_entries, payloads, payloads_in, recovered, payload_of, frame, spelled, IsAtRest, MayHoldOneMore}
 use Rattle.cat_journal.specs.Held.{starts_of, first_payloads, IsHeld, IsSafe, IsTorn, outcome}
 use Rattle.cat_journal.specs.AtRest.{length-frame, payload_of-frame, recovered-at_rest}
-use Rattle.cat_journal.specs.Laws.{torn_outcome}
+use Rattle.cat_journal.specs.Laws.{torn_images, torn_outcome}
 use Rattle.cat_journal.specs.OneMore.{either, with_or_without}
 
 -- a nonempty payload has room
@@ -167,6 +167,16 @@ module _ {D J A B : Type 0} (moment : D → ℕ) (left_since : D → ℕ → A �
     before = λ t r le left. ⊎_elim (λ was. inl (left.0, was, left.2)) (λ q. inr (here left.0 r q left.2)) (run.before t left.0 le left.1);
   }
 
+-- what a crash leaves of the disk that a journal has
+module _ {D J A : Type 0} (moment : D → ℕ) (left_since : D → ℕ → A → Type 0) (disk : J → D) where
+  pub on_disk : (old new : J) (Q P : A → Type 0) → LeavesOnly moment left_since (disk old) (disk new) Q → ((c : A) → Q c → P c)
+      → LeavesOnly (λ j. moment (disk j)) (λ j t c. left_since (disk j) t c) old new P
+  on_disk old new Q P run here = record {
+    later = run.later;
+    each = λ c left. here c (run.each c left);
+    before = λ t c le left. ⊎_elim (λ was. inl was) (λ q. inr (here c q)) (run.before t c le left);
+  }
+
 pub none_of : {A : Type 0} (o : Option A) → ((x : A) → o ≡ Some x → ⊥) → o ≡ None
 none_of None none = refl
 none_of (Some x) none = absurd (none x refl)
@@ -192,3 +202,11 @@ told_torn (Some bytes) gates gate p images None held torn q flies = absurd cc
 told_torn (Some bytes) gates gate p images (Some count) held torn q flies =
     let t = torn count refl in
     subst (λ x. WithOrWithout (first_payloads (length gates) bytes) x (outcome bytes)) (told_is p q flies) (torn_outcome gates gate p images bytes held t bytes t.reads)
+
+-- and each image of it
+pub images_torn : (told : Option (List ℕ)) (gates : List ℕ) (gate : ℕ) (p : List ℕ) (images : List ℕ → Type 0) (down : Option ℕ)
+    → IfSome told (λ bytes. IsHeld (first_payloads (length gates) bytes) gates gate bytes) → ((c : ℕ) → down ≡ Some c → IfSome told (IsTorn (length gates) gate p images))
+    → (q : List ℕ) → option_map (λ (c : ℕ). p) down ≡ Some q → IfSome (option_map (first_payloads (length gates)) told) (λ ps. (c : List ℕ) → images c → WithOrWithout ps q (outcome c))
+images_torn None gates gate p images down held torn q flies = tt
+images_torn (Some bytes) gates gate p images down held torn q flies =
+    λ c now. torn_images (Some bytes) gates gate p images down held torn (first_payloads (length gates) bytes) q refl flies (outcome c) (c, now, refl)

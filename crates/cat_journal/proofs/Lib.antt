@@ -3,6 +3,7 @@ mod Appended
 mod Found
 mod Gates
 mod Header
+mod Making
 mod ReadOnly
 mod Rows
 mod Steps

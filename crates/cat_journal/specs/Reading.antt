@@ -1,5 +1,5 @@
 -- What reading a journal's file finds.
-use Rattle.std.specs.Prelude.{◌≡◌, ℕ, ◌+◌, ◌≤◌, true, false, List, take, drop, get_or, Option, Result, Ok, Err}
+use Rattle.std.specs.Prelude.{◌≡◌, ◌⊎◌, ℕ, ◌+◌, ◌≤◌, true, false, List, [], length, take, drop, get_or, Option, Result, Ok, Err}
 use Rattle.std.specs.Int.{w32, to_be_bytes}
 use Rattle.cat_io.specs.Causes.{Rose}
 use Rattle.cat_io.specs.Crashes.{Told}
@@ -15,6 +15,10 @@ pub record OnlyReads {D : Type 0} (told : D → Option (List ℕ)) (may_leave : 
   pub same : Told (told old) (told new) (λ a b. b ≡ a)
   pub crash : Within (may_leave old) (may_leave new)
   pub time : LeavesOnly moment left_since old new (may_leave old)
+
+-- while a journal is opened a crash leaves what it might before; where there were no bytes, no more of them than a new journal has
+abbrev pub OpensOnly : {D : Type 0} → (D → List ℕ → Type 0) → (D → ℕ) → (D → ℕ → List ℕ → Type 0) → D → D → List ℕ → Type 0
+OpensOnly may_leave moment left_since old new bytes = LeavesOnly moment left_since old new (λ c. may_leave old c ⊎ ((bytes ≡ []) × (length c ≤ 17)))
 
 -- an open gate with a whole frame behind it, whose payload has n bytes
 pub record IsFrameAt (at n : ℕ) (bytes : List ℕ) : Type 0 where

@@ -6,7 +6,7 @@ ghost use Rattle.cat_io.specs.Crashes.{Told, Only};
 ghost use Rattle.cat_keeper.specs.Keeping.{WithOrWithout};
 ghost use Rattle.cat_journal.specs.Frames.{max_entries, payload_of, recovered, new_journal, frame as frame_of};
 ghost use Rattle.cat_journal.specs.Held.{first_payloads, outcome, IsHeld, IsHeld-prop, IsSafe, IsSafe-prop, IsTorn, IsTorn-prop};
-ghost use Rattle.cat_journal.specs.Reading.{OnlyReads, IsFaultOf};
+ghost use Rattle.cat_journal.specs.Reading.{OnlyReads, OpensOnly, IsFaultOf};
 
 use crate::append::append_frame;
 use crate::fault::OpenFault;
@@ -55,7 +55,7 @@ impl<D: Disk + Send> Journal<D> {
 
     /// Opens the journal on a disk, and makes a new one where the disk is empty. Where that fails,
     /// an empty disk may have any bytes, up to the 17 of a new journal. Nothing is written to a disk
-    /// that has bytes.
+    /// that has bytes. Once the journal is open, a crash leaves just what its disk reads.
     pub fn open(alloc: Global, mut disk: D) -> Result<Journal<D>, (D, OpenFault)>
         ensures payloads { IfOk result (λ j. Told (D.told disk) (⟦<Journal<D> as Keeper>⟧.told j) (λ bytes ps. recovered bytes ≡ Ok ps)) }
         ensures holds { IfOk result (λ j. Told (D.told (journal_disk j)) (⟦<Journal<D> as Keeper>⟧.told j) (λ bytes ps. recovered bytes ≡ Ok ps)) }
@@ -66,6 +66,10 @@ impl<D: Disk + Send> Journal<D> {
         ensures unwritten { IfSome (D.told disk) (λ bytes. 0 < length bytes → MatchResult result
             (λ j. OnlyReads D.told D.may_leave D.moment D.left_since disk (journal_disk j))
             (λ e. OnlyReads D.told D.may_leave D.moment D.left_since disk e.0)) }
+        ensures images { IfSome (D.told disk) (λ bytes. MatchResult result
+            (λ j. OpensOnly D.may_leave D.moment D.left_since disk (journal_disk j) bytes)
+            (λ e. OpensOnly D.may_leave D.moment D.left_since disk e.0 bytes)) }
+        ensures durable { IfOk result (λ j. Only (D.told (journal_disk j)) (D.may_leave (journal_disk j))) }
         ensures cause { MatchResult result
             (λ j. D.faults disk ≤ ⟦<Journal<D> as Keeper>⟧.faults j)
             (λ e. (D.faults disk ≤ D.faults e.0) × (e.1 ≡ OpenFault.Fault → Rose (D.faults disk) (D.faults e.0))) }
@@ -86,7 +90,8 @@ impl<D: Disk + Send> Journal<D> {
     }
 
     /// The disk, which has more bytes than a header. What it reads opens again with the payloads that
-    /// are kept, and after an append that failed maybe with that one too.
+    /// are kept, and after an append that failed maybe with that one too; and so does what a crash
+    /// leaves.
     pub fn into_disk(self) -> D
         ensures disk { result ≡ journal_disk self }
         ensures faults { D.faults result ≡ ⟦<Journal<D> as Keeper>⟧.faults self }
@@ -94,6 +99,7 @@ impl<D: Disk + Send> Journal<D> {
         ensures payloads { ⟦<Journal<D> as Keeper>⟧.down self ≡ None → Told (⟦<Journal<D> as Keeper>⟧.told self) (D.told result) (λ ps bytes. recovered bytes ≡ Ok ps) }
         ensures durable { ⟦<Journal<D> as Keeper>⟧.down self ≡ None → Only (D.told result) (D.may_leave result) }
         ensures in_flight { (p : List ℕ) → ⟦<Journal<D> as Keeper>⟧.in_flight self ≡ Some p → Told (⟦<Journal<D> as Keeper>⟧.told self) (D.told result) (λ ps bytes. WithOrWithout ps p (outcome bytes)) }
+        ensures torn { (p : List ℕ) → ⟦<Journal<D> as Keeper>⟧.in_flight self ≡ Some p → IfSome (⟦<Journal<D> as Keeper>⟧.told self) (λ ps. (c : List ℕ) → D.may_leave result c → WithOrWithout ps p (outcome c)) }
     {
         let Journal {
             disk,
@@ -132,9 +138,17 @@ impl<D: Disk + Send> Keeper for Journal<D> {
 
     ghost left_since = { λ j t r. (c : List ℕ) × D.left_since j.disk t c × (outcome c ≡ r) };
 
+    ghost stands_for = { λ b. outcome b };
+
+    ghost bytes_left = { λ j b. D.may_leave j.disk b };
+
+    ghost bytes_since = { λ j t b. D.left_since j.disk t b };
+
     ghost counts_now = { λ j t r le now. (now.0, D.counts_now j.disk t now.0 le now.1, now.2) };
 
     ghost only_now = { λ j r left. (left.0, D.only_now j.disk left.0 left.1, left.2) };
+
+    ghost bytes_count_now = { λ j t b le now. D.counts_now j.disk t b le now };
 
     ghost safe = { λ j ps r up told now. safe_images (D.told j.disk) (length j.gates.items) j.end (D.may_leave j.disk) (j.safe up) ps told r now };
 

@@ -1,8 +1,8 @@
 //! Opening a journal's file, which an empty one is made.
 ghost use Rattle.std.specs.Prelude.{ℕ, List, [], ◌++◌, ◌≡◌, ◌<◌, ◌≤◌, ◌+◌, ◌^◌, length, take, Ok, IsErr, IfOk, IfSome, OnOk, MatchResult};
-ghost use Rattle.cat_io.specs.Crashes.{Told, Only};
+ghost use Rattle.cat_io.specs.Crashes.{LeavesOnly, Told, Only};
 ghost use Rattle.cat_journal.specs.Frames.{header, new_journal, max_entries};
-ghost use Rattle.cat_journal.specs.Reading.{OnlyReads, IsFaultOf, IsOpened, HasOpenCause};
+ghost use Rattle.cat_journal.specs.Reading.{OnlyReads, OpensOnly, IsFaultOf, IsOpened, HasOpenCause};
 
 use crate::append::persist;
 use crate::fault::OpenFault;
@@ -56,10 +56,12 @@ fn check_header<D: Disk>(disk: &mut D, len: u64) -> Result<(), OpenFault>
 
 /// Makes a new journal of an empty file.
 fn create<D: Disk>(alloc: Global, disk: &mut D) -> Result<(Vec<u64>, u64), OpenFault>
-    requires { IfSome (D.told disk.old) (λ bytes. bytes ≡ []) }
+    requires empty { IfSome (D.told disk.old) (λ bytes. bytes ≡ []) }
+    requires durable { Only (D.told disk.old) (D.may_leave disk.old) }
     ensures found { Told (D.told disk.old) (D.told disk.new) (λ before after. MatchResult result (λ x. IsOpened before after x.0.items x.1) (IsFaultOf before)) }
     ensures new { OnOk result (Told (D.told disk.old) (D.told disk.new) (λ before after. before ≡ [] → after ≡ new_journal)) }
     ensures empty { IsErr result → Told (D.told disk.old) (D.told disk.new) (λ before after. before ≡ [] → length after ≤ 17) }
+    ensures images { IfSome (D.told disk.old) (λ _. LeavesOnly D.moment D.left_since disk.old disk.new (λ c. length c ≤ 17)) }
     ensures durable { OnOk result (Only (D.told disk.new) (D.may_leave disk.new)) }
     ensures fits { IfOk result (λ x. (x.1 + 1 < 2 ^ 64) × (length x.0.items ≤ max_entries)) }
     ensures cause { HasOpenCause (D.faults disk.old) (D.faults disk.new) result }
@@ -76,6 +78,7 @@ pub(crate) fn load<D: Disk>(alloc: Global, disk: &mut D) -> Result<(Vec<u64>, u6
     ensures new { OnOk result (Told (D.told disk.old) (D.told disk.new) (λ before after. before ≡ [] → after ≡ new_journal)) }
     ensures empty { IsErr result → Told (D.told disk.old) (D.told disk.new) (λ before after. before ≡ [] → length after ≤ 17) }
     ensures durable { OnOk result (Only (D.told disk.new) (D.may_leave disk.new)) }
+    ensures images { IfSome (D.told disk.old) (OpensOnly D.may_leave D.moment D.left_since disk.old disk.new) }
     ensures unwritten { IfSome (D.told disk.old) (λ bytes. 0 < length bytes → OnlyReads D.told D.may_leave D.moment D.left_since disk.old disk.new) }
     ensures fits { IfOk result (λ x. (x.1 + 1 < 2 ^ 64) × (length x.0.items ≤ max_entries)) }
     ensures cause { HasOpenCause (D.faults disk.old) (D.faults disk.new) result }

@@ -1,2 +1,3 @@
 mod Appends
 mod Failing
+mod Watching

@@ -3,3 +3,4 @@ pub mod Keeping
 pub mod Listed
 pub mod MemoryKeepers
 pub mod Moments
+pub mod Watching

@@ -42,6 +42,15 @@ pub trait Keeper: Send {
     // what a crash at some moment from that one on, within a call or between two, might have left
     ghost left_since: { Self → ℕ → Option (List (List ℕ)) → Type 0 };
 
+    // what bytes recover to, where the payloads are kept in bytes
+    ghost stands_for: { List ℕ → Option (List (List ℕ)) };
+
+    // the bytes that a crash may leave now
+    ghost bytes_left: { Self → List ℕ → Type 0 };
+
+    // and those that one at some moment from that one on might have left
+    ghost bytes_since: { Self → ℕ → List ℕ → Type 0 };
+
     /// How many payloads there are.
     fn count(&self) -> u32
         ensures { result ≡ kept self.now };
@@ -58,6 +67,7 @@ pub trait Keeper: Send {
         ensures in_flight { in_flight self.new ≡ in_flight self.old }
         ensures crash { Within (may_leave self.old) (may_leave self.new) }
         ensures time { LeavesOnly moment left_since self.old self.new (may_leave self.old) }
+        ensures images { LeavesOnly moment bytes_since self.old self.new (bytes_left self.old) }
         ensures cause { HasKeepCause (faults self.old) (faults self.new) result };
 
     /// Makes room for a payload of so many bytes.
@@ -70,7 +80,8 @@ pub trait Keeper: Send {
         ensures in_flight { in_flight self.new ≡ in_flight self.old }
         ensures faults { faults self.new ≡ faults self.old }
         ensures crash { Within (may_leave self.old) (may_leave self.new) }
-        ensures time { LeavesOnly moment left_since self.old self.new (may_leave self.old) };
+        ensures time { LeavesOnly moment left_since self.old self.new (may_leave self.old) }
+        ensures images { LeavesOnly moment bytes_since self.old self.new (bytes_left self.old) };
 
     /// Adds a payload, with no memory. `Ok` acknowledges it: each crash from then on leaves it.
     fn append(&mut self, bytes: &[u8]) -> Result<(), KeepFault>
@@ -89,7 +100,9 @@ pub trait Keeper: Send {
         ensures idle { (c : ℕ) → down self.old ≡ Some c → LeavesOnly moment left_since self.old self.new (may_leave self.old) }
         ensures cause { HasKeepCause (faults self.old) (faults self.new) result }
         ensures no_memory_taken { IsErrOf result KeepFault.NoMemory → ⊥ }
-        ensures any_moment { down self.old ≡ None → LeavesOnly moment left_since self.old self.new (λ c. IfSome (told self.old) (λ ps. WithOrWithout ps bytes.now c)) };
+        ensures any_moment { down self.old ≡ None → LeavesOnly moment left_since self.old self.new (λ c. IfSome (told self.old) (λ ps. WithOrWithout ps bytes.now c)) }
+        ensures images { down self.old ≡ None → LeavesOnly moment bytes_since self.old self.new (λ b. IfSome (told self.old) (λ ps. WithOrWithout ps bytes.now (stands_for b))) }
+        ensures same_images { (c : ℕ) → down self.old ≡ Some c → LeavesOnly moment bytes_since self.old self.new (bytes_left self.old) };
 
     /// How many calls failed.
     fn fault_count(&self) -> u64
@@ -100,6 +113,9 @@ pub trait Keeper: Send {
 
     // and since now there is no other
     ghost only_now: { (k : Self) (c : Option (List (List ℕ))) → left_since k (moment k) c → may_leave k c };
+
+    // now is one of the moments since an earlier one
+    ghost bytes_count_now: { (k : Self) (t : ℕ) (b : List ℕ) → t ≤ moment k → bytes_left k b → bytes_since k t b };
 
     // until an append has failed, a crash between two calls leaves just the payloads, and these are
     // one of the images

@@ -1,12 +1,15 @@
 //! What keeps the payloads of log entries: a trait with what a crash may leave of them at each
 //! moment, and a keeper in memory. An append that answers `Ok` stays through a crash; one that
-//! answers `Fault` may or may not, and the keeper is down from then on.
+//! answers `Fault` may or may not, and the keeper is down from then on. A keeper that is watched
+//! says what a crash might have left of it over many calls.
 #![tactic(auto)]
 
 mod fault;
 mod keeper;
 mod memory_keeper;
+mod watched;
 
 pub use fault::KeepFault;
 pub use keeper::Keeper;
 pub use memory_keeper::MemKeeper;
+pub use watched::{Since, Watched};

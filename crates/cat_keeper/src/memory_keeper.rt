@@ -72,7 +72,7 @@ impl Keeper for MemKeeper {
     ghost use Rattle.cat_frames.specs.Payload.{has_reading};
     ghost use Rattle.cat_keeper.specs.Keeping.{HasKeepCause, WithOrWithout};
     ghost use Rattle.cat_io.specs.Causes.{raised_if};
-    ghost use Rattle.cat_io.specs.Crashes.{LeavesOnly};
+    ghost use Rattle.cat_io.specs.Crashes.{LeavesOnly, never_known, none_known};
     ghost use Rattle.cat_keeper.specs.Moments.{Within};
     ghost use Rattle.cat_keeper.specs.Listed.{list_counts, list_only};
     ghost use Rattle.cat_keeper.specs.MemoryKeepers.{keeper_payloads, keeper_spare, keeper_failing, keeper_calls, keeper_next, next_fails, keeper_faults, keeper_down, keeper_in_flight, keeper_images, keeper_moment, keeper_left};
@@ -96,9 +96,17 @@ impl Keeper for MemKeeper {
 
     ghost left_since = { keeper_left };
 
+    ghost stands_for = { λ _. None };
+
+    ghost bytes_left = { λ _. none_known };
+
+    ghost bytes_since = { λ _. never_known };
+
     ghost counts_now = { λ k t c le now. list_counts (keeper_payloads k) t c le now };
 
     ghost only_now = { λ k c left. list_only (keeper_payloads k) c left };
+
+    ghost bytes_count_now = { λ k t b le now. now };
 
     ghost safe = { λ k ps c up told now. now ∙ told };
 
@@ -128,6 +136,7 @@ impl Keeper for MemKeeper {
         ensures in_flight { keeper_in_flight self.new ≡ keeper_in_flight self.old }
         ensures crash { Within (keeper_images self.old) (keeper_images self.new) }
         ensures time { LeavesOnly keeper_moment keeper_left self.old self.new (keeper_images self.old) }
+        ensures images { LeavesOnly keeper_moment (λ _. never_known) self.old self.new none_known }
         ensures cause { HasKeepCause (keeper_faults self.old) (keeper_faults self.new) result }
         ensures fails { IsErrOf result KeepFault.Fault ↔ (next_fails self.old ≡ true) }
         ensures counts { keeper_faults self.new ≡ raised_if (next_fails self.old) (keeper_faults self.old) }
@@ -156,6 +165,7 @@ impl Keeper for MemKeeper {
         ensures faults { keeper_faults self.new ≡ keeper_faults self.old }
         ensures crash { Within (keeper_images self.old) (keeper_images self.new) }
         ensures time { LeavesOnly keeper_moment keeper_left self.old self.new (keeper_images self.old) }
+        ensures images { LeavesOnly keeper_moment (λ _. never_known) self.old self.new none_known }
         ensures calls { keeper_calls self.new ≡ keeper_calls self.old }
         ensures failing { keeper_failing self.new ≡ keeper_failing self.old }
     {
@@ -182,6 +192,8 @@ impl Keeper for MemKeeper {
         ensures cause { HasKeepCause (keeper_faults self.old) (keeper_faults self.new) result }
         ensures no_memory_taken { IsErrOf result KeepFault.NoMemory → ⊥ }
         ensures any_moment { keeper_down self.old ≡ None → LeavesOnly keeper_moment keeper_left self.old self.new (WithOrWithout (keeper_payloads self.old) bytes.now) }
+        ensures images { keeper_down self.old ≡ None → LeavesOnly keeper_moment (λ _. never_known) self.old self.new (λ b. WithOrWithout (keeper_payloads self.old) bytes.now None) }
+        ensures same_images { (c : ℕ) → keeper_down self.old ≡ Some c → LeavesOnly keeper_moment (λ _. never_known) self.old self.new none_known }
         ensures fails { keeper_down self.old ≡ None → IsErrOf result KeepFault.Fault ↔ (next_fails self.old ≡ true) }
         ensures counts { keeper_down self.old ≡ None → keeper_faults self.new ≡ raised_if (next_fails self.old) (keeper_faults self.old) }
         ensures stands { (c : ℕ) → keeper_down self.old ≡ Some c → (keeper_calls self.new ≡ keeper_calls self.old) × (keeper_faults self.new ≡ keeper_faults self.old) }

@@ -1,6 +1,6 @@
 use Rattle.std.proofs.Common.{length}
 use Rattle.cat_journal.specs.Frames.{payload_of}
-use Rattle.cat_journal.proofs.Appended.{told_at_rest, told_headed, told_torn}
+use Rattle.cat_journal.proofs.Appended.{images_torn, told_at_rest, told_headed, told_torn}
 use Rattle.cat_journal.proofs.journal.Journal.into_disk.Goals as goal
 
 pub returns-clause-headed : goal.returns-clause-headed
@@ -13,3 +13,8 @@ pub returns-clause-in_flight : goal.returns-clause-in_flight
 returns-clause-in_flight g c p flies =
     let j = c.args.self in
     told_torn (g.D.Disk.told j.disk) j.gates.items j.end (payload_of j.frame.items) (g.D.Disk.may_leave j.disk) j.down j.held j.torn p flies
+
+pub returns-clause-torn : goal.returns-clause-torn
+returns-clause-torn g c p flies =
+    let j = c.args.self in
+    images_torn (g.D.Disk.told j.disk) j.gates.items j.end (payload_of j.frame.items) (g.D.Disk.may_leave j.disk) j.down j.held j.torn p flies

@@ -1,8 +1,8 @@
-use Rattle.std.proofs.Common.{◌≡◌, None, [], ◌∷◌, arith, ap, length, length-append}
+use Rattle.std.proofs.Common.{◌≡◌, None, [], ◌∷◌, refl, arith, ap, length, length-append}
 use Rattle.cat_frames.specs.Payload.{reading_is_not_empty}
 use Rattle.cat_journal.specs.declared.journal.Journal.{Journal}
 use Rattle.cat_journal.specs.Held.{outcome}
-use Rattle.cat_journal.proofs.Appended.{none_of, room_for, held_ok, safe_ok, added_ok, held_err, torn_err, same_err, one_more_or_not, lifted}
+use Rattle.cat_journal.proofs.Appended.{none_of, room_for, held_ok, safe_ok, added_ok, held_err, torn_err, same_err, one_more_or_not, lifted, on_disk}
 use Rattle.cat_journal.proofs.journal.JournalKeeper.append.Goals as goal
 
 pub spell-requires-clause-room : goal.spell-requires-clause-room
@@ -72,3 +72,17 @@ returns-in-Err-clause-not_added g c =
     let run = c.append_frame.ensures.any_moment in
     same_err j.gates.items j.end c.args.bytes.now c.spell.new.out.items (g.D.Disk.may_leave j.disk) (g.D.Disk.may_leave new) c.requires.few c.requires.reading c.requires.short c.spell.ensures (g.D.Disk.told j.disk) (g.D.Disk.told new) was c.append_frame.ensures.stays
     (λ b is. run.each b (g.met.D.Disk.counts_now new (g.D.Disk.moment j.disk) b run.later (g.met.D.Disk.reads_as_image new b is)))
+
+pub returns-in-Ok-clause-images : goal.returns-in-Ok-clause-images
+returns-in-Ok-clause-images g c up =
+    let j = c.args.self.now in
+    let disk_of : Journal g.row.D.Denot g.D.Disk → g.row.D.Denot = λ k. k.disk in
+    on_disk g.D.Disk.moment g.D.Disk.left_since disk_of j _ _ _ c.append_frame.ensures.any_moment
+    (λ b may. one_more_or_not (g.D.Disk.told j.disk) (length j.gates.items) j.end (g.D.Disk.may_leave j.disk) c.args.bytes.now b (outcome b) c.requires.few c.requires.reading c.requires.short (j.safe up) may refl)
+
+pub returns-in-Err-clause-images : goal.returns-in-Err-clause-images
+returns-in-Err-clause-images g c up =
+    let j = c.args.self.now in
+    let disk_of : Journal g.row.D.Denot g.D.Disk → g.row.D.Denot = λ k. k.disk in
+    on_disk g.D.Disk.moment g.D.Disk.left_since disk_of j _ _ _ c.append_frame.ensures.any_moment
+    (λ b may. one_more_or_not (g.D.Disk.told j.disk) (length j.gates.items) j.end (g.D.Disk.may_leave j.disk) c.args.bytes.now b (outcome b) c.requires.few c.requires.reading c.requires.short (j.safe up) may refl)
