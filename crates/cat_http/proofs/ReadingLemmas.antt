@@ -6,7 +6,7 @@ use Rattle.std.proofs.lemmas.List.{take_at, length-take-le}
 use Rattle.httparse.specs.declared.spans.HeaderSpan.{HeaderSpan}
 use Rattle.httparse.specs.declared.spans.RequestSpans.{RequestSpans}
 use Rattle.cat_http.specs.Message.{Buffered, message_at}
-use Rattle.cat_http.specs.Next.{IsRequest, IsMalformed, IsCut}
+use Rattle.cat_http.specs.Next.{IsRequest, IsEnd, IsMalformed, IsTooLarge, IsCut}
 use Rattle.cat_http.specs.Outcome.{OutcomeOf}
 use Rattle.cat_http.specs.Reading.{IncomingOf}
 use Rattle.cat_http.specs.declared.next.Outcome.TheVariants as outcome
@@ -30,11 +30,23 @@ incoming_request (Some xs) (Some ys) before seen bytes bytes' hs hs' head stop n
     subst (λ b. IsRequest (before.unread ++ xs) (message_at b hs head stop) (slice_range b next end ++ ys)) (sym eb) one in
     subst (λ h. IsRequest (before.unread ++ xs) (message_at bytes' h head stop) (slice_range bytes' next end ++ ys)) (sym eh) two
 
+pub incoming_end : (old new : Option (List ℕ)) (before now : Buffered) (seen bytes : List ℕ) (hs : List HeaderSpan) (end : ℕ)
+    → seen ≡ before.unread → OutcomeOf outcome.End old new seen bytes hs end → IncomingOf incoming.End old before new now
+incoming_end None new before now seen bytes hs end same is = tt
+incoming_end (Some xs) None before now seen bytes hs end same is = is
+incoming_end (Some xs) (Some ys) before now seen bytes hs end same is = subst (λ s. IsEnd (s ++ xs)) same is
+
 pub incoming_malformed : (old new : Option (List ℕ)) (before now : Buffered) (seen bytes : List ℕ) (hs : List HeaderSpan) (end : ℕ)
     → seen ≡ before.unread → OutcomeOf outcome.Malformed old new seen bytes hs end → IncomingOf incoming.BadHead old before new now
 incoming_malformed None new before now seen bytes hs end same is = tt
 incoming_malformed (Some xs) None before now seen bytes hs end same is = is
 incoming_malformed (Some xs) (Some ys) before now seen bytes hs end same is = subst (λ s. IsMalformed (s ++ xs)) same is
+
+pub incoming_large : (old new : Option (List ℕ)) (before now : Buffered) (seen bytes : List ℕ) (hs : List HeaderSpan) (end : ℕ)
+    → seen ≡ before.unread → OutcomeOf outcome.TooLarge old new seen bytes hs end → IncomingOf incoming.TooLarge old before new now
+incoming_large None new before now seen bytes hs end same is = tt
+incoming_large (Some xs) None before now seen bytes hs end same is = is
+incoming_large (Some xs) (Some ys) before now seen bytes hs end same is = subst (λ s. IsTooLarge (s ++ xs)) same is
 
 pub incoming_fault : (old new : Option (List ℕ)) (before now : Buffered) (seen bytes : List ℕ) (hs : List HeaderSpan) (end : ℕ)
     → seen ≡ before.unread → OutcomeOf outcome.Fault old new seen bytes hs end → IncomingOf incoming.ReadFault old before new now
@@ -42,11 +54,9 @@ incoming_fault None new before now seen bytes hs end same is = tt
 incoming_fault (Some xs) None before now seen bytes hs end same is = is
 incoming_fault (Some xs) (Some ys) before now seen bytes hs end same is = subst (λ s. IsCut (s ++ xs) ys) same is
 
--- the unread bytes stand at the front
-pub compacted : (items first new second unread : List ℕ) (i j len : ℕ) → i ≤ j → j ≤ length items → len ≡ length items → first ≡ items
-    → new ≡ copy_within first i j 0 → length new ≡ length first → second ≡ take len (new ++ drop (length new) items) → slice_range items i j ≡ unread
-    → take (j - i) second ≡ unread
-compacted items first new second unread i j len order within all same is kept writes shows =
-    let whole : second ≡ new = writes ∙ take_at new (drop (length new) items) len (omega (arith, ap length same)) in
-    let front : take (j - i) new ≡ slice_range items i j = moved items new i j order within (is ∙ ap (λ xs. copy_within xs i j 0) same) in
-    ap (take (j - i)) whole ∙ front ∙ shows
+-- what a slice of a vector has moved to the front stands at the front of the vector
+pub compacted : (items first new : List ℕ) (i j len : ℕ) → i ≤ j → j ≤ length items → len ≡ length items → first ≡ items
+    → new ≡ copy_within first i j 0 → length new ≡ length first → take (j - i) (take len (new ++ drop (length new) items)) ≡ slice_range items i j
+compacted items first new i j len order within all same is kept =
+    let whole : take len (new ++ drop (length new) items) ≡ new = take_at new (drop (length new) items) len (omega (arith, ap length same)) in
+    ap (take (j - i)) whole ∙ moved items new i j order within (is ∙ ap (λ xs. copy_within xs i j 0) same)

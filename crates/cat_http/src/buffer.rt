@@ -1,4 +1,4 @@
-ghost use Rattle.std.specs.Prelude.{◌≡◌, ◌≢◌, ◌≤◌, [], IfOk};
+ghost use Rattle.std.specs.Prelude.{◌≡◌, ◌≢◌, ◌-◌, ◌≤◌, [], IfOk, length, take, slice_range};
 ghost use Rattle.std.specs.Io.KnownBytes.{IsAtEnd};
 ghost use Rattle.cat_io.specs.Causes.{Rose};
 ghost use Rattle.cat_http.specs.Next.{HoldsRequest};
@@ -89,6 +89,15 @@ pub enum Incoming {
     ReadFault,
 }
 
+fn move_to_front(bytes: &mut Vec<u8>, start: usize, end: usize)
+    requires order { start ≤ end }
+    requires within { end ≤ length bytes.old.items }
+    ensures room { length bytes.new.items ≡ length bytes.old.items }
+    ensures front { take (end - start) bytes.new.items ≡ slice_range bytes.old.items start end }
+{
+    bytes.as_mut_slice().copy_within(start..end, 0);
+}
+
 /// Reads the next request into the buffer. It takes no memory.
 pub fn read_request<S: Source>(source: &mut S, buffer: &mut Buffer) -> Incoming
     // The answer is that of the bytes unread and the bytes left, in whatever pieces they come. A read
@@ -102,10 +111,7 @@ pub fn read_request<S: Source>(source: &mut S, buffer: &mut Buffer) -> Incoming
     ensures waits { HoldsRequest buffer.old.unread → source.new ≡ source.old }
 {
     let unread = buffer.end - buffer.start;
-    buffer
-        .bytes
-        .as_mut_slice()
-        .copy_within(buffer.start..buffer.end, 0);
+    move_to_front(&mut buffer.bytes, buffer.start, buffer.end);
     buffer.head = NO_HEAD;
     buffer.stop = 0;
     buffer.start = 0;
