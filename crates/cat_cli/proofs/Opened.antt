@@ -132,10 +132,10 @@ store_failed store_faults.NoMemory e = cc
 store_failed (store_faults.Illegal p) e = cc
 
 pub journal_spared : (fault : OpenFault) → (by_journal fault ≡ whys.Fault → ⊥) → fault ≡ faults.Fault → ⊥
-journal_spared fault no is = no (ap by_journal is)
+journal_spared fault other is = other (ap by_journal is)
 
 pub store_spared : (fault : StoreFault) → (by_store fault ≡ whys.Fault → ⊥) → fault ≡ store_faults.Fault → ⊥
-store_spared fault no is = no (ap by_store is)
+store_spared fault other is = other (ap by_store is)
 
 -- a disk's fault is one of the reasons
 refused_fault : (w h : List ℕ) (status : Status) (before now : ℕ) → FaultTold w status h before now → Refused whys.Fault w status h before now
@@ -307,9 +307,9 @@ module _ {D : Type 0} where
   is_there (Some place) again = refl
 
   -- the disk of a path failed, and was given back
-  pub disk_fell : (refuses : Type 0) (faults : D → ℕ) (place mid place' : Option (Option D)) (again : D) (before opened now count : ℕ) → mid ≡ taken place → place' ≡ stood again mid → faults again ≡ count
-      → opened ≡ before → now ≡ raised_by count opened → 0 < count → DisksFell refuses faults place' before now
-  disk_fell refuses faults place mid place' again before opened now count out back counted level rises some = record {
+  pub disk_fell : (refused : Type 0) (faults : D → ℕ) (place mid place' : Option (Option D)) (again : D) (before opened now count : ℕ) → mid ≡ taken place → place' ≡ stood again mid → faults again ≡ count
+      → opened ≡ before → now ≡ raised_by count opened → 0 < count → DisksFell refused faults place' before now
+  disk_fell refused faults place mid place' again before opened now count out back counted level rises some = record {
     rose = rose_more before opened now count level rises some;
     cause = inr (record {
       again = again;

@@ -75,7 +75,7 @@ Tells line s = IsTold line s.written s.held s.before s.now
 abbrev pub Refuses : Type 0 → Type 0 → Seen → Status → Type 0
 Refuses fell level s statuses.DiskFault = fell × (s.held ≡ s.written ++ disk_fault_line)
 Refuses fell level s statuses.WriteFault = fell × IsFront disk_fault_line s.written s.held s.before s.now
-Refuses fell level s statuses.Unreadable = level × ((why : Unopened) × unopened_of s.journal why × Tells (unopened_line why) s)
+Refuses fell level s statuses.Unreadable = level × (why : Unopened) × unopened_of s.journal why × Tells (unopened_line why) s
 Refuses fell level s statuses.NoMemory = level × Tells no_memory_line s
 Refuses fell level s _ = ⊥
 

@@ -22,7 +22,7 @@ returns-in-Err-clause-cause g c is =
     disk_fell _ g.O.D.Disk.faults _ _ _ c.in-Err.disk _ _ _ _ c.in-Ok.ensures.taken c.back.ensures.stands refl c.in-Ok.ensures.cause.stays c.back.ensures.faults (rose_first _ _ c.in-Ok.ensures.fresh (c.in-Err.ensures.cause is))
 
 pub returns-in-Err-clause-disks_stay : goal.returns-in-Err-clause-disks_stay
-returns-in-Err-clause-disks_stay g c no = c.back.ensures.level (c.in-Err.ensures.level no ∙ c.in-Ok.ensures.fresh) ∙ c.in-Ok.ensures.cause.stays
+returns-in-Err-clause-disks_stay g c other = c.back.ensures.level (c.in-Err.ensures.level other ∙ c.in-Ok.ensures.fresh) ∙ c.in-Ok.ensures.cause.stays
 
 pub returns-in-Err-clause-back : goal.returns-in-Err-clause-back
 returns-in-Err-clause-back g c = back_again g.O.D.Disk.told _ _ _ c.in-Ok.disk c.in-Err.disk (tells_as g.O.D.Disk.told g.O.Disks.handed g.met.O.Disks.handed_tells _ c.in-Ok.disk c.in-Ok.ensures.given) c.in-Ok.ensures.taken c.back.ensures.stands
