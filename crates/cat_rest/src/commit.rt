@@ -1,8 +1,8 @@
 //! Bodies of commit requests.
 
-ghost use Rattle.std.specs.Prelude.{◌≡◌, IfOk};
+ghost use Rattle.std.specs.Prelude.{◌≡◌, [], ◌∷◌, ◌++◌, IfOk, OnOk};
 ghost use Rattle.cat_model.specs.WellMade.{may_be_asked};
-ghost use Rattle.cat_rest.specs.Bodies.{body_of, commit_as};
+ghost use Rattle.cat_rest.specs.Bodies.{body_of, commit_as, contents_of, ops_of};
 
 use crate::operation::OpForm;
 use cat_codes::fault::NoMemory;
@@ -41,6 +41,22 @@ fn may_be_asked(alloc: Global, ops: &[Op]) -> Result<bool, NoMemory>
     Ok(are_distinct(alloc, ops)? && ids_differ(alloc, ops)?)
 }
 
+// One more operation, with the content of a PUT.
+fn add(
+    ops: &mut Seq<Op>,
+    contents: &mut Seq<Content>,
+    asked: (Op, Option<Content>),
+) -> Result<(), NoMemory>
+    ensures ops { OnOk result (ops.new ≡ ops.old ++ ops_of (asked ∷ [])) }
+    ensures contents { OnOk result (contents.new ≡ contents.old ++ contents_of (asked ∷ [])) }
+{
+    let (op, content) = asked;
+    if let Some(content) = content {
+        contents.push(content)?;
+    }
+    Ok(ops.push(op)?)
+}
+
 // The operations and the contents, each apart.
 fn body_of(
     alloc: Global,
@@ -51,11 +67,8 @@ fn body_of(
 {
     let mut ops = Seq::new(alloc);
     let mut contents = Seq::new(alloc);
-    for (op, content) in asked.into_vec() {
-        ops.push(op)?;
-        if let Some(content) = content {
-            contents.push(content)?;
-        }
+    for one in asked.into_vec() {
+        add(&mut ops, &mut contents, one)?;
     }
     Ok(CommitBody {
         meta,
