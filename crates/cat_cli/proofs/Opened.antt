@@ -25,8 +25,9 @@ use Rattle.cat_cli.specs.declared.unopened.Unopened.{Unopened}
 use Rattle.cat_cli.specs.declared.unopened.Unopened.TheVariants as whys
 use Rattle.cat_cli.specs.Journals.{Begins, DisksFell, Holds, IsBack, IsJournalOf, RoseBy, StandsFor, TellsAs, told_at}
 use Rattle.cat_cli.specs.Opening.{FaultKnown, FaultTold, IsReason, IsStored, Refused, RefusedKnown, by_journal, by_store, is_unreadable}
-use Rattle.cat_cli.specs.Runs.{Refuses, RefusesSo, Seen, spares_disks}
+use Rattle.cat_cli.specs.Runs.{CountedBy, Refuses, RefusesSo, Seen, spares_disks}
 use Rattle.cat_cli.specs.Sessions.{Fallen}
+use Rattle.cat_cli.specs.Surviving.{Images, Spared}
 use Rattle.cat_cli.proofs.Told.{some_is, not_none}
 
 -- ---- counts of faults
@@ -44,11 +45,11 @@ rose_by : (before mid now kept count : ℕ) → mid ≡ before → now ≡ raise
 rose_by before mid now kept count is by some most = record { counted = some; rose = omega (arith, is, by, most) }
 
 -- an append failed at this count, on a disk that had counted no fault
-pub rises : (began kept before mid now count : ℕ) → began ≡ 0 → mid ≡ before → now ≡ raised_by kept mid → Rose began count × (count ≤ kept) → RoseBy before now count × (0 < kept)
-rises began kept before mid now count fresh is by rose =
-    let some : 0 < count = rose_first began count fresh rose.0 in
-    let most : count ≤ kept = rose.1 in
-    (rose_by before mid now kept count is by some most, omega (arith, some, most))
+pub counted_by : (began kept most count : ℕ) → began ≡ 0 → most ≡ kept → Rose began count × (count ≤ kept) → CountedBy most count
+counted_by began kept most count fresh is rose = (rose_first began count fresh rose.0, omega (arith, is, rose.1))
+
+pub rose_there : (before mid now most count : ℕ) → mid ≡ before → now ≡ raised_by most mid → CountedBy most count → RoseBy before now count
+rose_there before mid now most count is by counted = rose_by before mid now most count is by counted.0 counted.1
 
 -- ---- bytes, and the payloads that they recover to
 
@@ -183,13 +184,13 @@ refuses fell level s why statuses.Usage reason cause spares ends p = absurd p
 refuses fell level s why statuses.ReadFault reason cause spares ends p = absurd p
 refuses fell level s why statuses.Cut reason cause spares ends p = absurd p
 
-pub refuses_known : (fell level : Type 0) (why : Unopened) (status : Status) (held after journal left : Option (List ℕ)) (before now : ℕ) (w : List ℕ)
-    → IsReason journal why → (why ≡ whys.Fault → fell) → ((why ≡ whys.Fault → ⊥) → level) → EndsAtFault why status → StandsFor journal left → RefusedKnown why held status after before now → held ≡ Some w
-    → (h : List ℕ) × (after ≡ Some h) × RefusesSo fell level (record { written = w; held = h; before = before; now = now; journal = journal; left = left }) status
-refuses_known fell level why status held after journal left before now w reason cause spares ends stands told e =
+pub refuses_known : (fell level : Type 0) (why : Unopened) (status : Status) (held after journal left : Option (List ℕ)) (images : Images) (before now : ℕ) (w : List ℕ)
+    → IsReason journal why → (why ≡ whys.Fault → fell) → ((why ≡ whys.Fault → ⊥) → level) → EndsAtFault why status → StandsFor journal left → Spared journal left images → RefusedKnown why held status after before now → held ≡ Some w
+    → (h : List ℕ) × (after ≡ Some h) × RefusesSo fell level (record { written = w; held = h; before = before; now = now; journal = journal; left = left; images = images }) status
+refuses_known fell level why status held after journal left images before now w reason cause spares ends stands spared told e =
     let x = told w e in
-    let s : Seen = record { written = w; held = x.0; before = before; now = now; journal = journal; left = left } in
-    (x.0, x.1, (refuses fell level s why status reason cause spares ends x.2, stands))
+    let s : Seen = record { written = w; held = x.0; before = before; now = now; journal = journal; left = left; images = images } in
+    (x.0, x.1, (refuses fell level s why status reason cause spares ends x.2, stands, spared))
 
 spares_fault : (status : Status) → spares_disks status ≡ true → status ≡ statuses.DiskFault → ⊥
 spares_fault status is e = let no : false ≡ true = subst (λ (st : Status). spares_disks st ≡ true) e is in clash no

@@ -11,12 +11,14 @@ use Rattle.cat_cli.specs.declared.ending.Session.TheVariants as ends
 use Rattle.cat_cli.specs.declared.status.Status.{Status}
 use Rattle.cat_cli.specs.declared.status.Status.TheVariants as statuses
 use Rattle.cat_cli.specs.Journals.{Holds, told_at}
-use Rattle.cat_cli.specs.Opening.{HoldsLog, IsOpened, IsClosed, status_of}
-use Rattle.cat_cli.specs.Runs.{Answers, Ran, RanWell, Says, Seen, spares_disks, start, tells_all}
-use Rattle.cat_cli.specs.Sessions.{AreAhead, Readings, ReadsOn, Fallen}
+use Rattle.cat_cli.specs.Opening.{HoldsLog, IsStored, status_of}
+use Rattle.cat_cli.specs.Runs.{Answers, CountedBy, Ran, RanKnown, RanWell, SaysKnown, Seen, spares_disks, start, tells_all}
+use Rattle.cat_cli.specs.Sessions.{Readings, ReadsOn, Fallen}
 use Rattle.cat_cli.specs.SessionLaws.{log_grows}
 use Rattle.cat_cli.specs.Stores.{RunsKnown}
+use Rattle.cat_cli.specs.Surviving.{IsBegun, KeepsThrough, StandsAs, Survives, images_at, images_of}
 use Rattle.cat_cli.proofs.Opened.{begins_at, left_at}
+use Rattle.cat_cli.proofs.Surviving.{survives, survives_at, tells_of}
 
 -- the entries of a log that grew
 log_of : (payloads : List (List ℕ)) (before after news : List LogEntry) → payloads ≡ spellings (reverse before) → after ≡ news ++ before → spellings (reverse after) ≡ payloads ++ spellings (reverse news)
@@ -126,59 +128,94 @@ one_fell : (P : ℕ → Type 0) (down : Option ℕ) (fallen : Option Fallen) →
 one_fell P down None is rose = tt
 one_fell P down (Some f) is rose = rose f.count is
 
-module _ {D K : Type 0} (told : D → Option (List ℕ)) (faults : D → ℕ) (down : K → Option ℕ) (in_flight : K → Option (List ℕ)) (kept_faults : K → ℕ)
-    (place mid place' : Option (Option D)) (old new : Stored K) (ahead ahead' : Option Readings) (bytes unread held after : Option (List ℕ)) (before now : ℕ) (end : End)
-    (opened : IsOpened told place mid old.book (down old.keeper) (kept_faults old.keeper))
+-- no append failed where none is counted
+none_counted : (fallen : Option Fallen) (most : ℕ) → IfSome fallen (λ f. CountedBy most f.count) → most ≡ 0 → fallen ≡ None
+none_counted None most counted none = refl
+none_counted (Some f) most counted none = absurd (not_both most (omega (arith, counted.0, counted.1)) none)
+
+caused : (to to' : ℕ → Type 0) (fallen : Option Fallen) → ((c : ℕ) → to c → to' c) → IfSome fallen (λ f. to f.count) → IfSome fallen (λ f. to' f.count)
+caused to to' None on cause = tt
+caused to to' (Some f) on cause = on f.count cause
+
+-- a session on the journal of a disk
+module _ {D K : Type 0} (told : D → Option (List ℕ)) (may_leave : D → List ℕ → Type 0) (moment : D → ℕ) (left_since : D → ℕ → List ℕ → Type 0) (down : K → Option ℕ) (in_flight : K → Option (List ℕ))
+    (since least : ℕ) (early : List ℕ → Type 0) (disk again : D) (old new : Stored K) (ahead ahead' : Option Readings) (bytes unread held after : Option (List ℕ)) (before now : ℕ) (end : End)
+    (stored : IsStored (told disk) old.book (down old.keeper))
     (session : RunsKnown down in_flight old ahead bytes unread held end new ahead' after)
-    (closed : IsClosed faults mid place' (kept_faults new.keeper) (λ disk. HoldsLog down in_flight new.keeper new.book (told disk))) where
-  there : place' ≡ stood closed.disk (taken place)
-  there = closed.back ∙ ap (stood closed.disk) opened.out
-
-  -- what is seen of it
-  abbrev pub seen : List ℕ → List ℕ → Seen
-  seen w h = record { written = w; held = h; before = before; now = now; journal = told_at told place; left = told_at told place' }
-
+    (begun : IsBegun since least early (told disk) (moment disk) (may_leave disk))
+    (holds : HoldsLog down in_flight new.keeper new.book (told again))
+    (leaves : KeepsThrough since least early (may_leave again) (left_since again) down in_flight new.keeper new.book (told again)) where
   -- how it went, where to is so of the count at which an append failed
-  pub ran : (to : ℕ → Type 0) (b w : List ℕ) → ((c : ℕ) → down new.keeper ≡ Some c → to c) → bytes ≡ Some b → held ≡ Some w
-      → (clock : Readings) × AreAhead ahead clock × (h : List ℕ) × (after ≡ Some h) × (r : Ran to clock (ReadsOn ahead ahead') b unread (seen w h) end) × (down new.keeper ≡ option_map (λ (f : Fallen). f.count) r.last.fallen)
-  ran to b w raised e f =
+  pub ran : (to : ℕ → Type 0) → ((c : ℕ) → down new.keeper ≡ Some c → to c) → RanKnown to ahead ahead' bytes unread held after before now (told disk) (told again) (images_of may_leave moment left_since disk again) end
+  ran to raised b w e f =
       let x = session b w e f in
       let last = x.4 in
       let left = x.6 in
       let grew = log_grows x.0 (start old.book b w) end x.2 last unread x.5 in
-      let holds : IfSome (told closed.disk) (Holds (spellings (reverse new.book.log)) last.fallen) = closed.has last.fallen left.down_is left.flies in
-      let log : spellings (reverse new.book.log) ≡ opened.stored.payloads ++ spellings (reverse grew.0) =
-      log_of opened.stored.payloads old.book.log new.book.log grew.0 opened.stored.spelled (left.log_is ∙ grew.1) in (
+      let log : spellings (reverse new.book.log) ≡ stored.payloads ++ spellings (reverse grew.0) =
+      log_of stored.payloads old.book.log new.book.log grew.0 stored.spelled (left.log_is ∙ grew.1) in (
         x.0,
         x.1,
         x.2,
         x.3,
         record {
-          payloads = opened.stored.payloads;
+          payloads = stored.payloads;
           book = old.book;
-          begins = begins_at told place opened.disk opened.stored.payloads old.book opened.was opened.stored.begins;
+          begins = stored.begins;
           last = last;
           ends = x.5;
           added = reverse grew.0;
           grows = grew.1 ∙ ap (λ (l : List LogEntry). l ++ old.book.log) (sym (reverse-reverse grew.0));
-          keeps =
-              subst (λ (q : Option (Option D)). IfSome (told_at told q) (Holds (opened.stored.payloads ++ spellings (reverse grew.0)) last.fallen)) (sym there)
-              (left_at told place closed.disk (Holds (opened.stored.payloads ++ spellings (reverse grew.0)) last.fallen)
-              (subst (λ (l : List (List ℕ)). IfSome (told closed.disk) (Holds l last.fallen)) log holds));
+          keeps = subst (λ (l : List (List ℕ)). IfSome (told again) (Holds l last.fallen)) log (holds last.fallen left.down_is left.flies);
+          crash =
+              survives since least early (told disk) (told again) (moment disk) (may_leave disk) (may_leave again) (left_since again) stored.payloads (spellings (reverse grew.0)) (spellings (reverse new.book.log)) (option_map (λ (f : Fallen). spelling f.entry) last.fallen)
+              begun stored.begins.recovers log (leaves last.fallen left.down_is left.flies);
           cause = one_fell to (down new.keeper) last.fallen left.down_is raised;
           reads_on = x.7;
         },
-        left.down_is,
       )
 
-  -- and what it says, by the status; level is so where the disk didn't fail
-  pub says : (fell : Type 0) (to : ℕ → Type 0) (level : Type 0) (b w : List ℕ) (failed : Bool) (status : Status) → status ≡ status_of end failed
-      → ((c : ℕ) → down new.keeper ≡ Some c → to c × (0 < kept_faults new.keeper)) → (failed ≡ false → kept_faults new.keeper ≡ 0) → (kept_faults new.keeper ≡ 0 → level)
-      → bytes ≡ Some b → held ≡ Some w
-      → (clock : Readings) × AreAhead ahead clock × (h : List ℕ) × (after ≡ Some h) × Says fell to level clock ahead ahead' b unread (seen w h) status
-  says fell to level b w failed status is rises stays same e f =
-      let x = ran to b w (λ c fallen. (rises c fallen).0) e f in
-      let run = x.4 in
-      let well : failed ≡ false → (run.last.fallen ≡ None) × level =
-      λ still. (none_fell (down new.keeper) run.last.fallen x.5 (λ c fallen. not_both (kept_faults new.keeper) (rises c fallen).1 (stays still)), same (stays still)) in
-      (x.0, x.1, x.2, x.3, inl (subst (λ (st : Status). Answers to level x.0 (ReadsOn ahead ahead') b unread (seen w x.2) st) (sym is) (answers to level x.0 (ReadsOn ahead ahead') b unread (seen w x.2) end failed run well)))
+-- and what is said of it, once the disk is back at its path
+module _ {D : Type 0} (told : D → Option (List ℕ)) (may_leave : D → List ℕ → Type 0) (moment : D → ℕ) (left_since : D → ℕ → List ℕ → Type 0) (place mid place' : Option (Option D)) (disk again : D)
+    (is : StandsAs told may_leave moment place disk) (out : mid ≡ taken place) (back : place' ≡ stood again mid) where
+  there : place' ≡ stood again (taken place)
+  there = back ∙ ap (stood again) out
+
+  abbrev pub Here : List ℕ → List ℕ → ℕ → ℕ → Seen
+  Here w h before now = record { written = w; held = h; before = before; now = now; journal = told disk; left = told again; images = images_of may_leave moment left_since disk again }
+
+  abbrev pub There : List ℕ → List ℕ → ℕ → ℕ → Seen
+  There w h before now = record { written = w; held = h; before = before; now = now; journal = told_at told place; left = told_at told place'; images = images_at may_leave moment left_since place place' }
+
+  ran_there : (to to' : ℕ → Type 0) (clock : Readings) (to_come : ℕ → Type 0) (b : List ℕ) (unread : Option (List ℕ)) (w h : List ℕ) (before now : ℕ) (end : End) → ((c : ℕ) → to c → to' c)
+      → Ran to clock to_come b unread (Here w h before now) end → Ran to' clock to_come b unread (There w h before now) end
+  ran_there to to' clock to_come b unread w h before now end on r = record {
+    payloads = r.payloads;
+    book = r.book;
+    begins = begins_at told place disk r.payloads r.book (tells_of told may_leave moment left_since place disk is) r.begins;
+    last = r.last;
+    ends = r.ends;
+    added = r.added;
+    grows = r.grows;
+    keeps =
+        subst (λ (q : Option (Option D)). IfSome (told_at told q) (Holds (r.payloads ++ spellings r.added) r.last.fallen)) (sym there)
+        (left_at told place again (Holds (r.payloads ++ spellings r.added) r.last.fallen) r.keeps);
+    crash =
+        subst (λ (q : Option (Option D)). Survives (told_at told place) (told_at told q) (images_at may_leave moment left_since place q) r.payloads (spellings r.added) (option_map (λ (f : Fallen). spelling f.entry) r.last.fallen)) (sym there)
+        (survives_at told may_leave moment left_since place disk again r.payloads (spellings r.added) (option_map (λ (f : Fallen). spelling f.entry) r.last.fallen) is r.crash);
+    cause = caused to to' r.last.fallen on r.cause;
+    reads_on = r.reads_on;
+  }
+
+  -- by the status; level is so where the disk didn't fail
+  pub says : (fell : Type 0) (to : ℕ → Type 0) (level : Type 0) (most : ℕ) (ahead ahead' : Option Readings) (bytes unread held after : Option (List ℕ)) (before now : ℕ) (end : End) (failed : Bool) (status : Status)
+      → RanKnown (CountedBy most) ahead ahead' bytes unread held after before now (told disk) (told again) (images_of may_leave moment left_since disk again) end
+      → status ≡ status_of end failed → ((c : ℕ) → CountedBy most c → to c) → (failed ≡ false → most ≡ 0) → (most ≡ 0 → level)
+      → SaysKnown fell to level ahead ahead' bytes unread held status after before now (told_at told place) (told_at told place') (images_at may_leave moment left_since place place')
+  unfolding ran_there
+  says fell to level most ahead ahead' bytes unread held after before now end failed status known by on stays same b w e f =
+      let x = known b w e f in
+      let s = There w x.2 before now in
+      let run = ran_there (CountedBy most) to x.0 (ReadsOn ahead ahead') b unread w x.2 before now end on x.4 in
+      let well : failed ≡ false → (run.last.fallen ≡ None) × level = λ still. (none_counted x.4.last.fallen most x.4.cause (stays still), same (stays still)) in
+      (x.0, x.1, x.2, x.3, inl (subst (λ (st : Status). Answers to level x.0 (ReadsOn ahead ahead') b unread s st) (sym by) (answers to level x.0 (ReadsOn ahead ahead') b unread s end failed run well)))

@@ -5,6 +5,7 @@ pub mod Answers
 pub mod Passes
 pub mod Lines
 pub mod Journals
+pub mod Surviving
 pub mod Runs
 pub mod Opening
 pub mod Stores

@@ -1,7 +1,6 @@
 -- What opening a store over a journal does, and what is told where none is opened.
 use Rattle.std.specs.Prelude.{ℕ, ◌≡◌, List, ◌++◌, Option, Some, None, IfSome, Bool, true, false, reverse, if◌then◌else◌}
 use Rattle.std.specs.Option.{option_map}
-use Rattle.cat_io.specs.Places.{stood, taken}
 use Rattle.cat_core.specs.declared.opening.StoreFault.{StoreFault}
 use Rattle.cat_core.specs.declared.opening.StoreFault.TheVariants as store_faults
 use Rattle.cat_ledger.specs.Kept.{spelling, spellings}
@@ -14,7 +13,7 @@ use Rattle.cat_cli.specs.declared.status.Status.{Status}
 use Rattle.cat_cli.specs.declared.status.Status.TheVariants as statuses
 use Rattle.cat_cli.specs.declared.unopened.Unopened.{Unopened}
 use Rattle.cat_cli.specs.declared.unopened.Unopened.TheVariants as whys
-use Rattle.cat_cli.specs.Journals.{Begins, Holds, TellsAs, unopened_of}
+use Rattle.cat_cli.specs.Journals.{Begins, Holds, unopened_of}
 use Rattle.cat_cli.specs.Lines.{disk_fault_line, no_memory_line, unopened_line}
 use Rattle.cat_cli.specs.Runs.{IsFront, IsTold}
 use Rattle.cat_cli.specs.Sessions.{Fallen}
@@ -94,23 +93,8 @@ pub record IsStored (told : Option (List ℕ)) (book : Book) (down : Option ℕ)
   pub spelled : payloads ≡ spellings (reverse book.log)
   pub up : down ≡ None
 
--- the disk was taken from its path, and has counted no fault
-pub record IsOpened {D : Type 0} (told : D → Option (List ℕ)) (before after : Option (Option D)) (book : Book) (down : Option ℕ) (faults : ℕ) : Type 0 where
-  pub disk : D
-  pub was : TellsAs told before disk
-  pub out : after ≡ taken before
-  pub stored : IsStored (told disk) book down
-  pub fresh : faults ≡ 0
-
 -- what the disk of a store holds: the entries of the log, and where an append failed, maybe the one that it was to keep
 abbrev pub HoldsLog : {K : Type 0} → (K → Option ℕ) → (K → Option (List ℕ)) → K → Book → Option (List ℕ) → Type 0
 HoldsLog down in_flight keeper book told =
     (fallen : Option Fallen) → down keeper ≡ option_map (λ (f : Fallen). f.count) fallen → in_flight keeper ≡ option_map (λ (f : Fallen). spelling f.entry) fallen
     → IfSome told (Holds (spellings (reverse book.log)) fallen)
-
--- the disk was given back
-pub record IsClosed {D : Type 0} (faults : D → ℕ) (before after : Option (Option D)) (now : ℕ) (holds : D → Type 0) : Type 0 where
-  pub disk : D
-  pub back : after ≡ stood disk before
-  pub counted : faults disk ≡ now
-  pub has : holds disk

@@ -1,9 +1,10 @@
 -- What a run's status says.
-use Rattle.std.specs.Prelude.{ℕ, ◌≡◌, ◌⊎◌, List, ◌++◌, take, reverse, Option, Some, None, IfSome, Bool, true, false}
+use Rattle.std.specs.Prelude.{ℕ, ◌<◌, ◌≤◌, ◌≡◌, ◌⊎◌, List, [], ◌++◌, take, reverse, Option, Some, None, IfSome, Bool, true, false}
 use Rattle.cat_io.specs.Causes.{Rose}
 use Rattle.cat_model.specs.declared.log_entry.LogEntry.{LogEntry}
 use Rattle.cat_model.specs.Book.{Book}
-use Rattle.cat_ledger.specs.Kept.{spellings}
+use Rattle.std.specs.Option.{option_map}
+use Rattle.cat_ledger.specs.Kept.{spelling, spellings}
 use Rattle.cat_words.specs.Asked.{Task, script, check, drill}
 use Rattle.cat_cli.specs.declared.ending.Session.{Session as End}
 use Rattle.cat_cli.specs.declared.ending.Session.TheVariants as ends
@@ -12,7 +13,8 @@ use Rattle.cat_cli.specs.declared.status.Status.{Status}
 use Rattle.cat_cli.specs.declared.status.Status.TheVariants as statuses
 use Rattle.cat_cli.specs.Journals.{Begins, Holds, IsJournalOf, StandsFor, unopened_of}
 use Rattle.cat_cli.specs.Lines.{check_line, disk_fault_line, no_memory_line, unopened_line}
-use Rattle.cat_cli.specs.Sessions.{AreAhead, Readings, ReadsOn, Point, Standing, Ends}
+use Rattle.cat_cli.specs.Sessions.{AreAhead, Readings, ReadsOn, Fallen, Point, Standing, Ends}
+use Rattle.cat_cli.specs.Surviving.{Images, Spared, Survives}
 
 -- the process's status
 abbrev pub code_of : Status → ℕ
@@ -49,14 +51,15 @@ journal_of (drill seed commits) = None
 
 -- ---- what is seen of a run
 
--- what the sink held before and after a run, with its counts of faults, and what the journal's disk tells before and after, where it does
-pub record Seen : Type 0 where
+-- what the sink held before and after a run, with its counts of faults; what the journal's disk tells before and after, where it does; and what is known of crashes
+pub record Seen : Type 1 where
   pub written : List ℕ
   pub held : List ℕ
   pub before : ℕ
   pub now : ℕ
   pub journal : Option (List ℕ)
   pub left : Option (List ℕ)
+  pub images : Images
 
 -- a front of the line was written, and the count of faults rose
 abbrev pub IsFront : List ℕ → List ℕ → List ℕ → ℕ → ℕ → Type 0
@@ -79,9 +82,9 @@ Refuses fell level s statuses.Unreadable = level × (why : Unopened) × unopened
 Refuses fell level s statuses.NoMemory = level × Tells no_memory_line s
 Refuses fell level s _ = ⊥
 
--- and the journal stands for what it did
+-- and the journal stands for what it did, after a crash too
 abbrev pub RefusesSo : Type 0 → Type 0 → Seen → Status → Type 0
-RefusesSo fell level s status = Refuses fell level s status × StandsFor s.journal s.left
+RefusesSo fell level s status = Refuses fell level s status × StandsFor s.journal s.left × Spared s.journal s.left s.images
 
 -- ---- a script
 
@@ -99,8 +102,20 @@ pub record Ran (to : ℕ → Type 0) (clock : Readings) (to_come : ℕ → Type 
   pub added : List LogEntry
   pub grows : last.book.log ≡ reverse added ++ book.log
   pub keeps : IfSome s.left (Holds (payloads ++ spellings added) last.fallen)
+  pub crash : Survives s.journal s.left s.images payloads (spellings added) (option_map (λ (f : Fallen). spelling f.entry) last.fallen)
   pub cause : IfSome last.fallen (λ f. to f.count)
   pub reads_on : to_come last.readings
+
+-- the same where the source and the sink tell what they have, by some readings: the clock's own, where it tells them
+abbrev pub RanKnown : (ℕ → Type 0) → Option Readings → Option Readings → Option (List ℕ) → Option (List ℕ) → Option (List ℕ) → Option (List ℕ) → ℕ → ℕ → Option (List ℕ) → Option (List ℕ) → Images → End → Type 0
+RanKnown to ahead to_come bytes unread held after before now journal left images end =
+    (b w : List ℕ) → bytes ≡ Some b → held ≡ Some w
+    → (clock : Readings) × AreAhead ahead clock
+    × (h : List ℕ) × (after ≡ Some h) × Ran to clock (ReadsOn ahead to_come) b unread (record { written = w; held = h; before = before; now = now; journal = journal; left = left; images = images }) end
+
+-- the count of a fault, which isn't 0 and is at most this one
+abbrev pub CountedBy : ℕ → ℕ → Type 0
+CountedBy most count = (0 < count) × (count ≤ most)
 
 -- and no append failed; stays says that the disks' count of faults is as it was
 abbrev pub RanWell : (ℕ → Type 0) → Type 0 → Readings → (ℕ → Type 0) → List ℕ → Option (List ℕ) → Seen → End → Type 0
@@ -124,24 +139,25 @@ abbrev pub Says : Type 0 → (ℕ → Type 0) → Type 0 → Readings → Option
 Says fell to stays clock ahead to_come bytes unread s status = Answers to stays clock (ReadsOn ahead to_come) bytes unread s status ⊎ (RefusesSo fell stays s status × (to_come ≡ ahead))
 
 -- the same where the source and the sink tell what they have, by some readings: the clock's own, where it tells them
-abbrev pub SaysKnown : Type 0 → (ℕ → Type 0) → Type 0 → Option Readings → Option Readings → Option (List ℕ) → Option (List ℕ) → Option (List ℕ) → Status → Option (List ℕ) → ℕ → ℕ → Option (List ℕ) → Option (List ℕ) → Type 0
-SaysKnown fell to stays ahead to_come bytes unread held status after before now journal left =
+abbrev pub SaysKnown : Type 0 → (ℕ → Type 0) → Type 0 → Option Readings → Option Readings → Option (List ℕ) → Option (List ℕ) → Option (List ℕ) → Status → Option (List ℕ) → ℕ → ℕ → Option (List ℕ) → Option (List ℕ) → Images → Type 0
+SaysKnown fell to stays ahead to_come bytes unread held status after before now journal left images =
     (b w : List ℕ) → bytes ≡ Some b → held ≡ Some w
     → (clock : Readings) × AreAhead ahead clock
-    × (h : List ℕ) × (after ≡ Some h) × Says fell to stays clock ahead to_come b unread (record { written = w; held = h; before = before; now = now; journal = journal; left = left }) status
+    × (h : List ℕ) × (after ≡ Some h) × Says fell to stays clock ahead to_come b unread (record { written = w; held = h; before = before; now = now; journal = journal; left = left; images = images }) status
 
 -- ---- a check
 
 -- the journal was opened, and stands for what it did
-pub record Opens (s : Seen) (book : Book) : Type 0 where
+pub record Opens (journal left : Option (List ℕ)) (images : Images) (book : Book) : Type 0 where
   pub payloads : List (List ℕ)
-  pub begins : Begins s.journal payloads book
-  pub keeps : IfSome s.left (IsJournalOf payloads)
+  pub begins : Begins journal payloads book
+  pub keeps : IfSome left (IsJournalOf payloads)
+  pub crash : Survives journal left images payloads [] None
 
 -- its catalogue was counted, by the status; stays says that the disks' count of faults is as it was
 abbrev pub Counts : Type 0 → Seen → Status → Type 0
-Counts stays s statuses.Done = (book : Book) × Opens s book × (s.held ≡ s.written ++ check_line book) × stays
-Counts stays s statuses.WriteFault = (book : Book) × Opens s book × IsFront (check_line book) s.written s.held s.before s.now × stays
+Counts stays s statuses.Done = (book : Book) × Opens s.journal s.left s.images book × (s.held ≡ s.written ++ check_line book) × stays
+Counts stays s statuses.WriteFault = (book : Book) × Opens s.journal s.left s.images book × IsFront (check_line book) s.written s.held s.before s.now × stays
 Counts stays s _ = ⊥
 
 -- what a run of `check` does, by its status
@@ -149,10 +165,10 @@ abbrev pub Checks : Type 0 → Type 0 → Seen → Status → Type 0
 Checks fell stays s status = Counts stays s status ⊎ RefusesSo fell stays s status
 
 -- the same where the sink tells what it has
-abbrev pub ChecksKnown : Type 0 → Type 0 → Option (List ℕ) → Status → Option (List ℕ) → ℕ → ℕ → Option (List ℕ) → Option (List ℕ) → Type 0
-ChecksKnown fell stays held status after before now journal left =
+abbrev pub ChecksKnown : Type 0 → Type 0 → Option (List ℕ) → Status → Option (List ℕ) → ℕ → ℕ → Option (List ℕ) → Option (List ℕ) → Images → Type 0
+ChecksKnown fell stays held status after before now journal left images =
     (w : List ℕ) → held ≡ Some w
-    → (h : List ℕ) × (after ≡ Some h) × Checks fell stays (record { written = w; held = h; before = before; now = now; journal = journal; left = left }) status
+    → (h : List ℕ) × (after ≡ Some h) × Checks fell stays (record { written = w; held = h; before = before; now = now; journal = journal; left = left; images = images }) status
 
 -- ---- lines
 

@@ -1,80 +1,56 @@
-//! The journal of a run: a store over it, and its disk, which goes back where it stood.
+//! The journal of a run: a store over it, which is watched while it is held, and its disk.
 
-ghost use Rattle.std.specs.Prelude.{◌≡◌, ◌≢◌, ◌<◌, None, IfErr, IfOk, MatchResult, false, true};
+ghost use Rattle.std.specs.Prelude.{◌≡◌, ◌≢◌, None, IfErr, IfOk, MatchResult};
 ghost use Rattle.cat_model.specs.Drafts.{nothing_open};
-ghost use Rattle.cat_io.specs.Causes.{Rose, raised_by};
-ghost use Rattle.cat_io.specs.Places.{OthersStay};
-ghost use Rattle.cat_cli.specs.Journals.{DisksFell, IsBack, StandsFor, told_at};
-ghost use Rattle.cat_cli.specs.Opening.{HoldsLog, IsClosed, IsOpened, IsReason, IsStored};
+ghost use Rattle.cat_io.specs.Causes.{Rose};
+ghost use Rattle.cat_cli.specs.Journals.{StandsFor};
+ghost use Rattle.cat_cli.specs.Opening.{HoldsLog, IsReason, IsStored};
+ghost use Rattle.cat_cli.specs.Surviving.{IsBegun, KeepsThrough, Spared, images_of};
 
 use crate::unopened::Unopened;
 use cat_core::Store;
-use cat_io::{Disk, Disks};
+use cat_io::Disk;
 use cat_journal::Journal;
-use cat_keeper::Keeper;
+use cat_keeper::{Keeper, Since, Watched};
 use cat_model::limits::Limits;
 use std::alloc::Global;
 use std::marker::Send;
 
-// The store of a journal's catalogue, over the journal.
-fn store_on<D: Disk + Send>(alloc: Global, disk: D) -> Result<Store<Journal<D>>, (D, Unopened)>
+/// The store of a journal's catalogue, over the journal. It is watched what a crash might have left
+/// of the disk since it was given here. Where no store is opened the disk comes back.
+pub(crate) fn store_on<B: Since + Send, D: Disk + Send>(
+    alloc: Global,
+    disk: D,
+) -> Result<Store<Watched<B, Journal<D>>>, (D, Unopened)>
+    requires begun { IsBegun B.since B.least B.before (D.told disk) (D.moment disk) (D.may_leave disk) }
     ensures stored { IfOk result (λ store. IsStored (D.told disk) store.book (⟦<Journal<D> as Keeper>⟧.down store.keeper)) }
     ensures fresh { IfOk result (λ store. (store.left_open ≡ nothing_open) × (store.mark.fault ≡ None) × (store.began ≡ ⟦<Journal<D> as Keeper>⟧.faults store.keeper)) }
     ensures reason { IfErr result (λ e. IsReason (D.told disk) e.1) }
     ensures stands { IfErr result (λ e. StandsFor (D.told disk) (D.told e.0)) }
+    ensures spared { IfErr result (λ e. Spared (D.told disk) (D.told e.0) (images_of D.may_leave D.moment D.left_since disk e.0)) }
     ensures cause { IfErr result (λ e. e.1 ≡ Unopened.Fault → Rose (D.faults disk) (D.faults e.0)) }
     ensures level { MatchResult result (λ store. ⟦<Journal<D> as Keeper>⟧.faults store.keeper ≡ D.faults disk) (λ e. e.1 ≢ Unopened.Fault → D.faults e.0 ≡ D.faults disk) }
 {
     match Journal::open(alloc, disk) {
-        Ok(journal) => match Store::open(alloc, journal, Limits::program()) {
-            Ok(store) => Ok(store),
-            Err((journal, fault)) => Err((journal.into_disk(), Unopened::from(fault))),
-        },
+        Ok(journal) => {
+            let watched = Watched::<B, Journal<D>>::new(journal);
+            match Store::open(alloc, watched, Limits::program()) {
+                Ok(store) => Ok(store),
+                Err((watched, fault)) => {
+                    Err((watched.into_inner().into_disk(), Unopened::from(fault)))
+                }
+            }
+        }
         Err((disk, fault)) => Err((disk, Unopened::from(fault))),
     }
 }
 
-/// The store of the journal at a path. Where none is opened the disk is given back.
-pub(crate) fn open<O: Disks>(
-    alloc: Global,
-    disks: &mut O,
-    path: &str,
-) -> Result<Store<Journal<O::D>>, Unopened>
-    ensures opened { IfOk result (λ store. IsOpened O.D.told (O.at_path disks.old path.now) (O.at_path disks.new path.now) store.book
-        (⟦<Journal<O::D> as Keeper>⟧.down store.keeper) (⟦<Journal<O::D> as Keeper>⟧.faults store.keeper)) }
-    ensures fresh { IfOk result (λ store. (store.left_open ≡ nothing_open) × (store.mark.fault ≡ None) × (store.began ≡ ⟦<Journal<O::D> as Keeper>⟧.faults store.keeper)) }
-    ensures reason { IfErr result (λ why. IsReason (told_at O.D.told (O.at_path disks.old path.now)) why) }
-    ensures stands { IfErr result (λ why. StandsFor (told_at O.D.told (O.at_path disks.old path.now)) (told_at O.D.told (O.at_path disks.new path.now))) }
-    ensures cause { IfErr result (λ why. why ≡ Unopened.Fault → DisksFell (O.refuses disks.old path.now) O.D.faults (O.at_path disks.new path.now) (O.faults disks.old) (O.faults disks.new)) }
-    ensures disks_stay { MatchResult result (λ _. O.faults disks.new ≡ O.faults disks.old) (λ why. why ≢ Unopened.Fault → O.faults disks.new ≡ O.faults disks.old) }
-    ensures back { IfErr result (λ why. IsBack (O.at_path disks.old path.now) (O.at_path disks.new path.now)) }
-    ensures others { OthersStay path.now (O.at_path disks.old) (O.at_path disks.new) }
-{
-    let Ok(disk) = disks.open(path) else {
-        return Err(Unopened::Fault);
-    };
-    match store_on(alloc, disk) {
-        Ok(store) => Ok(store),
-        Err((disk, why)) => {
-            disks.back(path, disk);
-            Err(why)
-        }
-    }
-}
-
-/// Gives the disk of a store back to its path, and says whether it has counted a fault.
-pub(crate) fn close<O: Disks>(disks: &mut O, path: &str, store: Store<Journal<O::D>>) -> bool
-    ensures closed { IsClosed O.D.faults (O.at_path disks.old path.now) (O.at_path disks.new path.now) (⟦<Journal<O::D> as Keeper>⟧.faults store.keeper)
-        (λ disk. HoldsLog ⟦<Journal<O::D> as Keeper>⟧.down ⟦<Journal<O::D> as Keeper>⟧.in_flight store.keeper store.book (O.D.told disk)) }
-    ensures others { OthersStay path.now (O.at_path disks.old) (O.at_path disks.new) }
-    ensures failed { result ≡ true → 0 < ⟦<Journal<O::D> as Keeper>⟧.faults store.keeper }
-    ensures stays { result ≡ false → ⟦<Journal<O::D> as Keeper>⟧.faults store.keeper ≡ 0 }
-    ensures counts { O.faults disks.new ≡ raised_by (⟦<Journal<O::D> as Keeper>⟧.faults store.keeper) (O.faults disks.old) }
-    ensures level { ⟦<Journal<O::D> as Keeper>⟧.faults store.keeper ≡ 0 → O.faults disks.new ≡ O.faults disks.old }
+/// The disk of a store. It has the log, and so has what a crash leaves of it.
+pub(crate) fn disk_of<B: Since + Send, D: Disk + Send>(store: Store<Watched<B, Journal<D>>>) -> D
+    ensures holds { HoldsLog ⟦<Journal<D> as Keeper>⟧.down ⟦<Journal<D> as Keeper>⟧.in_flight store.keeper store.book (D.told result) }
+    ensures leaves { KeepsThrough B.since B.least B.before (D.may_leave result) (D.left_since result) ⟦<Journal<D> as Keeper>⟧.down ⟦<Journal<D> as Keeper>⟧.in_flight store.keeper store.book (D.told result) }
+    ensures faults { D.faults result ≡ ⟦<Journal<D> as Keeper>⟧.faults store.keeper }
 {
     store.log_is_kept();
-    let disk = store.into_keeper().into_disk();
-    let failed = disk.fault_count() > 0;
-    disks.back(path, disk);
-    failed
+    store.into_keeper().into_inner().into_disk()
 }

@@ -9,6 +9,7 @@ ghost use Rattle.cat_drill.specs.Drill.{drill_line};
 ghost use Rattle.cat_cli.specs.Journals.{DisksFell, IsBack, RoseBy, told_at};
 ghost use Rattle.cat_cli.specs.Lines.{no_memory_line, usage_line};
 ghost use Rattle.cat_cli.specs.Runs.{ChecksKnown, DrillsKnown, SaysKnown, TellsKnown, ends_drill, journal_of, spares_disks, tells_all};
+ghost use Rattle.cat_cli.specs.Surviving.{images_at};
 
 use crate::checking::check;
 use crate::scripting::script;
@@ -49,12 +50,14 @@ pub fn run<R: Threads + Wait + Sync, O: Disks, S: Source, K: Sink, C: Clock, L: 
         → SaysKnown (DisksFell (O.refuses disks.old journal) O.D.faults (O.at_path disks.new journal) (O.faults disks.old) (O.faults disks.new))
         (RoseBy (O.faults disks.old) (O.faults disks.new)) (O.faults disks.new ≡ O.faults disks.old)
         (C.ahead clock.old) (C.ahead clock.new) (S.left source.old) (S.left source.new) (K.held sink.old) result (K.held sink.new) (K.faults sink.old) (K.faults sink.new)
-        (told_at O.D.told (O.at_path disks.old journal)) (told_at O.D.told (O.at_path disks.new journal)) }
+        (told_at O.D.told (O.at_path disks.old journal)) (told_at O.D.told (O.at_path disks.new journal))
+        (images_at O.D.may_leave O.D.moment O.D.left_since (O.at_path disks.old journal) (O.at_path disks.new journal)) }
     // What a check writes is the line of the catalogue that the journal's entries lead to.
     ensures checked { (journal : List ℕ) → asked (map (λ word. word.now) words.now) ≡ Some (check journal)
         → ChecksKnown (DisksFell (O.refuses disks.old journal) O.D.faults (O.at_path disks.new journal) (O.faults disks.old) (O.faults disks.new))
         (O.faults disks.new ≡ O.faults disks.old) (K.held sink.old) result (K.held sink.new) (K.faults sink.old) (K.faults sink.new)
-        (told_at O.D.told (O.at_path disks.old journal)) (told_at O.D.told (O.at_path disks.new journal)) }
+        (told_at O.D.told (O.at_path disks.old journal)) (told_at O.D.told (O.at_path disks.new journal))
+        (images_at O.D.may_leave O.D.moment O.D.left_since (O.at_path disks.old journal) (O.at_path disks.new journal)) }
     // What a drill writes is the line of the catalogue that its seed and its steps make.
     ensures drilled { (seed commits : ℕ) → asked (map (λ word. word.now) words.now) ≡ Some (drill seed commits)
         → DrillsKnown (drill_line seed commits) (K.held sink.old) result (K.held sink.new) (K.faults sink.old) (K.faults sink.new) }

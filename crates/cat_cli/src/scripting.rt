@@ -3,24 +3,25 @@
 ghost use Rattle.std.specs.Prelude.{ℕ, ◌≡◌, ◌≢◌, ◌≤◌, IfErr, IfOk, IsTrue, None, Some};
 ghost use Rattle.cat_io.specs.Causes.{Rose};
 ghost use Rattle.cat_io.specs.Places.{OthersStay};
-ghost use Rattle.cat_cli.specs.Journals.{DisksFell, IsBack, RoseBy, told_at};
-ghost use Rattle.cat_cli.specs.Opening.{status_of};
-ghost use Rattle.cat_cli.specs.Runs.{SaysKnown, spares_disks, tells_all};
+ghost use Rattle.cat_cli.specs.Journals.{DisksFell, IsBack, RoseBy, StandsFor, told_at};
+ghost use Rattle.cat_cli.specs.Opening.{IsReason, status_of};
+ghost use Rattle.cat_cli.specs.Runs.{CountedBy, RanKnown, SaysKnown, spares_disks, tells_all};
 ghost use Rattle.cat_cli.specs.Stores.{RunsKnown};
+ghost use Rattle.cat_cli.specs.Surviving.{IsBegun, Spared, images_at, images_of};
 ghost use Rattle.cat_model.specs.Drafts.{nothing_open};
 
 use crate::ending::Session;
-use crate::journal::{close, open};
+use crate::journal::{disk_of, store_on};
 use crate::session::run_session;
 use crate::status::Status;
-use crate::telling::tell_no_memory;
-use crate::unopened::refuse;
+use crate::unopened::{Unopened, refuse};
 use cat_codes::fault::NoMemory;
 use cat_core::Store;
-use cat_io::{Clock, Disks, Sink, Source};
-use cat_keeper::Keeper;
+use cat_io::{Clock, Disk, Disks, Sink, Source};
+use cat_keeper::{Keeper, Since};
 use cat_work::{hold, release};
 use std::alloc::Global;
+use std::marker::{Brand, Send};
 use std::sync::Wait;
 
 // The status after a session, by whether the disk failed.
@@ -71,6 +72,41 @@ fn hold_session<R: Wait, K0: Keeper, S: Source, K: Sink, C: Clock>(
     }
 }
 
+// A session on the catalogue of the journal of a disk, and how it ended; or why none was held. The
+// disk comes back. It is watched what a crash might have left of it since it was given here.
+fn session_on<B: Since + Send, R: Wait, D: Disk + Send, S: Source, K: Sink, C: Clock>(
+    rt: &R,
+    alloc: Global,
+    disk: D,
+    source: &mut S,
+    sink: &mut K,
+    clock: &mut C,
+) -> (D, Result<Session, Unopened>)
+    requires begun { IsBegun B.since B.least B.before (D.told disk) (D.moment disk) (D.may_leave disk) }
+    requires fresh { D.faults disk ≡ 0 }
+    ensures ran { IfOk result.1 (λ end. RanKnown (CountedBy (D.faults result.0)) (C.ahead clock.old) (C.ahead clock.new) (S.left source.old) (S.left source.new) (K.held sink.old) (K.held sink.new) (K.faults sink.old) (K.faults sink.new)
+        (D.told disk) (D.told result.0) (images_of D.may_leave D.moment D.left_since disk result.0) end) }
+    ensures read { IfOk result.1 (λ end. end ≡ Session.ReadFault → Rose (S.faults source.old) (S.faults source.new)) }
+    ensures write { IfOk result.1 (λ end. end ≡ Session.WriteFault → Rose (K.faults sink.old) (K.faults sink.new)) }
+    ensures source_stays { IfOk result.1 (λ end. end ≢ Session.ReadFault → S.faults source.new ≡ S.faults source.old) }
+    ensures sink_stays { IfOk result.1 (λ end. end ≢ Session.WriteFault → K.faults sink.new ≡ K.faults sink.old) }
+    ensures reason { IfErr result.1 (λ why. IsReason (D.told disk) why) }
+    ensures stands { IfErr result.1 (λ _. StandsFor (D.told disk) (D.told result.0)) }
+    ensures spared { IfErr result.1 (λ _. Spared (D.told disk) (D.told result.0) (images_of D.may_leave D.moment D.left_since disk result.0)) }
+    ensures cause { IfErr result.1 (λ why. why ≡ Unopened.Fault → Rose 0 (D.faults result.0)) }
+    ensures level { IfErr result.1 (λ why. why ≢ Unopened.Fault → D.faults result.0 ≡ 0) }
+    ensures untold { IfErr result.1 (λ _. sink.new ≡ sink.old) }
+    ensures unread { IfErr result.1 (λ _. (source.new ≡ source.old) × (clock.new ≡ clock.old)) }
+{
+    match store_on::<B, D>(alloc, disk) {
+        Ok(store) => match hold_session(rt, alloc, store, source, sink, clock) {
+            Ok((store, end)) => (disk_of(store), Ok(end)),
+            Err((store, _)) => (disk_of(store), Err(Unopened::NoMemory)),
+        },
+        Err((disk, why)) => (disk, Err(why)),
+    }
+}
+
 /// One session, on the catalogue of the journal.
 #[allow(clippy::too_many_arguments)]
 pub(crate) fn script<R: Wait, O: Disks, S: Source, K: Sink, C: Clock>(
@@ -85,7 +121,8 @@ pub(crate) fn script<R: Wait, O: Disks, S: Source, K: Sink, C: Clock>(
     ensures replies { SaysKnown (DisksFell (O.refuses disks.old path.now) O.D.faults (O.at_path disks.new path.now) (O.faults disks.old) (O.faults disks.new))
         (RoseBy (O.faults disks.old) (O.faults disks.new)) (O.faults disks.new ≡ O.faults disks.old)
         (C.ahead clock.old) (C.ahead clock.new) (S.left source.old) (S.left source.new) (K.held sink.old) result (K.held sink.new) (K.faults sink.old) (K.faults sink.new)
-        (told_at O.D.told (O.at_path disks.old path.now)) (told_at O.D.told (O.at_path disks.new path.now)) }
+        (told_at O.D.told (O.at_path disks.old path.now)) (told_at O.D.told (O.at_path disks.new path.now))
+        (images_at O.D.may_leave O.D.moment O.D.left_since (O.at_path disks.old path.now) (O.at_path disks.new path.now)) }
     ensures taken { result ≢ Status.Usage }
     ensures read { result ≡ Status.ReadFault → Rose (S.faults source.old) (S.faults source.new) }
     ensures write { result ≡ Status.WriteFault → Rose (K.faults sink.old) (K.faults sink.new) }
@@ -96,17 +133,14 @@ pub(crate) fn script<R: Wait, O: Disks, S: Source, K: Sink, C: Clock>(
     ensures back { IsBack (O.at_path disks.old path.now) (O.at_path disks.new path.now) }
     ensures others { OthersStay path.now (O.at_path disks.old) (O.at_path disks.new) }
 {
-    match open(alloc, disks, path) {
-        Ok(store) => match hold_session(rt, alloc, store, source, sink, clock) {
-            Ok((store, end)) => {
-                let failed = close(disks, path, store);
-                status_of(end, failed)
-            }
-            Err((store, _)) => {
-                close(disks, path, store);
-                tell_no_memory(sink)
-            }
-        },
+    let Ok(disk) = disks.open(path) else {
+        return refuse(alloc, Unopened::Fault, sink);
+    };
+    let (disk, held) = session_on::<Brand, R, O::D, S, K, C>(rt, alloc, disk, source, sink, clock);
+    let failed = disk.fault_count() > 0;
+    disks.back(path, disk);
+    match held {
+        Ok(end) => status_of(end, failed),
         Err(why) => refuse(alloc, why, sink),
     }
 }

@@ -1,39 +1,37 @@
-use Rattle.std.specs.Option.{option_map}
-use Rattle.std.proofs.Common.{◌≡◌, ◌∙◌, inr}
-use Rattle.cat_journal.specs.declared.journal.Journal.{Journal}
-use Rattle.cat_journal.specs.Frames.{payload_of}
-use Rattle.cat_keeper.specs.KeeperLaws.{none_flies}
+use Rattle.std.proofs.Common.{◌≡◌, inl, inr, refl, ◌∙◌}
 use Rattle.cat_cli.specs.Journals.{DisksFell}
-use Rattle.cat_cli.proofs.Counted.{checks, checks_none}
-use Rattle.cat_cli.proofs.Opened.{refuses_known, spares}
+use Rattle.cat_cli.proofs.Counted.{checks}
+use Rattle.cat_cli.proofs.Opened.{back_again, disk_fell, rose_first, spares}
+use Rattle.cat_cli.proofs.Refused.{never_opened, of_err, of_ok, refused_there}
+use Rattle.cat_cli.proofs.Surviving.{stands_as, tells_of}
 use Rattle.cat_cli.proofs.checking.check.Goals as goal
 
 pub returns-in-Ok-line-clause-checked : goal.returns-in-Ok-line-clause-checked
-returns-in-Ok-line-clause-checked g c w =
-    checks {K = Journal g.row.O-D.Denot g.O.D.Disk} g.O.D.Disk.told g.O.D.Disk.faults (λ j. j.down) (λ j. option_map (λ _. payload_of j.frame.items) j.down) (λ j. g.O.D.Disk.faults j.disk)
-    _ _ _ c.in-Ok.store _ _ _ _ c.in-Ok.ensures.opened (none_flies _ _ c.in-Ok.ensures.opened.stored.up) c.close.ensures.closed
-    (DisksFell (g.O.Disks.refuses c.args.disks.now c.args.path.now) g.O.D.Disk.faults (g.O.Disks.at_path c.close.new.disks c.args.path.now) (g.O.Disks.faults c.args.disks.now) (g.O.Disks.faults c.close.new.disks)) _ (c.close.ensures.level c.in-Ok.ensures.opened.fresh ∙ c.in-Ok.ensures.disks_stay)
-    c.as_str.result.now w c.tell_counts.result (c.as_str.ensures.value ∙ c.in-Ok-line.ensures) c.tell_counts.ensures.told
-
-pub returns-in-Err-line-clause-checked : goal.returns-in-Err-line-clause-checked
-returns-in-Err-line-clause-checked g c w =
-    checks_none {K = Journal g.row.O-D.Denot g.O.D.Disk} g.O.D.Disk.told g.O.D.Disk.faults (λ j. j.down) (λ j. option_map (λ _. payload_of j.frame.items) j.down) (λ j. g.O.D.Disk.faults j.disk)
-    _ _ _ c.in-Ok.store _ _ _ _ c.in-Ok.ensures.opened (none_flies _ _ c.in-Ok.ensures.opened.stored.up) c.close.ensures.closed
-    (DisksFell (g.O.Disks.refuses c.args.disks.now c.args.path.now) g.O.D.Disk.faults (g.O.Disks.at_path c.close.new.disks c.args.path.now) (g.O.Disks.faults c.args.disks.now) (g.O.Disks.faults c.close.new.disks)) _ (c.close.ensures.level c.in-Ok.ensures.opened.fresh ∙ c.in-Ok.ensures.disks_stay)
-    w c.tell_no_memory.result c.tell_no_memory.ensures.status c.tell_no_memory.ensures.told
+returns-in-Ok-line-clause-checked g c =
+    let line = of_ok _ _ _ _ c.in-Ok-line.is c.line_on-disk.ensures.line in
+    let level = of_ok _ _ _ _ c.in-Ok-line.is c.line_on-disk.ensures.level in
+    checks g.O.D.Disk.told g.O.D.Disk.may_leave g.O.D.Disk.moment g.O.D.Disk.left_since (g.O.Disks.at_path c.args.disks.now c.args.path.now) _ (g.O.Disks.at_path c.back.new.self c.args.path.now) c.in-Ok.disk c.line_on-disk.result.0 (stands_as g.O.D.Disk.told g.O.D.Disk.may_leave g.O.D.Disk.moment g.O.D.Disk.left_since g.O.Disks.handed g.met.O.Disks.handed_tells g.met.O.Disks.handed_leaves g.met.O.Disks.handed_moment (g.O.Disks.at_path c.args.disks.now c.args.path.now) c.in-Ok.disk c.in-Ok.ensures.given) c.in-Ok.ensures.taken c.back.ensures.stands
+    (DisksFell (g.O.Disks.refuses c.args.disks.now c.args.path.now) g.O.D.Disk.faults (g.O.Disks.at_path c.back.new.self c.args.path.now) (g.O.Disks.faults c.args.disks.now) (g.O.Disks.faults c.back.new.self)) _ (c.back.ensures.level level ∙ c.in-Ok.ensures.cause.stays) c.as_str.result.now line.0 c.tell_counts.result _ _ _ _
+    line.2 (c.as_str.ensures.value ∙ line.1) c.tell_counts.ensures.told
 
 pub returns-in-Err-clause-checked : goal.returns-in-Err-clause-checked
 returns-in-Err-clause-checked g c w f =
-    let x = refuses_known (DisksFell (g.O.Disks.refuses c.args.disks.now c.args.path.now) g.O.D.Disk.faults (g.O.Disks.at_path c.open.new.disks c.args.path.now) (g.O.Disks.faults c.args.disks.now) (g.O.Disks.faults c.open.new.disks))
-    (g.O.Disks.faults c.open.new.disks ≡ g.O.Disks.faults c.args.disks.now) c.in-Err.why c.refuse.result _ _ _ _ _ _ w
-    c.in-Err.ensures.reason c.in-Err.ensures.cause c.in-Err.ensures.disks_stay c.refuse.ensures.ends c.in-Err.ensures.stands c.refuse.ensures.told f in
+    let reason_is = of_err _ _ _ _ c.in-Err.is c.line_on-disk.ensures.reason in
+    let stands_is = of_err _ _ _ _ c.in-Err.is c.line_on-disk.ensures.stands in
+    let spared_is = of_err _ _ _ _ c.in-Err.is c.line_on-disk.ensures.spared in
+    let cause_is = of_err _ _ _ _ c.in-Err.is c.line_on-disk.ensures.cause in
+    let level_is = of_err _ _ _ _ c.in-Err.is c.line_on-disk.ensures.level in
+    let x = refused_there g.O.D.Disk.told g.O.D.Disk.may_leave g.O.D.Disk.moment g.O.D.Disk.left_since (g.O.Disks.at_path c.args.disks.now c.args.path.now) _ (g.O.Disks.at_path c.back.new.self c.args.path.now) c.in-Ok.disk c.line_on-disk.result.0 (stands_as g.O.D.Disk.told g.O.D.Disk.may_leave g.O.D.Disk.moment g.O.D.Disk.left_since g.O.Disks.handed g.met.O.Disks.handed_tells g.met.O.Disks.handed_leaves g.met.O.Disks.handed_moment (g.O.Disks.at_path c.args.disks.now c.args.path.now) c.in-Ok.disk c.in-Ok.ensures.given) c.in-Ok.ensures.taken c.back.ensures.stands
+    (DisksFell (g.O.Disks.refuses c.args.disks.now c.args.path.now) g.O.D.Disk.faults (g.O.Disks.at_path c.back.new.self c.args.path.now) (g.O.Disks.faults c.args.disks.now) (g.O.Disks.faults c.back.new.self)) (g.O.Disks.faults c.back.new.self ≡ g.O.Disks.faults c.args.disks.now) c.in-Err.why c.refuse-in-Err.result _ _ _ _ w
+    reason_is stands_is spared_is
+    (λ is. disk_fell _ g.O.D.Disk.faults (g.O.Disks.at_path c.args.disks.now c.args.path.now) _ (g.O.Disks.at_path c.back.new.self c.args.path.now) c.line_on-disk.result.0 _ _ _ _ c.in-Ok.ensures.taken c.back.ensures.stands refl c.in-Ok.ensures.cause.stays c.back.ensures.faults (rose_first 0 _ refl (cause_is is)))
+    (λ other. c.back.ensures.level (level_is other) ∙ c.in-Ok.ensures.cause.stays) c.refuse-in-Err.ensures.ends c.refuse-in-Err.ensures.told f in
     (x.0, x.1, inr x.2)
 
-pub returns-in-Ok-line-clause-disks_stay : goal.returns-in-Ok-line-clause-disks_stay
-returns-in-Ok-line-clause-disks_stay g c is = c.close.ensures.level c.in-Ok.ensures.opened.fresh ∙ c.in-Ok.ensures.disks_stay
-
-pub returns-in-Err-line-clause-disks_stay : goal.returns-in-Err-line-clause-disks_stay
-returns-in-Err-line-clause-disks_stay g c is = c.close.ensures.level c.in-Ok.ensures.opened.fresh ∙ c.in-Ok.ensures.disks_stay
-
-pub returns-in-Err-clause-disks_stay : goal.returns-in-Err-clause-disks_stay
-returns-in-Err-clause-disks_stay g c is = c.in-Err.ensures.disks_stay (spares c.in-Err.why c.refuse.result c.refuse.ensures.ends is)
+pub returns-in_default-clause-checked : goal.returns-in_default-clause-checked
+returns-in_default-clause-checked g c w f =
+    let laws = g.met.O.D.Disk g.world.𝓛 g.world.𝓜 g.world.𝓡 ((λ s x. x), (λ x. x), (λ x. x), λ x. x) in
+    let x = never_opened g.O.D.Disk.told g.O.D.Disk.may_leave g.O.D.Disk.moment g.O.D.Disk.left_since laws.only_now (g.O.Disks.at_path c.args.disks.now c.args.path.now) (g.O.Disks.at_path c.open.new.self c.args.path.now) c.in_default.ensures.stays
+    (DisksFell (g.O.Disks.refuses c.args.disks.now c.args.path.now) g.O.D.Disk.faults (g.O.Disks.at_path c.open.new.self c.args.path.now) (g.O.Disks.faults c.args.disks.now) (g.O.Disks.faults c.open.new.self)) (g.O.Disks.faults c.open.new.self ≡ g.O.Disks.faults c.args.disks.now) c.refuse.result _ _ _ _ w
+    (record { rose = c.in_default.ensures.cause.failed; cause = inl c.in_default.ensures.refused }) c.refuse.ensures.ends c.refuse.ensures.told f in
+    (x.0, x.1, inr x.2)

@@ -1,57 +1,44 @@
-use Rattle.std.specs.Option.{option_map}
-use Rattle.std.proofs.Common.{◌≡◌, [], inr, refl, sym, ◌∙◌, ap}
-use Rattle.cat_journal.specs.declared.journal.Journal.{Journal}
-use Rattle.cat_journal.specs.Frames.{payload_of}
-use Rattle.cat_keeper.specs.KeeperLaws.{none_flies}
+use Rattle.std.proofs.Common.{rules, ◌≡◌, [], inl, inr, refl, sym, ◌∙◌, ap}
 use Rattle.cat_cli.specs.Journals.{DisksFell, RoseBy}
 use Rattle.cat_cli.proofs.Clocked.{some_readings}
-use Rattle.cat_cli.proofs.Counted.{says_none}
-use Rattle.cat_cli.proofs.Opened.{disk_fell, refuses_known, rises, spares}
+use Rattle.cat_cli.proofs.Opened.{back_again, disk_fell, rose_first, rose_there, spares}
 use Rattle.cat_cli.proofs.Ran.{disk_failed, says, spared}
+use Rattle.cat_cli.proofs.Refused.{never_opened, of_err, of_ok, refused_there}
+use Rattle.cat_cli.proofs.Surviving.{stands_as, tells_of}
 use Rattle.cat_cli.proofs.scripting.script.Goals as goal
 
-pub returns-in-Ok-hold_session-clause-replies : goal.returns-in-Ok-hold_session-clause-replies
-returns-in-Ok-hold_session-clause-replies g c b w =
-    says {K = Journal g.row.O-D.Denot g.O.D.Disk} g.O.D.Disk.told g.O.D.Disk.faults (λ j. j.down) (λ j. option_map (λ _. payload_of j.frame.items) j.down) (λ j. g.O.D.Disk.faults j.disk)
-    _ _ _ c.in-Ok.store c.in-Ok-hold_session.store _ _ _ _ _ _ _ _ c.in-Ok-hold_session.end c.in-Ok.ensures.opened c.in-Ok-hold_session.ensures.ends c.close-failed.ensures.closed
-    (DisksFell (g.O.Disks.refuses c.args.disks.now c.args.path.now) g.O.D.Disk.faults (g.O.Disks.at_path c.close-failed.new.disks c.args.path.now) (g.O.Disks.faults c.args.disks.now) (g.O.Disks.faults c.close-failed.new.disks))
-    (RoseBy (g.O.Disks.faults c.args.disks.now) (g.O.Disks.faults c.close-failed.new.disks)) _ b w c.close-failed.result c.status_of.result c.status_of.ensures
-    (λ count fallen. rises _ _ _ _ _ count (c.in-Ok.ensures.fresh.2 ∙ c.in-Ok.ensures.opened.fresh) c.in-Ok.ensures.disks_stay c.close-failed.ensures.counts (c.in-Ok-hold_session.ensures.rose count fallen))
-    c.close-failed.ensures.stays (λ none. c.close-failed.ensures.level none ∙ c.in-Ok.ensures.disks_stay)
+pub returns-in-Ok-held-clause-replies : goal.returns-in-Ok-held-clause-replies
+returns-in-Ok-held-clause-replies g c =
+    says g.O.D.Disk.told g.O.D.Disk.may_leave g.O.D.Disk.moment g.O.D.Disk.left_since (g.O.Disks.at_path c.args.disks.now c.args.path.now) _ (g.O.Disks.at_path c.back.new.self c.args.path.now) c.in-Ok.disk c.session_on-disk.result.0 (stands_as g.O.D.Disk.told g.O.D.Disk.may_leave g.O.D.Disk.moment g.O.D.Disk.left_since g.O.Disks.handed g.met.O.Disks.handed_tells g.met.O.Disks.handed_leaves g.met.O.Disks.handed_moment (g.O.Disks.at_path c.args.disks.now c.args.path.now) c.in-Ok.disk c.in-Ok.ensures.given) c.in-Ok.ensures.taken c.back.ensures.stands
+    (DisksFell (g.O.Disks.refuses c.args.disks.now c.args.path.now) g.O.D.Disk.faults (g.O.Disks.at_path c.back.new.self c.args.path.now) (g.O.Disks.faults c.args.disks.now) (g.O.Disks.faults c.back.new.self))
+    (RoseBy (g.O.Disks.faults c.args.disks.now) (g.O.Disks.faults c.back.new.self)) _ (g.O.D.Disk.faults c.session_on-disk.result.0) _ _ _ _ _ _ _ _ c.in-Ok-held.end _ c.status_of.result
+    (of_ok _ _ _ _ c.in-Ok-held.is c.session_on-disk.ensures.ran) c.status_of.ensures (λ count counted. rose_there _ _ _ _ count c.in-Ok.ensures.cause.stays c.back.ensures.faults counted)
+    (search rules) (λ none. c.back.ensures.level none ∙ c.in-Ok.ensures.cause.stays)
 
-pub returns-in-Ok-hold_session-clause-disk : goal.returns-in-Ok-hold_session-clause-disk
-returns-in-Ok-hold_session-clause-disk g c is =
-    disk_fell _ g.O.D.Disk.faults _ _ _ c.close-failed.ensures.closed.disk _ _ _ _ c.in-Ok.ensures.opened.out c.close-failed.ensures.closed.back c.close-failed.ensures.closed.counted
-    c.in-Ok.ensures.disks_stay c.close-failed.ensures.counts (c.close-failed.ensures.failed (disk_failed c.in-Ok-hold_session.end c.close-failed.result (sym c.status_of.ensures ∙ is)))
-
-pub returns-in-Ok-hold_session-clause-disks_stay : goal.returns-in-Ok-hold_session-clause-disks_stay
-returns-in-Ok-hold_session-clause-disks_stay g c is =
-    c.close-failed.ensures.level (c.close-failed.ensures.stays (spared c.in-Ok-hold_session.end c.close-failed.result c.status_of.result c.status_of.ensures is)) ∙ c.in-Ok.ensures.disks_stay
-
--- memory ran out before the session
-pub returns-in-Err-hold_session-clause-replies : goal.returns-in-Err-hold_session-clause-replies
-returns-in-Err-hold_session-clause-replies g c b w e f =
-    let opened = rw (sym c.in-Err-hold_session.ensures.back) at c.in-Ok.ensures.opened in
-    let told = rw c.in-Err-hold_session.ensures.untold at c.tell_no_memory.ensures.told in
-    let k = some_readings [] (g.C.Clock.ahead c.args.clock.now) _ refl in
-    let x = says_none {K = Journal g.row.O-D.Denot g.O.D.Disk} g.O.D.Disk.told g.O.D.Disk.faults (λ j. j.down) (λ j. option_map (λ _. payload_of j.frame.items) j.down) (λ j. g.O.D.Disk.faults j.disk)
-    _ _ _ c.in-Err-hold_session.store _ _ _ _ opened (none_flies _ _ opened.stored.up) c.close.ensures.closed (DisksFell (g.O.Disks.refuses c.args.disks.now c.args.path.now) g.O.D.Disk.faults (g.O.Disks.at_path c.close.new.disks c.args.path.now) (g.O.Disks.faults c.args.disks.now) (g.O.Disks.faults c.close.new.disks)) _
-    (c.close.ensures.level opened.fresh ∙ c.in-Ok.ensures.disks_stay) _ k.0 _ _ b _ w c.tell_no_memory.result c.tell_no_memory.ensures.status told (ap g.C.Clock.ahead c.in-Err-hold_session.ensures.unread.1) f in
-    (k.0, k.1, x.0, x.1, x.2)
-
-pub returns-in-Err-hold_session-clause-disks_stay : goal.returns-in-Err-hold_session-clause-disks_stay
-returns-in-Err-hold_session-clause-disks_stay g c is =
-    let opened = rw (sym c.in-Err-hold_session.ensures.back) at c.in-Ok.ensures.opened in
-    c.close.ensures.level opened.fresh ∙ c.in-Ok.ensures.disks_stay
-
--- no journal was opened
 pub returns-in-Err-clause-replies : goal.returns-in-Err-clause-replies
 returns-in-Err-clause-replies g c b w e f =
+    let reason_is = of_err _ _ _ _ c.in-Err.is c.session_on-disk.ensures.reason in
+    let stands_is = of_err _ _ _ _ c.in-Err.is c.session_on-disk.ensures.stands in
+    let spared_is = of_err _ _ _ _ c.in-Err.is c.session_on-disk.ensures.spared in
+    let cause_is = of_err _ _ _ _ c.in-Err.is c.session_on-disk.ensures.cause in
+    let level_is = of_err _ _ _ _ c.in-Err.is c.session_on-disk.ensures.level in
+    let untold_is = of_err _ _ _ _ c.in-Err.is c.session_on-disk.ensures.untold in
+    let unread_is = of_err _ _ _ _ c.in-Err.is c.session_on-disk.ensures.unread in
     let k = some_readings [] (g.C.Clock.ahead c.args.clock.now) _ refl in
-    let x = refuses_known (DisksFell (g.O.Disks.refuses c.args.disks.now c.args.path.now) g.O.D.Disk.faults (g.O.Disks.at_path c.open.new.disks c.args.path.now) (g.O.Disks.faults c.args.disks.now) (g.O.Disks.faults c.open.new.disks))
-    (g.O.Disks.faults c.open.new.disks ≡ g.O.Disks.faults c.args.disks.now) c.in-Err.why c.refuse.result _ _ _ _ _ _ w
-    c.in-Err.ensures.reason c.in-Err.ensures.cause c.in-Err.ensures.disks_stay c.refuse.ensures.ends c.in-Err.ensures.stands c.refuse.ensures.told f in
-    (k.0, k.1, x.0, x.1, inr (x.2, refl))
+    let told = rw untold_is at c.refuse-in-Err.ensures.told in
+    let x = refused_there g.O.D.Disk.told g.O.D.Disk.may_leave g.O.D.Disk.moment g.O.D.Disk.left_since (g.O.Disks.at_path c.args.disks.now c.args.path.now) _ (g.O.Disks.at_path c.back.new.self c.args.path.now) c.in-Ok.disk c.session_on-disk.result.0 (stands_as g.O.D.Disk.told g.O.D.Disk.may_leave g.O.D.Disk.moment g.O.D.Disk.left_since g.O.Disks.handed g.met.O.Disks.handed_tells g.met.O.Disks.handed_leaves g.met.O.Disks.handed_moment (g.O.Disks.at_path c.args.disks.now c.args.path.now) c.in-Ok.disk c.in-Ok.ensures.given) c.in-Ok.ensures.taken c.back.ensures.stands
+    (DisksFell (g.O.Disks.refuses c.args.disks.now c.args.path.now) g.O.D.Disk.faults (g.O.Disks.at_path c.back.new.self c.args.path.now) (g.O.Disks.faults c.args.disks.now) (g.O.Disks.faults c.back.new.self)) (g.O.Disks.faults c.back.new.self ≡ g.O.Disks.faults c.args.disks.now) c.in-Err.why c.refuse-in-Err.result _ _ _ _ w
+    reason_is stands_is spared_is
+    (λ is. disk_fell _ g.O.D.Disk.faults (g.O.Disks.at_path c.args.disks.now c.args.path.now) _ (g.O.Disks.at_path c.back.new.self c.args.path.now) c.session_on-disk.result.0 _ _ _ _ c.in-Ok.ensures.taken c.back.ensures.stands refl c.in-Ok.ensures.cause.stays c.back.ensures.faults (rose_first 0 _ refl (cause_is is)))
+    (λ other. c.back.ensures.level (level_is other) ∙ c.in-Ok.ensures.cause.stays) c.refuse-in-Err.ensures.ends told f in
+    (k.0, k.1, x.0, x.1, inr (x.2, ap g.C.Clock.ahead unread_is.1))
 
-pub returns-in-Err-clause-disks_stay : goal.returns-in-Err-clause-disks_stay
-returns-in-Err-clause-disks_stay g c is = c.in-Err.ensures.disks_stay (spares c.in-Err.why c.refuse.result c.refuse.ensures.ends is)
+-- the disks refused the path
+pub returns-in_default-clause-replies : goal.returns-in_default-clause-replies
+returns-in_default-clause-replies g c b w e f =
+    let laws = g.met.O.D.Disk g.world.𝓛 g.world.𝓜 g.world.𝓡 ((λ s x. x), (λ x. x), (λ x. x), λ x. x) in
+    let k = some_readings [] (g.C.Clock.ahead c.args.clock.now) _ refl in
+    let x = never_opened g.O.D.Disk.told g.O.D.Disk.may_leave g.O.D.Disk.moment g.O.D.Disk.left_since laws.only_now (g.O.Disks.at_path c.args.disks.now c.args.path.now) (g.O.Disks.at_path c.open.new.self c.args.path.now) c.in_default.ensures.stays
+    (DisksFell (g.O.Disks.refuses c.args.disks.now c.args.path.now) g.O.D.Disk.faults (g.O.Disks.at_path c.open.new.self c.args.path.now) (g.O.Disks.faults c.args.disks.now) (g.O.Disks.faults c.open.new.self)) (g.O.Disks.faults c.open.new.self ≡ g.O.Disks.faults c.args.disks.now) c.refuse.result _ _ _ _ w
+    (record { rose = c.in_default.ensures.cause.failed; cause = inl c.in_default.ensures.refused }) c.refuse.ensures.ends c.refuse.ensures.told f in
+    (k.0, k.1, x.0, x.1, inr (x.2, refl))
