@@ -2,6 +2,7 @@ use Rattle.std.proofs.Common.{◌≡◌, ℕ, List, [], Option, Some, inr, refl,
 use Rattle.cat_words.specs.Asked.{Task, check, script, task}
 use Rattle.cat_cli.proofs.Clocked.{some_readings}
 use Rattle.cat_cli.proofs.Opened.{stands_untouched}
+use Rattle.cat_cli.proofs.Surviving.{spared_untouched}
 use Rattle.cat_cli.proofs.program.run.Goals as goal
 
 same_journal : (a b : List ℕ) → ◌≡◌ {A = Option Task} (Some (script a)) (Some (script b)) → a ≡ b
@@ -25,5 +26,14 @@ returns-in-Ok-Script-clause-still g c none = absurd (none c.in-Ok-Script.journal
 pub returns-in-Err-NoMemory-clause-replies : goal.returns-in-Err-NoMemory-clause-replies
 returns-in-Err-NoMemory-clause-replies g c journal asks b w e f =
     let k = some_readings [] (g.C.Clock.ahead c.args.clock.now) _ refl in
+    let laws = g.met.O.D.Disk g.world.𝓛 g.world.𝓜 g.world.𝓡 ((λ s x. x), (λ x. x), (λ x. x), λ x. x) in
+    let spared = spared_untouched g.O.D.Disk.told g.O.D.Disk.may_leave g.O.D.Disk.moment g.O.D.Disk.left_since laws.only_now (g.O.Disks.at_path c.args.disks.now journal) in
     let told = c.tell_no_memory.ensures.told w f in
-    (k.0, k.1, told.0, told.1, inr (rw c.tell_no_memory.ensures.status (told.2, stands_untouched _), refl))
+    (k.0, k.1, told.0, told.1, inr (rw c.tell_no_memory.ensures.status ((refl, told.2), stands_untouched _, spared), refl))
+
+pub returns-in-Err-NoMemory-clause-checked : goal.returns-in-Err-NoMemory-clause-checked
+returns-in-Err-NoMemory-clause-checked g c journal asks w f =
+    let laws = g.met.O.D.Disk g.world.𝓛 g.world.𝓜 g.world.𝓡 ((λ s x. x), (λ x. x), (λ x. x), λ x. x) in
+    let spared = spared_untouched g.O.D.Disk.told g.O.D.Disk.may_leave g.O.D.Disk.moment g.O.D.Disk.left_since laws.only_now (g.O.Disks.at_path c.args.disks.now journal) in
+    let told = c.tell_no_memory.ensures.told w f in
+    (told.0, told.1, inr (rw c.tell_no_memory.ensures.status ((refl, told.2), stands_untouched _, spared)))
