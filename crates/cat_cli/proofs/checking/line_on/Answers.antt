@@ -10,7 +10,7 @@ returns-in-Ok-line-clause-line g c = (
   c.in-Ok.store.book,
   c.in-Ok-line.ensures,
   opens {K = Journal g.row.D.Denot g.D.Disk} g.D.Disk.told g.D.Disk.may_leave g.D.Disk.moment g.D.Disk.left_since (λ j. j.down) (λ j. option_map (λ _. payload_of j.frame.items) j.down)
-    g.B.Since.since g.B.Since.least g.B.Since.before c.args.disk c.disk_of-disk.result c.in-Ok.store c.in-Ok.ensures.stored (none_flies _ _ c.in-Ok.ensures.stored.up) c.requires.begun c.disk_of-disk.ensures.holds c.disk_of-disk.ensures.leaves,
+      g.B.Since.since g.B.Since.least g.B.Since.before c.args.disk c.disk_of-disk.result c.in-Ok.store c.in-Ok.ensures.stored (none_flies _ _ c.in-Ok.ensures.stored.up) c.requires.begun c.disk_of-disk.ensures.holds c.disk_of-disk.ensures.leaves,
 )
 
 pub returns-in-Err-line-clause-stands : goal.returns-in-Err-line-clause-stands
