@@ -133,10 +133,10 @@ store_failed store_faults.NoMemory e = cc
 store_failed (store_faults.Illegal p) e = cc
 
 pub journal_spared : (fault : OpenFault) → (by_journal fault ≡ whys.Fault → ⊥) → fault ≡ faults.Fault → ⊥
-journal_spared fault other is = other (ap by_journal is)
+journal_spared _ other is = other (ap by_journal is)
 
 pub store_spared : (fault : StoreFault) → (by_store fault ≡ whys.Fault → ⊥) → fault ≡ store_faults.Fault → ⊥
-store_spared fault other is = other (ap by_store is)
+store_spared _ other is = other (ap by_store is)
 
 -- a disk's fault is one of the reasons
 refused_fault : (w h : List ℕ) (status : Status) (before now : ℕ) → FaultTold w status h before now → Refused whys.Fault w status h before now
