@@ -1,5 +1,5 @@
 -- A journal that was opened, counted and given back.
-use Rattle.std.proofs.Common.{◌≡◌, ℕ, List, [], ◌++◌, reverse, Option, Some, None, IfSome, Ok, sym, ◌∙◌, ap, subst, inl, inr}
+use Rattle.std.proofs.Common.{◌≡◌, ℕ, List, [], ◌++◌, reverse, Option, Some, None, IfSome, Ok, sym, ◌∙◌, ap, subst, inl}
 use Rattle.std.proofs.lemmas.List.{append-nil}
 use Rattle.cat_io.specs.Places.{stood, taken}
 use Rattle.cat_core.specs.Stored.{Stored}
@@ -12,7 +12,7 @@ use Rattle.cat_cli.specs.Journals.{IsJournalOf, StandsFor, told_at}
 use Rattle.cat_cli.specs.Lines.{check_line}
 use Rattle.cat_cli.specs.Opening.{Counted, CountedKnown, HoldsLog, IsStored}
 use Rattle.cat_cli.specs.Runs.{Checks, ChecksKnown, Opens, Seen}
-use Rattle.cat_cli.specs.Surviving.{IsBegun, KeepsThrough, Spared, StandsAs, Survives, images_at, images_of}
+use Rattle.cat_cli.specs.Surviving.{IsBegun, KeepsThrough, Spared, StandsAs, images_at, images_of}
 use Rattle.cat_cli.proofs.Opened.{begins_at, left_at}
 use Rattle.cat_cli.proofs.Surviving.{spared_surviving, survives, survives_at, tells_of}
 use Rattle.cat_cli.proofs.Told.{some_is, not_none}

@@ -1,5 +1,5 @@
 -- A disk that was taken from its path and given back there, of whose journal nothing was made.
-use Rattle.std.proofs.Common.{◌≡◌, ◌⊎◌, ℕ, List, Option, Some, Result, Ok, Err, refl, sym, ◌∙◌, ap, subst}
+use Rattle.std.proofs.Common.{◌≡◌, ℕ, List, Option, Some, Result, Ok, Err, refl, sym, ◌∙◌, ap, subst}
 use Rattle.std.specs.Prelude.{MatchResult}
 use Rattle.cat_io.specs.Places.{stood, taken}
 use Rattle.cat_cli.specs.declared.status.Status.{Status}

@@ -1,9 +1,9 @@
 -- From what is watched of a keeper to what a crash leaves of the journal of a run.
-use Rattle.std.proofs.Common.{◌≡◌, ◌⊎◌, ℕ, zero, suc, ◌+◌, ◌-◌, ◌≤◌, List, [], ◌∷◌, ◌++◌, length, take, Option, Some, None, Result, Ok, Err, refl, sym, ◌∙◌, ap, subst, inl, inr, ⊎_elim, arith, append_assoc, length-append}
+use Rattle.std.proofs.Common.{◌≡◌, ◌⊎◌, ℕ, suc, ◌+◌, ◌-◌, ◌≤◌, List, [], ◌∷◌, ◌++◌, length, take, Option, Some, None, Result, Ok, Err, refl, sym, ◌∙◌, ap, subst, inl, inr, ⊎_elim, arith, append_assoc, length-append}
 use Rattle.std.specs.Prelude.{◌↔◌, IfSome, ⊤}
 use Rattle.std.specs.Option.{option_map}
 use Rattle.std.proofs.lemmas.List.{append-nil, take_all}
-use Rattle.cat_io.specs.Crashes.{LeavesOnly, Only, Told}
+use Rattle.cat_io.specs.Crashes.{Only, Told}
 use Rattle.cat_io.specs.Places.{IsHanded, stood, taken}
 use Rattle.cat_journal.specs.declared.fault.OpenFault.{OpenFault}
 use Rattle.cat_journal.specs.Frames.{payloads, payloads_in, recovered}
@@ -14,7 +14,7 @@ use Rattle.cat_keeper.specs.Watching.{IsFrontOf, IsWatchedSo, with_flying}
 use Rattle.cat_ledger.specs.Kept.{spelling}
 use Rattle.cat_cli.specs.Journals.{TellsAs, told_at}
 use Rattle.cat_cli.specs.Sessions.{Fallen}
-use Rattle.cat_cli.specs.Surviving.{EndsAt, Images, IsBegun, IsEarlier, IsOnTheWay, LeavesLog, Spared, StandsAs, Survives, count_in, images_at, images_of}
+use Rattle.cat_cli.specs.Surviving.{EndsAt, Images, IsBegun, IsEarlier, IsOnTheWay, LeavesLog, Spared, StandsAs, Survives, images_at, images_of}
 
 take_past : {A : Type 0} (xs ys : List A) (m : ℕ) → take (length xs + m) (xs ++ ys) ≡ xs ++ take m ys
 take_past {A} [] ys m = let n : length {A = A} [] + m ≡ m = omega arith in ap (λ (k : ℕ). take k ys) n

@@ -45,7 +45,7 @@ pub fn run<R: Threads + Wait + Sync, O: Disks, S: Source, K: Sink, C: Clock, L: 
     ensures usage_line { result ≡ Status.Usage → TellsKnown usage_line (K.held sink.old) (K.held sink.new) (K.faults sink.old) (K.faults sink.new) }
     ensures memory_line { asked (map (λ word. word.now) words.now) ≡ None → result ≡ Status.NoMemory
         → TellsKnown no_memory_line (K.held sink.old) (K.held sink.new) (K.faults sink.old) (K.faults sink.new) }
-    // What a script writes are the replies to the requests in the bytes of the source, the journal has the entries of all that they changed, and the clock stands where their moments left it. Where a read failed, no whole request was read that isn't answered.
+    // What a script writes are the replies to the requests in the bytes of the source, the journal has the entries of all that they changed, and the clock stands where their moments left it. Where a read failed, no whole request was read that isn't answered. A crash at any moment leaves a journal with the old entries and a front of these, or what one might have left before.
     ensures replies { (journal : List ℕ) → asked (map (λ word. word.now) words.now) ≡ Some (script journal)
         → SaysKnown (DisksFell (O.refuses disks.old journal) O.D.faults (O.at_path disks.new journal) (O.faults disks.old) (O.faults disks.new))
         (RoseBy (O.faults disks.old) (O.faults disks.new)) (O.faults disks.new ≡ O.faults disks.old)

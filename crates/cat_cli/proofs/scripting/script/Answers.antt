@@ -1,10 +1,10 @@
-use Rattle.std.proofs.Common.{rules, ◌≡◌, [], inl, inr, refl, sym, ◌∙◌, ap}
+use Rattle.std.proofs.Common.{rules, ◌≡◌, [], inl, inr, refl, ◌∙◌, ap}
 use Rattle.cat_cli.specs.Journals.{DisksFell, RoseBy}
 use Rattle.cat_cli.proofs.Clocked.{some_readings}
-use Rattle.cat_cli.proofs.Opened.{back_again, disk_fell, rose_first, rose_there, spares}
-use Rattle.cat_cli.proofs.Ran.{disk_failed, says, spared}
+use Rattle.cat_cli.proofs.Opened.{disk_fell, rose_first, rose_there}
+use Rattle.cat_cli.proofs.Ran.{says}
 use Rattle.cat_cli.proofs.Refused.{never_opened, of_err, of_ok, refused_there}
-use Rattle.cat_cli.proofs.Surviving.{stands_as, tells_of}
+use Rattle.cat_cli.proofs.Surviving.{stands_as}
 use Rattle.cat_cli.proofs.scripting.script.Goals as goal
 
 pub returns-in-Ok-held-clause-replies : goal.returns-in-Ok-held-clause-replies
