@@ -13,7 +13,7 @@ use Rattle.cat_model.specs.Chain.{Commits, commit_of, chain, on_chain, generatio
 use Rattle.cat_model.specs.Same.{same_hash}
 use Rattle.cat_model.specs.State.{no_ancestor}
 use Rattle.cat_tables.specs.LookUps.{value_is_only}
-use Rattle.cat_tables.specs.Tables.{value_of}
+use Rattle.cat_tables.specs.Tables.{are_distinct, value_of}
 use Rattle.cat_graph.specs.Linked.{is_known, is_merge_known, next_generation, is_next, IsNext, AreLinked, values}
 use Rattle.cat_graph.specs.GraphLaws.{same_is, apart}
 
@@ -21,6 +21,11 @@ use Rattle.cat_graph.specs.GraphLaws.{same_is, apart}
 
 pub commit_is : (commits : Commits) (hash : Hash) → commit_of commits hash ≡ value_of commits hash
 commit_is commits hash = value_is_only commit_of (λ h. refl) (λ x older h. refl) commits hash
+
+-- no hash of linked commits comes twice
+pub linked_distinct : (commits : Commits) → AreLinked commits → are_distinct commits ≡ true
+linked_distinct [] are = refl
+linked_distinct (x ∷ older) are = rw (sym (commit_is older x.0) ∙ are.0) (linked_distinct older are.2)
 
 -- a look-up that found nothing
 pub nothing_there : (found : Option (Bor Commit)) (there : Option Commit) → option_map (λ (c : Bor Commit). c.now) found ≡ there → found ≡ None → there ≡ None

@@ -1,6 +1,6 @@
 //! Commits and their chains.
 
-ghost use Rattle.std.specs.Prelude.{◌≡◌, ◌≢◌, ◌≤◌, ◌<◌, ◌+◌, ◌-◌, ◌↔◌, [], ◌∷◌, None, Err, IfOk, IsOk, IsTrue, OnOk, OnErr, length, nat_eq, take, drop};
+ghost use Rattle.std.specs.Prelude.{◌≡◌, ◌≢◌, ◌≤◌, ◌<◌, ◌+◌, ◌-◌, ◌↔◌, [], ◌∷◌, ◌++◌, None, Err, IfOk, IsOk, IsTrue, OnOk, OnErr, length, nat_eq, take, drop};
 ghost use Rattle.std.specs.Option.{is_some, option_map};
 ghost use Rattle.cat_model.specs.Chain.{commit_of, generation, on_chain};
 ghost use Rattle.cat_model.specs.Chain;
@@ -171,6 +171,15 @@ impl Graph {
         ensures spare { self.old.spare ≤ self.new.spare + 1 }
     {
         self.table.push(hash, commit);
+    }
+
+    /// Adds the commits of a table above those that are there, into room that was made before.
+    pub fn append(&mut self, more: Table<Commit>)
+        requires room { length more.list ≤ self.old.spare }
+        requires linked { AreLinked (more.list ++ self.old.list) }
+        ensures list { self.new.list ≡ more.list ++ self.old.list }
+    {
+        self.table.append(more);
     }
 
     /// Adds a commit. One that is there is left alone, and another commit under the hash is a

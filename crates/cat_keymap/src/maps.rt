@@ -1,6 +1,6 @@
 //! The maps at commits.
 
-ghost use Rattle.std.specs.Prelude.{◌≡◌, ◌≤◌, ◌<◌, ◌+◌, ◌-◌, [], ◌∷◌, None, IsTrue, IsOk, IfOk, is_some, OnOk, OnErr, length, drop};
+ghost use Rattle.std.specs.Prelude.{◌≡◌, ◌≤◌, ◌<◌, ◌+◌, ◌-◌, [], ◌∷◌, ◌++◌, None, IsTrue, IsOk, IfOk, is_some, OnOk, OnErr, length, drop};
 ghost use Rattle.std.specs.Option.{option_map};
 ghost use Rattle.cat_tables.specs.Tables.{are_distinct};
 ghost use Rattle.cat_keymap.specs.MapsAt.{map_at, with_map};
@@ -107,6 +107,15 @@ impl Maps {
         ensures spare { self.old.spare ≤ self.new.spare + 1 }
     {
         self.table.push(hash, map);
+    }
+
+    /// Adds other maps, under hashes that are not there, into room that was made before.
+    pub fn append(&mut self, more: Maps)
+        requires room { length more.list ≤ self.old.spare }
+        requires absent { IsTrue (are_distinct (more.list ++ self.old.list)) }
+        ensures list { self.new.list ≡ more.list ++ self.old.list }
+    {
+        self.table.append(more.table);
     }
 
     /// Adds a map; a hash that is there changes nothing.

@@ -1,6 +1,6 @@
 //! Values under distinct hashes.
 
-ghost use Rattle.std.specs.Prelude.{◌≡◌, ◌≤◌, ◌<◌, ◌+◌, ◌-◌, [], ◌∷◌, None, IsTrue, IsOk, is_some, OnOk, OnErr, length, reverse, drop};
+ghost use Rattle.std.specs.Prelude.{◌≡◌, ◌≤◌, ◌<◌, ◌+◌, ◌-◌, [], ◌∷◌, ◌++◌, None, IsTrue, IsOk, is_some, OnOk, OnErr, length, reverse, drop};
 ghost use Rattle.std.specs.Option.{option_map};
 ghost use Rattle.cat_tables.specs.Tables.{are_distinct, value_of, with_value};
 
@@ -117,6 +117,18 @@ impl<V: Drop> Table<V> {
         self.reserve(1)?;
         self.push(hash, value);
         Ok(())
+    }
+
+    /// Adds the values of another table, under hashes that are not there, into room that was made
+    /// before.
+    pub fn append(&mut self, more: Table<V>)
+        requires room { length more.list ≤ self.old.spare }
+        requires absent { IsTrue (are_distinct (more.list ++ self.old.list)) }
+        ensures list { self.new.list ≡ more.list ++ self.old.list }
+    {
+        for (hash, value) in more.items {
+            self.push(hash, value);
+        }
     }
 
     /// Takes the newest value away.
