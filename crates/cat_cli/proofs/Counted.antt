@@ -4,7 +4,7 @@ use Rattle.std.proofs.lemmas.List.{append-nil}
 use Rattle.cat_io.specs.Places.{stood, taken}
 use Rattle.cat_core.specs.Stored.{Stored}
 use Rattle.cat_journal.specs.Frames.{recovered}
-use Rattle.cat_ledger.specs.Kept.{spellings}
+use Rattle.cat_state.specs.Kept.{spellings}
 use Rattle.cat_model.specs.Book.{Book}
 use Rattle.cat_cli.specs.declared.status.Status.{Status}
 use Rattle.cat_cli.specs.declared.status.Status.TheVariants as statuses

@@ -4,7 +4,7 @@ use Rattle.std.specs.Prelude.{option_map}
 use Rattle.cat_model.specs.Book.{Book}
 use Rattle.cat_model.specs.Mark.{FailedAppend, Mark}
 use Rattle.cat_model.specs.Turns.{Opened}
-use Rattle.cat_ledger.specs.Kept.{spelling}
+use Rattle.cat_state.specs.Kept.{spelling}
 use Rattle.cat_core.specs.Stored.{Stored, opened_of}
 use Rattle.cat_desk.specs.Pass.{DeskId, mark_of}
 use Rattle.cat_desk.specs.declared.pass.Pass.{Pass}

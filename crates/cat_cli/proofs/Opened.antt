@@ -8,7 +8,7 @@ use Rattle.cat_io.specs.Places.{IsHanded, stood, taken}
 use Rattle.cat_checks.specs.Legal.{replayed}
 use Rattle.cat_core.specs.declared.opening.StoreFault.{StoreFault}
 use Rattle.cat_core.specs.declared.opening.StoreFault.TheVariants as store_faults
-use Rattle.cat_ledger.specs.Kept.{spelling, spellings}
+use Rattle.cat_state.specs.Kept.{spelling, spellings}
 use Rattle.cat_core.specs.Opening.{IsIllegalAt, IsLedTo}
 use Rattle.cat_journal.specs.declared.fault.OpenFault.{OpenFault}
 use Rattle.cat_journal.specs.declared.fault.OpenFault.TheVariants as faults

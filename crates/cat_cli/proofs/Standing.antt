@@ -15,7 +15,7 @@ use Rattle.cat_model.specs.Script.{Brought, said_only}
 use Rattle.cat_http.specs.Message.{Message}
 use Rattle.cat_rest.specs.Wanted.{wanted}
 use Rattle.cat_rest.specs.Faults.{Answers}
-use Rattle.cat_ledger.specs.Kept.{spelling}
+use Rattle.cat_state.specs.Kept.{spelling}
 use Rattle.cat_desk.specs.Pass.{DeskId, IsFree, Keeps, mark_of, number_of}
 use Rattle.cat_desk.specs.declared.pass.Pass.{Pass}
 use Rattle.cat_work.specs.Answers.{AnswersAlone, RefusesAlone}

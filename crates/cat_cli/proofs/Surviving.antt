@@ -11,7 +11,7 @@ use Rattle.cat_journal.specs.Held.{outcome, outcome_of}
 use Rattle.cat_journal.specs.Reading.{OpensOnly}
 use Rattle.cat_keeper.specs.Keeping.{WithOrWithout}
 use Rattle.cat_keeper.specs.Watching.{IsFrontOf, IsWatchedSo, with_flying}
-use Rattle.cat_ledger.specs.Kept.{spelling}
+use Rattle.cat_state.specs.Kept.{spelling}
 use Rattle.cat_cli.specs.Journals.{TellsAs, told_at}
 use Rattle.cat_cli.specs.Sessions.{Fallen}
 use Rattle.cat_cli.specs.Surviving.{EndsAt, Images, IsBegun, IsEarlier, IsOnTheWay, LeavesLog, Spared, StandsAs, Survives, images_at, images_of}

@@ -14,7 +14,7 @@ use Rattle.cat_http.specs.Message.{Message}
 use Rattle.cat_http.specs.Fields.{closes}
 use Rattle.cat_http.specs.Next.{IsRequest, IsEnd, IsMalformed, IsTooLarge, IsCut}
 use Rattle.cat_rest.specs.Wanted.{wanted}
-use Rattle.cat_ledger.specs.Kept.{spelling}
+use Rattle.cat_state.specs.Kept.{spelling}
 use Rattle.cat_model.specs.Mark.{FailedAppend}
 use Rattle.cat_desk.specs.Pass.{DeskId, mark_of, number_of}
 use Rattle.cat_desk.specs.declared.pass.Pass.{Pass}

@@ -1,6 +1,6 @@
 -- A session on a store, which a desk holds meanwhile.
 use Rattle.std.specs.Prelude.{ℕ, ◌≡◌, List, Option, Some, option_map}
-use Rattle.cat_ledger.specs.Kept.{spelling}
+use Rattle.cat_state.specs.Kept.{spelling}
 use Rattle.cat_core.specs.Stored.{Stored}
 use Rattle.cat_cli.specs.declared.ending.Session.{Session as End}
 use Rattle.cat_cli.specs.Runs.{start}

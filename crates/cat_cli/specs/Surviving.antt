@@ -6,7 +6,7 @@ use Rattle.cat_journal.specs.Frames.{payloads, recovered}
 use Rattle.cat_journal.specs.Held.{outcome}
 use Rattle.cat_keeper.specs.Keeping.{WithOrWithout}
 use Rattle.cat_keeper.specs.Watching.{IsFrontOf, with_flying}
-use Rattle.cat_ledger.specs.Kept.{spelling, spellings}
+use Rattle.cat_state.specs.Kept.{spelling, spellings}
 use Rattle.cat_model.specs.Book.{Book}
 use Rattle.cat_cli.specs.Sessions.{Fallen}
 

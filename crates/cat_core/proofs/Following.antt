@@ -11,13 +11,18 @@ use Rattle.sha2.specs.Sha256.{sha256}
 use Rattle.cat_codes.specs.declared.fault.FieldFault.{FieldFault}
 use Rattle.cat_codes.specs.Code.{whole}
 use Rattle.cat_codes.specs.ListLaws.{and_true}
-use Rattle.cat_checks.specs.Legal.{draft_is_new, has_its_draft, is_just, is_legal, next_book, read_next, replayed_call}
+use Rattle.cat_checks.specs.LeadingLaws.{logged_place}
+use Rattle.cat_checks.specs.Legal.{draft_after, draft_is_new, has_its_draft, is_just, is_legal, next_book, read_next, replayed_by, replayed_call, turn_of}
 use Rattle.cat_frames.specs.Entries.{is_logged, log_entry_code}
+use Rattle.cat_model.specs.declared.command.Command.{Command}
 use Rattle.cat_model.specs.declared.log_entry.LogEntry.{LogEntry}
 use Rattle.cat_model.specs.Book.{Book, after_call}
-use Rattle.cat_model.specs.Calls.{Called}
+use Rattle.cat_model.specs.Calls.{Called, stepped}
+use Rattle.cat_model.specs.Refusing.{Outcome, Tested}
+use Rattle.cat_model.specs.State.{State}
+use Rattle.cat_model.specs.Step.{Turn, opening, step}
 use Rattle.cat_model.specs.WellMade.{is_well_made}
-use Rattle.cat_ledger.specs.Kept.{spelling, spellings}
+use Rattle.cat_state.specs.Kept.{spelling, spellings}
 use Rattle.cat_core.specs.Opening.{Adds, AreDrafts, IsMadeAgain, NewestIsLogged, ReadsAs, RunsAgain, is_newest, may_follow, next_by}
 use Rattle.cat_core.proofs.Relogged.{IsLogOf, call_logs}
 
@@ -128,6 +133,26 @@ drafts_after book after entry numbers more may made are added =
     subst (AreDrafts more) (sym (newest_is book after _ made))
     (more_drafts numbers more book.log made.entry entry.draft (logged_one entry.draft _ made.entry (call_logs book entry parts.0 parts.1) made.logged).1 are added)
 
+-- ---- the place that a call comes to
+
+choice_place : (place : ℕ) (b : Bool) (x y : Called) → (b ≡ true → x.state.place ≡ place + length x.logged) → y.state.place ≡ place + length y.logged → (if b then x else y).state.place ≡ place + length (if b then x else y).logged
+choice_place place true x y p q = p refl
+choice_place place false x y p q = q
+
+stepped_place : (state : State) (draft : ℕ) (command : Command) (turn : Turn) (outcome : Outcome) → step sha256 state command turn ≡ outcome
+    → (stepped sha256 0 state draft command turn outcome).state.place ≡ state.place + length (stepped sha256 0 state draft command turn outcome).logged
+stepped_place state draft command turn (Err why) is = omega arith
+stepped_place state draft command turn (Ok (after, reply)) is = choice_place state.place (nat_lt state.place after.place) _ _ (λ rose. logged_place sha256 state command turn after reply is rose) (omega arith)
+
+tested_place : (book : Book) (entry : LogEntry) (tests : Tested) → (replayed_by sha256 book entry tests).state.place ≡ book.state.place + length (replayed_by sha256 book entry tests).logged
+tested_place book entry (Err why) = omega arith
+tested_place book entry (Ok u) = stepped_place book.state (draft_after book entry) entry.command (turn_of book entry) (step sha256 book.state entry.command (turn_of book entry)) refl
+
+-- one more for each entry
+called_place : (book after : Book) (entry : LogEntry) → after ≡ after_call book (replayed_call sha256 book entry) → after.state.place ≡ book.state.place + length (replayed_call sha256 book entry).logged
+unfolding replayed_call
+called_place book after entry is = ap (λ (b : Book). b.state.place) is ∙ tested_place book entry (opening sha256 book.state entry.command)
+
 -- ---- by the place that the book came to
 
 one_by : (draft : ℕ) (logged : List LogEntry) (before after : ℕ) → IsLogOf draft logged → after ≡ before + length logged → before < after → (e : LogEntry) × (logged ≡ e ∷ []) × (after ≡ before + 1)
@@ -150,9 +175,12 @@ not_again book after entry n le = none_by _ book.state.place after.state.place n
 
 -- a call that was accepted, by whether the place rose
 pub ran_by : (book after : Book) (entry : LogEntry) (before now : ℕ) → is_well_made sha256 entry.command ≡ true → has_its_draft entry ≡ true → after ≡ after_call book (replayed_call sha256 book entry)
-    → after.state.place ≡ book.state.place + length (replayed_call sha256 book entry).logged → before ≡ book.state.place → now ≡ after.state.place → RunsAgain (replayed_call sha256 book entry) book after (nat_lt before now)
-ran_by book after entry before now made own is n b a = by_test (nat_lt before now) refl
+    → before ≡ book.state.place → now ≡ after.state.place → RunsAgain (replayed_call sha256 book entry) book after (nat_lt before now)
+ran_by book after entry before now made own is b a = by_test (nat_lt before now) refl
   where
+    n : after.state.place ≡ book.state.place + length (replayed_call sha256 book entry).logged
+    n = called_place book after entry is
+
     by_test : (rose : Bool) → nat_lt before now ≡ rose → RunsAgain (replayed_call sha256 book entry) book after rose
     by_test true rose = let lt : before < now = ltb-true before now rose in made_again book after entry made own is n (omega (arith, lt, b, a))
     by_test false rose = let le : now ≤ before = ltb-false before now rose in not_again book after entry n (omega (arith, le, b, a))

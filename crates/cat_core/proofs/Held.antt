@@ -4,9 +4,9 @@ use Rattle.std.proofs.lemmas.List.{map-append}
 use Rattle.std.specs.List.{filter}
 use Rattle.std.specs.Prelude.{is_err, is_ok, if◌then◌else◌}
 use Rattle.sha2.specs.Sha256.{sha256}
-use Rattle.cat_builds.specs.declared.building.Built.{Built}
-use Rattle.cat_builds.specs.declared.call.Call.{Call}
-use Rattle.cat_builds.specs.Builds.{HasHead, IsBuilt, command_of}
+use Rattle.cat_decisions.specs.declared.building.Built.{Built}
+use Rattle.cat_decisions.specs.declared.call.Call.{Call}
+use Rattle.cat_decisions.specs.Builds.{HasHead, IsBuilt, command_of}
 use Rattle.cat_checks.specs.HistoryLaws.{at_most_more, place_is}
 use Rattle.cat_checks.specs.Histories.{begun, book_after}
 use Rattle.cat_model.specs.declared.command.Command.{Command}

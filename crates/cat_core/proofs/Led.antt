@@ -9,7 +9,7 @@ use Rattle.cat_keeper.specs.Moments.{followed, started}
 use Rattle.cat_checks.specs.Legal.{replayed}
 use Rattle.cat_model.specs.declared.limits.Limits.{Limits}
 use Rattle.cat_model.specs.Book.{Book, first_book}
-use Rattle.cat_ledger.specs.Kept.{Stayed, spellings}
+use Rattle.cat_state.specs.Kept.{Stayed, spellings}
 use Rattle.cat_core.specs.Opening.{IsAdded, IsIllegalAt, IsLedSoFar, IsLedTo, IsPayloadAt, next_by}
 use Rattle.cat_core.proofs.Replaying.{goes_on, refused_at}
 

@@ -1,4 +1,5 @@
 pub mod Waiting
+pub mod Before
 pub mod Sound
 pub mod Acting
 pub mod Keeping

@@ -12,11 +12,11 @@ use Rattle.cat_model.specs.Book.{Book, after_call}
 use Rattle.cat_model.specs.Calls.{Called}
 use Rattle.cat_model.specs.Drafts.{Open}
 use Rattle.cat_model.specs.Mark.{FailedAppend}
-use Rattle.cat_plans.specs.Expiring.{is_expired}
+use Rattle.cat_decisions.specs.Expiring.{is_expired}
 use Rattle.cat_state.specs.declared.failure.Failure.TheVariants as failures
-use Rattle.cat_ledger.specs.declared.unmade.Unmade.{Unmade}
-use Rattle.cat_ledger.specs.declared.unmade.Unmade.TheVariants.{Failed, NotKept}
-use Rattle.cat_ledger.specs.Kept.{Keeps, spelling}
+use Rattle.cat_state.specs.declared.unmade.Unmade.{Unmade}
+use Rattle.cat_state.specs.declared.unmade.Unmade.TheVariants.{Failed, NotKept}
+use Rattle.cat_state.specs.Kept.{Keeps, spelling}
 use Rattle.cat_ledger.specs.Making.{Runs, unmade_expired}
 use Rattle.cat_ledger.specs.PlainLaws.{IsOther}
 use Rattle.cat_core.specs.declared.tickets.Fallen.{Fallen}

@@ -1,53 +1,25 @@
 -- What the call of an entry brings has a spelling.
-use Rattle.std.proofs.Common.{◌≡◌, ℕ, zero, suc, List, [], ◌∷◌, Ok, Err, Bool, true, false, not, nat_eq, nat_lt, is_some, if◌then◌else◌, refl, arith}
-use Rattle.std.proofs.lemmas.Bool.Decides.{nat_tests}
+use Rattle.std.proofs.Common.{◌≡◌, ℕ, List, [], ◌∷◌, Ok, Err, Bool, true, false, nat_lt, is_some, if◌then◌else◌, refl}
 use Rattle.sha2.specs.Sha256.{sha256}
-use Rattle.cat_codes.specs.ListLaws.{and_true}
 use Rattle.cat_checks.specs.Legal.{draft_after, has_its_draft, replayed_by, replayed_call, turn_of}
 use Rattle.cat_frames.specs.Entries.{is_logged}
-use Rattle.cat_frames.specs.RequestLaws.{given_is_logged}
-use Rattle.cat_model.specs.declared.command.Assign.{Assign}
 use Rattle.cat_model.specs.declared.command.Command.{Command}
-use Rattle.cat_model.specs.declared.command.Command.TheVariants as commands
-use Rattle.cat_model.specs.declared.command.CommitRequest.{CommitRequest}
-use Rattle.cat_model.specs.declared.command.Create.{Create}
-use Rattle.cat_model.specs.declared.command.Delete.{Delete}
-use Rattle.cat_model.specs.declared.command.Merge.{Merge}
-use Rattle.cat_model.specs.declared.command.Transplant.{Transplant}
-use Rattle.cat_model.specs.declared.commit.Commit.{Commit}
 use Rattle.cat_model.specs.declared.log_entry.LogEntry.{LogEntry}
 use Rattle.cat_model.specs.declared.reply.Reply.{Reply}
 use Rattle.cat_model.specs.Book.{Book}
 use Rattle.cat_model.specs.Calls.{Called, entry_made, stepped}
-use Rattle.cat_model.specs.Chain.{entries}
 use Rattle.cat_model.specs.Refusing.{Outcome, Tested}
 use Rattle.cat_model.specs.State.{State}
-use Rattle.cat_model.specs.Step.{Turn, head_told, opening, opens_draft, step}
-use Rattle.cat_model.specs.WellMade.{have_contents, is_well_made, may_be_asked}
-use Rattle.cat_core.specs.HeadLaws.{TellsHead, step_tells}
+use Rattle.cat_model.specs.Step.{Turn, head_told, opening, step}
+use Rattle.cat_model.specs.WellMade.{is_well_made}
+use Rattle.cat_ledger.specs.HeadLaws.{TellsHead, step_tells}
+use Rattle.cat_ledger.specs.LoggedLaws.{IsDraftOf, call_is_logged}
 
 -- ---- an entry that is made has a spelling
 
-some_draft : (n : ℕ) → not (nat_eq n 0) ≡ true → nat_lt 0 n ≡ true
-some_draft zero e = absurd cc
-some_draft (suc n) e = grind (arith, nat_tests)
-
--- the draft's number is the call's
-abbrev IsDraftOf : Command → ℕ → Type 0
-IsDraftOf command draft = (if opens_draft command then not (nat_eq draft 0) else nat_eq draft 0) ≡ true
-
-contents_of : (c : CommitRequest) → is_well_made sha256 (commands.Commit c) ≡ true → have_contents sha256 c.ops c.contents ≡ true
-unfolding is_well_made
-contents_of c made = (and_true (may_be_asked c.ops) (have_contents sha256 c.ops c.contents) made).1
-
 made_is_logged : (after : State) (command : Command) (turn : Turn) (reply : Reply) → is_well_made sha256 command ≡ true → IsDraftOf command turn.draft → is_some (head_told reply) ≡ true → is_logged sha256 (entry_made sha256 0 after command turn reply) ≡ true
-unfolding is_logged entry_made is_well_made
-made_is_logged after (commands.Create c) turn reply made own head = rw (own, head, made) refl
-made_is_logged after (commands.Assign c) turn reply made own head = rw (own, head, made) refl
-made_is_logged after (commands.Delete c) turn reply made own head = rw own refl
-made_is_logged after (commands.Commit c) turn reply made own head = rw (some_draft turn.draft own, head, given_is_logged sha256 turn.draft c (contents_of c made)) refl
-made_is_logged after (commands.Merge m) turn reply made own head = rw (some_draft turn.draft own, head) refl
-made_is_logged after (commands.Transplant t) turn reply made own head = rw (some_draft turn.draft own, head) refl
+unfolding entry_made
+made_is_logged after command turn reply made own head = call_is_logged after.place 0 turn.draft turn.moment command reply made own head
 
 -- ---- what a call brings
 

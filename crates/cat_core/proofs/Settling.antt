@@ -14,25 +14,25 @@ use Rattle.cat_model.specs.Drafts.{Open}
 use Rattle.cat_model.specs.Refusing.{◌>>=◌, Tested}
 use Rattle.cat_model.specs.State.{State, reference_of}
 use Rattle.cat_model.specs.Step.{opening, opens_draft}
-use Rattle.cat_plans.specs.Expiring.{answers_expired, is_expired}
+use Rattle.cat_decisions.specs.Expiring.{answers_expired, is_expired}
 use Rattle.cat_state.specs.declared.failure.Failure.{Failure}
 use Rattle.cat_state.specs.declared.failure.Failure.TheVariants as failures
 use Rattle.cat_state.specs.Giving.{Fails}
-use Rattle.cat_builds.specs.declared.building.Built.{Built}
-use Rattle.cat_builds.specs.Builds.{HasHead, branch_of}
-use Rattle.cat_ledger.specs.declared.occasion.Occasion.{Occasion}
-use Rattle.cat_ledger.specs.Kept.{Leaves, Stayed}
+use Rattle.cat_decisions.specs.declared.building.Built.{Built}
+use Rattle.cat_decisions.specs.Builds.{HasHead, branch_of}
+use Rattle.cat_state.specs.Kept.{Leaves, Stayed}
 use Rattle.cat_ledger.specs.Making.{refused_at}
-use Rattle.cat_ledger.specs.Occasions.{left_on, made_on}
+use Rattle.cat_ledger.specs.LoggedLaws.{call_opens}
+use Rattle.cat_ledger.specs.Occasions.{Occasion, left_on, made_on}
 use Rattle.cat_ledger.specs.PlainLaws.{IsOther}
-use Rattle.cat_ledger.proofs.Before.{before_fails, call_opens, unexpired_tests}
-use Rattle.cat_ledger.proofs.Keeping.{leaves_any, stays}
+use Rattle.cat_state.proofs.Appended.{leaves_any, stays}
 use Rattle.cat_core.specs.declared.draft.Draft.{Draft}
 use Rattle.cat_core.specs.declared.draft.Settled.{Settled}
 use Rattle.cat_core.specs.declared.draft.Settled.TheVariants as settled
 use Rattle.cat_core.specs.Drafts.{IsGivenBack, IsOn, NotOpened, Refuses, called_in, closed, command_in, may_open}
 use Rattle.cat_core.specs.Kept.{IsSettled, IsTold}
 use Rattle.cat_core.specs.Stored.{IsDownAt, IsUp, Stored}
+use Rattle.cat_core.proofs.Before.{tests_other, tests_refuse, unexpired_tests}
 use Rattle.cat_core.proofs.InStep.{right_made}
 use Rattle.cat_core.proofs.Keeping.{not_fault}
 use Rattle.cat_core.proofs.Making.{refuses, up_of}
@@ -65,7 +65,7 @@ not_opened {K} s c place r failure opens up at is fails =
 
     by : (failure : Failure) → Fails failure (may_open s.book c) → NotOpened s c (refused_at s.book.state.place failure) (refused_at s.book.state.place failure).why
     by failures.NoMemory fails = refl
-    by (failures.Refused why) fails = by_why why (before_fails s.book (record { caller = 0; moment = 0; draft = None }) c (failures.Refused why) opens fails).0 fails
+    by (failures.Refused why) fails = by_why why (tests_other s.book None c why fails) fails
 
 pub not_opened_down : {K : Type 0} (s : Stored K) (c : Command) (place count : ℕ) (r : Refused) → IsDownAt s count → place ≡ s.book.state.place → r ≡ record { place = Some place; why = Down count } → NotOpened s c r r.why
 not_opened_down {K} s c place count r down at is = subst (λ (x : Refused). NotOpened s c x x.why) (sym is) (ap (λ (p : ℕ). Some p) at, down)
@@ -165,14 +165,15 @@ module _ {K : Type 0} (told : K → Option (List (List ℕ))) (kept : K → ℕ)
     settled_refused place why r up fails same_place is left =
         let occasion : Occasion = record { caller = d.caller; moment = at; draft = Some d.number } in
         let tests : (opening sha256 s.book.state (command_in d) >>= λ _. left_on s.book (Some d.number) true) ≡ Err why = passed_on (opening sha256 s.book.state (command_in d)) why fails in
-        let runs = before_fails s.book occasion (command_in d) (failures.Refused why) (call_opens d.call) tests in
+        let other : IsOther why = tests_other s.book (Some d.number) (command_in d) why tests in
+        let called_so = tests_refuse s.book occasion (command_in d) why (call_opens d.call) tests in
         let there : is_expired why ≡ false = unexpired_by _ why (unexpired_tests s.book (Some d.number) (command_in d)) tests in
-        let none : called.logged ≡ [] = (right_made s.book occasion (command_in d)).none _ runs.1.said in
+        let none : called.logged ≡ [] = (right_made s.book occasion (command_in d)).none _ called_so.said in
         let here : Refused = record { place = Some s.book.state.place; why = why } in
         let same : here ≡ r = ap (λ (p : ℕ). let x : Refused = record { place = Some p; why = why } in x) (sym same_place) ∙ sym is in
         subst (λ (x : Refused). It (settled.Refused x)) same record {
-          settles = (λ u passes other. absurd (err_not_ok _ why fails passes), refuses called d.caller s here s' (closed s d) why runs.0 there (record { up = up; said = runs.1.said; none = none; after = same_as left }));
-          keeps = λ u. record { done = tt; fault = λ is_fault. absurd (not_fault why runs.0 is_fault); other = λ no. still s.keeper s'.keeper (keeper_same left) };
+          settles = (λ u passes other. absurd (err_not_ok _ why fails passes), refuses called d.caller s here s' (closed s d) why other there (record { up = up; said = called_so.said; none = none; after = same_as left }));
+          keeps = λ u. record { done = tt; fault = λ is_fault. absurd (not_fault why other is_fault); other = λ no. still s.keeper s'.keeper (keeper_same left) };
           crash = crash_same (keeper_same left);
         }
 

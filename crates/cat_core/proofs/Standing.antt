@@ -1,14 +1,13 @@
 -- What holds of a store holds of it after a call.
 use Rattle.std.proofs.Common.{◌≡◌, ◌≤◌, ℕ, arith, List, Option, None, Result, Ok, Err, sym, ap, subst, ◌∙◌}
-use Rattle.cat_model.specs.declared.refusal.Refused.{Refused}
 use Rattle.cat_model.specs.declared.reply.Told.{Told}
 use Rattle.cat_model.specs.Book.{Book}
 use Rattle.cat_model.specs.Calls.{Called}
 use Rattle.cat_model.specs.Drafts.{OpenDraft}
 use Rattle.cat_state.specs.declared.failure.Failure.TheVariants as failures
-use Rattle.cat_ledger.specs.declared.unmade.Unmade.{Unmade}
-use Rattle.cat_ledger.specs.declared.unmade.Unmade.TheVariants.{Failed, NotKept}
-use Rattle.cat_ledger.specs.Kept.{Keeps}
+use Rattle.cat_state.specs.declared.unmade.Unmade.{Unmade}
+use Rattle.cat_state.specs.declared.unmade.Unmade.TheVariants.{Failed, NotKept}
+use Rattle.cat_state.specs.Kept.{Keeps}
 use Rattle.cat_ledger.specs.Making.{Runs}
 use Rattle.cat_core.specs.declared.tickets.Fallen.{Fallen}
 use Rattle.cat_core.specs.Made.{fallen_by}

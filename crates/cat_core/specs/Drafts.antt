@@ -15,9 +15,9 @@ use Rattle.cat_model.specs.Naming.{names_of}
 use Rattle.cat_model.specs.Refusing.{◌>>=◌, Tested}
 use Rattle.cat_model.specs.State.{State}
 use Rattle.cat_model.specs.Step.{opening}
-use Rattle.cat_builds.specs.declared.building.Built.{Built}
-use Rattle.cat_builds.specs.Builds.{HasHead, IsGivenBy, command_of}
-use Rattle.cat_ledger.specs.Kept.{spelling}
+use Rattle.cat_decisions.specs.declared.building.Built.{Built}
+use Rattle.cat_decisions.specs.Builds.{HasHead, IsGivenBy, command_of}
+use Rattle.cat_state.specs.Kept.{spelling}
 use Rattle.cat_ledger.specs.Occasions.{made_on}
 use Rattle.cat_core.specs.declared.draft.Draft.{Draft}
 use Rattle.cat_core.specs.declared.draft.Settled.{Settled}

@@ -5,10 +5,10 @@ use Rattle.cat_model.specs.declared.log_entry.LogEntry.{LogEntry}
 use Rattle.cat_model.specs.declared.refusal.Refusal.TheVariants.{Fault}
 use Rattle.cat_model.specs.declared.refusal.Refused.{Refused}
 use Rattle.cat_model.specs.declared.reply.Told.{Told}
-use Rattle.cat_ledger.specs.Kept.{Fell, Grew, Leaves, Stayed}
+use Rattle.cat_state.specs.Kept.{Fell, Grew, Leaves, Stayed}
 use Rattle.cat_core.specs.declared.draft.Settled.{Settled}
 use Rattle.cat_core.specs.declared.draft.Settled.TheVariants as settled
-use Rattle.cat_builds.specs.declared.building.Built.{Built}
+use Rattle.cat_decisions.specs.declared.building.Built.{Built}
 use Rattle.cat_core.specs.declared.draft.Draft.{Draft}
 use Rattle.cat_core.specs.Drafts.{Refers, Settles, called_in}
 use Rattle.cat_core.specs.Stored.{IsUp, Stored}

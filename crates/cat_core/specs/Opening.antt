@@ -11,7 +11,7 @@ use Rattle.cat_model.specs.declared.log_entry.LogEntry.{LogEntry}
 use Rattle.cat_model.specs.Book.{Book, after_call, first_book}
 use Rattle.cat_model.specs.Calls.{Called}
 use Rattle.cat_model.specs.WellMade.{is_well_made}
-use Rattle.cat_ledger.specs.Kept.{spelling, spellings}
+use Rattle.cat_state.specs.Kept.{spelling, spellings}
 
 -- ---- the whole
 

@@ -13,7 +13,7 @@ use Rattle.cat_model.specs.Drafts.{Open, Opening}
 use Rattle.cat_model.specs.Mark.{FailedAppend, Mark}
 use Rattle.cat_model.specs.State.{first_state}
 use Rattle.cat_model.specs.Turns.{Opened, Snapshot}
-use Rattle.cat_ledger.specs.Kept.{spellings}
+use Rattle.cat_state.specs.Kept.{spellings}
 use Rattle.cat_core.specs.declared.tickets.Fallen.{Fallen}
 use Rattle.cat_core.specs.declared.tickets.OpenDraft.{OpenDraft}
 use Rattle.cat_core.specs.declared.tickets.Ticket.{Ticket}

@@ -2,19 +2,19 @@
 
 ghost use Rattle.std.specs.Prelude.{◌≡◌, Ok, IfOk, IsTrue};
 ghost use Rattle.sha2.specs.Sha256.{sha256};
-ghost use Rattle.cat_builds.specs.Builds.{HasHead, IsBuilt, IsGivenBy};
+ghost use Rattle.cat_decisions.specs.Builds.{HasHead, IsBuilt, IsGivenBy};
 ghost use Rattle.cat_core.specs.Drafts.{command_in};
 ghost use Rattle.cat_model.specs.Step.{opening};
 ghost use Rattle.cat_model.specs.WellMade.{is_well_made};
 
 use crate::tickets::Ticket;
-use cat_builds::building::{Built, build, head_of};
-use cat_builds::call::Call;
-use cat_builds::view::View;
 use cat_codes::fault::NoMemory;
+use cat_decisions::building::{Built, build, head_of};
+use cat_decisions::call::Call;
 use cat_model::refusal::Refused;
 use cat_model::reply::Told;
 use cat_names::hash::Hash;
+use cat_state::view::View;
 use std::alloc::Global;
 
 /// A call that has opened a draft, which stays open until it is settled or dropped. What its draft

@@ -2,12 +2,12 @@
 
 ghost use Rattle.std.specs.Prelude.{◌≡◌, ◌+◌, Ok, Some, true, IfErr, IfOk, IsTrue, OnErr, OnOk};
 ghost use Rattle.sha2.specs.Sha256.{sha256};
-ghost use Rattle.cat_builds.specs.Builds.{HasHead, IsBuilt, IsGivenBy, command_of};
+ghost use Rattle.cat_decisions.specs.Builds.{HasHead, IsBuilt, IsGivenBy, command_of};
 ghost use Rattle.cat_checks.specs.Histories.{IsLegalFrom};
 ghost use Rattle.cat_core.specs.Drafts.{IsGivenBack, IsOpen, IsOpening, NotOpened, Settles, called_in, closed, command_in, dropping, holding, may_open, open_draft_of};
 ghost use Rattle.cat_core.specs.Kept.{IsSettled, IsTold, KeepsSettled};
 ghost use Rattle.cat_core.specs.Stored.{IsFree, IsUp, snap};
-ghost use Rattle.cat_ledger.specs.Kept.{Leaves};
+ghost use Rattle.cat_state.specs.Kept.{Leaves};
 ghost use Rattle.cat_ledger.specs.Occasions.{made_on};
 ghost use Rattle.cat_model.specs.Drafts.{drafts_of};
 ghost use Rattle.cat_model.specs.Later.{IsLater};
@@ -21,10 +21,9 @@ use crate::draft::{Draft, Settled, ticket_of};
 use crate::store::Store;
 use crate::telling::{down_at, no_memory, tell};
 use crate::tickets::{OpenDraft, Ticket, remove};
-use cat_builds::building::{Built, head_of};
-use cat_builds::call::{Call, call_of};
-use cat_builds::view::View;
 use cat_codes::fault::NoMemory;
+use cat_decisions::building::{Built, head_of};
+use cat_decisions::call::{Call, call_of};
 use cat_keeper::Keeper;
 use cat_ledger::{Ledger, refused};
 use cat_model::command::Command;
@@ -32,6 +31,7 @@ use cat_model::moment::Moment;
 use cat_model::refusal::Refused;
 use cat_model::reply::Told;
 use cat_state::failure::Failure;
+use cat_state::view::View;
 use std::alloc::Global;
 
 /// The number of the next draft, the call in it, and a view of the catalogue, unless a test before

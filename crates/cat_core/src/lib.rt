@@ -8,7 +8,6 @@
 //! again, and the first that is no entry or may not follow is told by its place.
 #![tactic(auto)]
 
-mod counted;
 mod draft;
 mod drafting;
 mod opening;
@@ -18,9 +17,9 @@ mod store;
 mod telling;
 mod tickets;
 
-pub use cat_builds::building::Built;
-pub use cat_builds::view::View;
+pub use cat_decisions::building::Built;
 pub use cat_state::counts::Counts;
+pub use cat_state::view::View;
 pub use draft::{Draft, Settled};
 pub use opening::StoreFault;
 pub use store::Store;

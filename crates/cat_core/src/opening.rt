@@ -2,7 +2,7 @@
 
 ghost use Rattle.std.specs.Prelude.{ℕ, List, ◌≡◌, ◌≤◌, ◌<◌, ◌+◌, None, IfOk, IsErrOf, OnOk};
 ghost use Rattle.cat_io.specs.Causes.{Rose};
-ghost use Rattle.cat_ledger.specs.Kept.{Stayed};
+ghost use Rattle.cat_state.specs.Kept.{Stayed};
 ghost use Rattle.cat_core.specs.Opening.{AreDrafts, IsAdded, IsIllegalAt, IsLedTo, IsPayloadAt, next_by};
 
 use crate::replay::Replay;

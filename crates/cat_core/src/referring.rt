@@ -6,7 +6,7 @@ ghost use Rattle.cat_checks.specs.Histories.{IsLegalFrom};
 ghost use Rattle.cat_core.specs.Drafts.{Refers};
 ghost use Rattle.cat_core.specs.Kept.{IsTold, KeepsTold};
 ghost use Rattle.cat_core.specs.Stored.{IsUp, snap};
-ghost use Rattle.cat_ledger.specs.Kept.{Leaves};
+ghost use Rattle.cat_state.specs.Kept.{Leaves};
 ghost use Rattle.cat_model.specs.Book.{call_on};
 ghost use Rattle.cat_model.specs.Step.{opens_draft};
 ghost use Rattle.cat_model.specs.Turns.{Acts};

@@ -6,16 +6,15 @@ ghost use Rattle.cat_checks.specs.Legal.{draft_is_new, has_its_draft, replayed_c
 ghost use Rattle.cat_frames.specs.Entries.{is_logged};
 ghost use Rattle.cat_model.specs.Book.{first_book};
 ghost use Rattle.cat_model.specs.WellMade.{is_well_made};
-ghost use Rattle.cat_ledger.specs.Kept.{spelling};
+ghost use Rattle.cat_state.specs.Kept.{spelling};
 ghost use Rattle.cat_core.specs.Opening as opening;
 ghost use Rattle.cat_core.specs.Opening.{Adds, AreDrafts, NewestIsLogged, ReadsAs, RunsAgain};
 
-use crate::counted::Counted;
 use cat_checks::commands::is_well_made;
 use cat_checks::drafts::has_its_draft;
 use cat_codes::fault::{FieldFault, NoMemory};
 use cat_frames::{from_bytes, to_bytes};
-use cat_ledger::{Ledger, Unmade};
+use cat_ledger::Ledger;
 use cat_model::limits::Limits;
 use cat_model::log_entry::LogEntry;
 use cat_state::failure::Failure;
@@ -47,19 +46,17 @@ fn run_again(alloc: Global, ledger: &mut Ledger, entry: &LogEntry) -> Result<boo
     ensures { IfOk result (RunsAgain (replayed_call sha256 ledger.old entry.now) ledger.old ledger.new) }
 {
     let place = ledger.place();
-    let mut counted = Counted::new(place);
-    match ledger.replay(alloc, &mut counted, entry) {
+    match ledger.replay(alloc, entry) {
         // What was told is let go by a call, so that the proof doesn't take each kind of it apart.
         Ok(told) => {
             drop(told);
             Ok(place < ledger.place())
         }
-        Err(Unmade::Failed(Failure::Refused(why))) => {
+        Err(Failure::Refused(why)) => {
             drop(why);
             Ok(false)
         }
-        Err(Unmade::Failed(Failure::NoMemory)) => Err(NoMemory),
-        Err(Unmade::NotKept) => unreachable!(),
+        Err(Failure::NoMemory) => Err(NoMemory),
     }
 }
 

@@ -13,7 +13,7 @@ ghost use Rattle.cat_model.specs.Mark.{FailedAppend, no_mark};
 ghost use Rattle.cat_model.specs.Namespaces.{is_well_formed};
 ghost use Rattle.cat_io.specs.Causes.{Rose};
 ghost use Rattle.cat_state.specs.Counting.{main_head};
-ghost use Rattle.cat_ledger.specs.Kept.{Stayed, spellings};
+ghost use Rattle.cat_state.specs.Kept.{Stayed, spellings};
 ghost use Rattle.cat_core.specs.Opening.{IsIllegalAt, IsLedTo};
 ghost use Rattle.cat_core.specs.Stored.{IsSound, MayBeDown, log_of, opened_of};
 ghost use Rattle.cat_core.specs.Whole.{HasHeads, HasVisible};

@@ -1,31 +1,27 @@
--- Commits that stay or are one more.
-use Rattle.std.proofs.Common.{◌≡◌, ℕ, ◌-◌, Result, Ok, Err, OnErr, OnOk, List, length, drop, sym, ap, subst, arith}
-use Rattle.cat_model.specs.declared.log_entry.LogEntry.{LogEntry}
-use Rattle.cat_model.specs.declared.reference.Reference.{Reference}
+-- Commits that stay, or have more above them.
+use Rattle.std.proofs.Common.{◌≡◌, ℕ, ◌+◌, ◌-◌, List, [], ◌++◌, length, Result, Ok, Err, OnErr, OnOk, sym, ap, subst, ◌∙◌, arith}
+use Rattle.std.proofs.lemmas.List.{length-append}
+use Rattle.std.proofs.Math.Seq.{drop-append_seam}
 use Rattle.cat_model.specs.Book.{Book}
-use Rattle.cat_model.specs.Chain.{Commits}
-use Rattle.cat_model.specs.Moves.{with_references}
+use Rattle.cat_decisions.specs.declared.decision.Making.{Making}
 use Rattle.cat_state.specs.Adding.{IsAbove}
-use Rattle.cat_ledger.specs.Making.{taking, with_entry}
+use Rattle.cat_ledger.specs.declared.logging.Turn.{Turn}
+use Rattle.cat_ledger.specs.Deciding.{made_book}
+use Rattle.cat_ledger.specs.Making.{taking}
 
-none_more : (n : ℕ) → n - n ≡ 0
-none_more n = omega arith
+longer : {A : Type 0} (xs ys : List A) → length (xs ++ ys) - length ys ≡ length xs
+longer xs ys = let more : length (xs ++ ys) ≡ length xs + length ys = length-append xs ys in omega (arith, more)
 
-pub above_itself : (commits : Commits) → IsAbove commits commits
-above_itself commits = ap (λ (k : ℕ). drop k commits) (none_more (length commits))
+above_more : {A : Type 0} (xs ys : List A) → IsAbove ys (xs ++ ys)
+above_more xs ys = rw (longer xs ys) (drop-append_seam xs ys)
 
--- a book that stays, or only takes a draft number
-pub above_same : (book after : Book) → after ≡ book → IsAbove book.state.commits after.state.commits
-above_same book after e = subst (λ (b : Book). IsAbove book.state.commits b.state.commits) (sym e) (above_itself book.state.commits)
-
+-- a book that only takes a draft number
 pub above_taking : (book after : Book) (draft : ℕ) → after ≡ taking book draft → IsAbove book.state.commits after.state.commits
-above_taking book after draft e = subst (λ (b : Book). IsAbove book.state.commits b.state.commits) (sym e) (above_itself book.state.commits)
+above_taking book after draft e = subst (λ (b : Book). IsAbove book.state.commits b.state.commits) (sym e) (above_more [] book.state.commits)
 
--- a book whose references alone change, with an entry more
-pub above_entry : (book after : Book) (references : List Reference) (entry : LogEntry) → after ≡ with_entry book (with_references book.state references) entry → IsAbove book.state.commits after.state.commits
-above_entry book after references entry e = subst (λ (b : Book). IsAbove book.state.commits b.state.commits) (sym e) (above_itself book.state.commits)
-
--- either of them, by what was returned
-pub above_made : {T E : Type 0} (book after : Book) (references : List Reference) (entry : LogEntry) (result : Result T E) → OnOk result (after ≡ with_entry book (with_references book.state references) entry) → OnErr result (after ≡ book) → IsAbove book.state.commits after.state.commits
-above_made book after references entry (Ok x) ok err = above_entry book after references entry ok
-above_made book after references entry (Err why) ok err = above_same book after err
+-- a book that takes one, and then a change or none
+pub above_made : {T E : Type 0} (book before after : Book) (turn : Turn) (m : Making) (result : Result T E) → before ≡ taking book turn.draft → OnOk result (after ≡ made_book before turn m) → OnErr result (after ≡ before) → IsAbove book.state.commits after.state.commits
+above_made book before after turn m (Ok x) is ok err =
+    let all : after ≡ made_book (taking book turn.draft) turn m = ok ∙ ap (λ (b : Book). made_book b turn m) is in
+    subst (λ (b : Book). IsAbove book.state.commits b.state.commits) (sym all) (above_more m.change.additions.commits.list book.state.commits)
+above_made book before after turn m (Err why) is ok err = above_taking book after turn.draft (err ∙ is)

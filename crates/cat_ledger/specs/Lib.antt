@@ -1,8 +1,8 @@
 pub mod Making
 pub mod Occasions
+pub mod Deciding
 pub mod Remaking
-pub mod Kept
-pub mod Accepting
-pub mod Drafting
 pub mod PlainLaws
 pub mod UsualLaws
+pub mod HeadLaws
+pub mod LoggedLaws

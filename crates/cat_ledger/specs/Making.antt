@@ -3,25 +3,19 @@ use Rattle.std.specs.Prelude.{◌≡◌, ℕ, ◌+◌, [], ◌∷◌, Option, So
 use Rattle.cat_names.specs.declared.hash.Hash.{Hash}
 use Rattle.cat_model.specs.declared.command.Command.{Command}
 use Rattle.cat_model.specs.declared.log_entry.LogEntry.{LogEntry}
-use Rattle.cat_model.specs.declared.reference.Reference.{Reference}
 use Rattle.cat_model.specs.declared.refusal.Refusal.TheVariants as refusals
 use Rattle.cat_model.specs.declared.refusal.Refused.{Refused}
-use Rattle.cat_model.specs.declared.reply.Reply.{Reply}
-use Rattle.cat_model.specs.declared.reply.Reply.TheVariants as replies
 use Rattle.cat_model.specs.declared.reply.Told.{Told}
 use Rattle.cat_model.specs.Book.{Book, IsCalled}
 use Rattle.cat_model.specs.Calls.{Called}
-use Rattle.cat_model.specs.Refusing.{Outcome}
 use Rattle.cat_model.specs.State.{State}
-use Rattle.cat_model.specs.Step.{head_told}
 use Rattle.cat_state.specs.declared.failure.Failure.{Failure}
 use Rattle.cat_state.specs.declared.failure.Failure.TheVariants as failures
-use Rattle.cat_state.specs.Giving.{Fails}
 use Rattle.cat_ledger.specs.PlainLaws.{IsOther}
-use Rattle.cat_plans.specs.Expiring.{fails_expired}
+use Rattle.cat_decisions.specs.Expiring.{fails_expired}
 use Rattle.cat_ledger.specs.declared.logging.Turn.{Turn}
-use Rattle.cat_ledger.specs.declared.unmade.Unmade.{Unmade}
-use Rattle.cat_ledger.specs.declared.unmade.Unmade.TheVariants.{Failed, NotKept}
+use Rattle.cat_state.specs.declared.unmade.Unmade.{Unmade}
+use Rattle.cat_state.specs.declared.unmade.Unmade.TheVariants.{Failed, NotKept}
 
 -- a failure as the refusal of a call at a place; want of memory has none
 abbrev pub refused_at : ℕ → Failure → Refused
@@ -45,50 +39,12 @@ entry_at book turn command head = record { place = book.state.place + 1; caller 
 abbrev pub with_entry : Book → State → LogEntry → Book
 with_entry book after entry = record book { state = after; log = entry ∷ book.log }
 
--- what is told of a reference that a call has made, moved or removed
-abbrev pub reference_told : Book → Reference → Told
-reference_told book reference = record { place = book.state.place + 1; reply = replies.Reference reference }
-
 -- ---- what was made, or why nothing was
-
--- the rules don't refuse it
-abbrev pub IsUnrefused : Unmade → Type 0
-IsUnrefused NotKept = Unit {0}
-IsUnrefused (Failed failures.NoMemory) = Unit {0}
-IsUnrefused (Failed (failures.Refused why)) = ⊥
 
 -- contents are gone
 abbrev pub unmade_expired : Unmade → Bool
 unmade_expired NotKept = false
 unmade_expired (Failed failure) = fails_expired failure
-
--- the head that a step tells
-abbrev pub head_of : Outcome → Option Hash
-head_of (Ok (after, reply)) = head_told reply
-head_of (Err why) = None
-
--- a step is accepted, and its state has one entry more
-pub record IsAccepted (place : ℕ) (outcome : Outcome) : Type 0 where
-  pub after : State
-  pub reply : Reply
-  pub is : outcome ≡ Ok (after, reply)
-  pub more : after.place ≡ place + 1
-
--- why nothing was made of what a step at a place comes to: a refusal is the step's, and where the entry wasn't kept, the step is accepted
-abbrev pub FailsAs : ℕ → Unmade → Outcome → Type 0
-FailsAs place NotKept outcome = IsAccepted place outcome
-FailsAs place (Failed failure) outcome = Fails failure outcome
-
--- what was returned stands for what a step at a place comes to, unless memory ran out
-abbrev pub ComesAs : {A : Type 0} → (A → State × Reply) → ℕ → Result A Unmade → Outcome → Type 0
-ComesAs meaning place (Ok x) outcome = outcome ≡ Ok (meaning x)
-ComesAs meaning place (Err why) outcome = FailsAs place why outcome
-
--- unless a call failed, the step at its place is accepted
-abbrev pub Ends : {A : Type 0} → ℕ → Result A Unmade → Outcome → Type 0
-Ends place (Ok x) outcome = IsAccepted place outcome
-Ends place (Err NotKept) outcome = IsAccepted place outcome
-Ends place (Err (Failed failure)) outcome = Unit {0}
 
 -- the entry of an accepted call wasn't kept: state and log are as before, and the draft number is the call's
 pub record IsNotKept (called : Called) (before after : Book) : Type 0 where

@@ -8,7 +8,6 @@ use Rattle.cat_model.specs.Refusing.{◌>>=◌, Outcome, Tested}
 use Rattle.cat_model.specs.Step as steps
 use Rattle.cat_model.specs.Step.{opening, opens_draft, step}
 use Rattle.cat_ledger.specs.declared.logging.Turn.{Turn}
-use Rattle.cat_ledger.specs.declared.occasion.Occasion.{Occasion}
 
 -- ---- in a turn
 
@@ -25,6 +24,16 @@ abbrev pub turned : Book → Turn → Command → Called
 turned book turn command = stepped sha256 turn.caller book.state (max book.draft turn.draft) command (begun book turn) (turned_step book turn command)
 
 -- ---- on an occasion
+
+-- who makes a call, when, and the number of the draft that it opens, if it opens one: the next, or one that is given
+pub record Occasion : Type 0 where
+  pub caller : ℕ
+  pub moment : ℕ
+  pub draft : Option ℕ
+
+-- an occasion in a draft of that number
+abbrev pub in_draft : ℕ → ℕ → ℕ → Occasion
+in_draft caller moment number = record { caller = caller; moment = moment; draft = Some number }
 
 -- the number of the draft: the next, or the one that is given
 abbrev pub number_on : Book → Option ℕ → ℕ

@@ -1,20 +1,19 @@
 //! The calls of a store.
 
-ghost use Rattle.std.specs.Prelude.{◌≡◌, ◌<◌, None, false, IfErr, IfSome, IsTrue};
+ghost use Rattle.std.specs.Prelude.{◌≡◌, None, false, IfErr, IsTrue};
 ghost use Rattle.sha2.specs.Sha256.{sha256};
 ghost use Rattle.cat_model.specs.Book.{Reads, call_on};
 ghost use Rattle.cat_model.specs.Step.{opens_draft};
 ghost use Rattle.cat_model.specs.WellMade.{is_well_made};
 ghost use Rattle.cat_state.specs.Adding.{IsAbove};
-ghost use Rattle.cat_plans.specs.Expiring.{fails_expired, is_expired};
-ghost use Rattle.cat_ledger.specs.Kept.{Keeps};
+ghost use Rattle.cat_decisions.specs.Expiring.{fails_expired, is_expired};
+ghost use Rattle.cat_state.specs.Kept.{Keeps};
 ghost use Rattle.cat_ledger.specs.Making.{Runs, refused_at, unmade_expired};
-ghost use Rattle.cat_ledger.specs.Occasions.{made_on};
 
 use crate::ledger::Ledger;
-use crate::occasion::Occasion;
-use crate::unmade::Unmade;
+use crate::logging::Turn;
 use cat_answers::answer;
+use cat_decisions::reference::decide_reference;
 use cat_keeper::Keeper;
 use cat_model::ask::Ask;
 use cat_model::command::Command;
@@ -22,6 +21,7 @@ use cat_model::moment::Moment;
 use cat_model::refusal::{Refusal, Refused};
 use cat_model::reply::Told;
 use cat_state::failure::Failure;
+use cat_state::unmade::Unmade;
 use std::alloc::Global;
 
 /// A call's refusal at a place; want of memory has none.
@@ -62,61 +62,6 @@ impl Ledger {
         }
     }
 
-    /// Runs a call that opens no draft on an occasion, by what it is.
-    #[tactic(auto, using(crate::proofs::Asked::create_points, crate::proofs::Asked::assign_points))]
-    fn run_undrafted<K: Keeper>(
-        &mut self,
-        alloc: Global,
-        keeper: &mut K,
-        occasion: Occasion,
-        command: &Command,
-    ) -> Result<Told, Unmade>
-        requires well_made { IsTrue (is_well_made sha256 command.now) }
-        requires none { opens_draft command.now ≡ false }
-        requires up { K.down keeper.old ≡ None }
-        requires kept { K.kept keeper.old ≡ self.old.state.place }
-        ensures call { Runs (made_on self.old occasion command.now) self.old self.new result }
-        ensures there { IfErr result (λ why. unmade_expired why ≡ false) }
-        ensures later { IsAbove self.old.state.commits self.new.state.commits }
-        ensures kept { K.kept keeper.new ≡ self.new.state.place }
-        ensures keeps { Keeps K.told K.kept K.down K.in_flight K.faults K.moment K.left_since K.may_leave keeper.old keeper.new (made_on self.old occasion command.now).logged result }
-    {
-        match command {
-            Command::Create(create) => self.create(alloc, keeper, occasion, create),
-            Command::Assign(assign) => self.assign(alloc, keeper, occasion, assign),
-            Command::Delete(delete) => self.delete(alloc, keeper, occasion, delete),
-            Command::Commit(_) | Command::Merge(_) | Command::Transplant(_) => unreachable!(),
-        }
-    }
-
-    /// Runs a call on an occasion, by what it is.
-    pub(crate) fn run<K: Keeper>(
-        &mut self,
-        alloc: Global,
-        keeper: &mut K,
-        occasion: Occasion,
-        command: &Command,
-    ) -> Result<Told, Unmade>
-        requires well_made { IsTrue (is_well_made sha256 command.now) }
-        requires given { IsTrue (opens_draft command.now) → IfSome occasion.draft (λ draft. 0 < draft) }
-        requires up { K.down keeper.old ≡ None }
-        requires kept { K.kept keeper.old ≡ self.old.state.place }
-        ensures call { Runs (made_on self.old occasion command.now) self.old self.new result }
-        ensures there { IfErr result (λ why. unmade_expired why ≡ false) }
-        ensures later { IsAbove self.old.state.commits self.new.state.commits }
-        ensures kept { K.kept keeper.new ≡ self.new.state.place }
-        ensures keeps { Keeps K.told K.kept K.down K.in_flight K.faults K.moment K.left_since K.may_leave keeper.old keeper.new (made_on self.old occasion command.now).logged result }
-    {
-        match command {
-            Command::Create(_) | Command::Assign(_) | Command::Delete(_) => {
-                self.run_undrafted(alloc, keeper, occasion, command)
-            }
-            Command::Commit(_) | Command::Merge(_) | Command::Transplant(_) => {
-                self.run_drafted(alloc, keeper, occasion, command)
-            }
-        }
-    }
-
     /// Makes a call that opens no draft.
     pub fn refer<K: Keeper>(
         &mut self,
@@ -136,11 +81,12 @@ impl Ledger {
         ensures kept { K.kept keeper.new ≡ self.new.state.place }
         ensures keeps { Keeps K.told K.kept K.down K.in_flight K.faults K.moment K.left_since K.may_leave keeper.old keeper.new (call_on sha256 caller self.old command.now moment).logged result }
     {
-        let occasion = Occasion {
+        let turn = Turn {
             caller,
+            draft: 0,
             moment,
-            draft: None,
         };
-        self.run_undrafted(alloc, keeper, occasion, command)
+        let decided = decide_reference(alloc, self.catalogue(), command);
+        self.carry_out(alloc, keeper, turn, decided)
     }
 }

@@ -8,13 +8,13 @@ ghost use Rattle.cat_model.specs.Namespaces.{is_well_formed};
 ghost use Rattle.cat_model.specs.Pages.{first};
 ghost use Rattle.std.specs.Option.{option_copied};
 
-use cat_builds::shared::SharedCatalogue;
-use cat_builds::view::View;
 use cat_codes::fault::NoMemory;
 use cat_model::limits::Limits;
 use cat_model::log_entry::LogEntry;
 use cat_names::hash::Hash;
 use cat_state::catalogue::Catalogue;
+use cat_state::shared::SharedCatalogue;
+use cat_state::view::View;
 use std::alloc::Global;
 use std::marker::Model;
 

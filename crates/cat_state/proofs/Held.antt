@@ -8,18 +8,16 @@ use Rattle.cat_names.specs.declared.hash.Hash.{Hash}
 use Rattle.cat_graph.specs.GraphLaws.{same_is}
 use Rattle.cat_tables.specs.ReferenceLaws.{and_true, is_same}
 use Rattle.cat_keymap.specs.MapsAt.{map_at}
-use Rattle.cat_model.specs.declared.commit.Commit.{Commit}
 use Rattle.cat_model.specs.declared.content.Content.{Content}
 use Rattle.cat_model.specs.declared.refusal.Refusal.{Refusal}
 use Rattle.cat_model.specs.declared.refusal.Refusal.TheVariants.{Collision}
 use Rattle.cat_model.specs.Chain.{Commits, entries}
 use Rattle.cat_model.specs.Contents.{content_code}
-use Rattle.cat_model.specs.Formats.{commit_code}
 use Rattle.cat_model.specs.Maps.{Map}
-use Rattle.cat_model.specs.Records.{added, commit_bytes, content_bytes, with_commit, with_content, with_contents}
+use Rattle.cat_model.specs.Records.{added, content_bytes, with_content, with_contents}
 use Rattle.cat_model.specs.Same.{same_hash}
-use Rattle.cat_model.specs.State.{State, commit_hash, content_at, content_hash}
-use Rattle.cat_state.specs.Adding.{with_both, AreHashesOf}
+use Rattle.cat_model.specs.State.{State, content_at, content_hash}
+use Rattle.cat_state.specs.Adding.{AreHashesOf}
 use Rattle.cat_state.specs.GivingLaws.{passed_by}
 use Rattle.cat_state.specs.HeldLaws.{all_more}
 use Rattle.cat_state.specs.Keeping.{AreKept, found_map, has_contents, have_contents, is_held}
@@ -42,7 +40,7 @@ more_by : (b : Bool) (x : Hash × Content) (found : Option (Hash × Content)) �
 more_by true x found e = refl
 more_by false x found e = e
 
-there_more : (x : Hash × Content) (older : Contents) → Grows older (x ∷ older)
+pub there_more : (x : Hash × Content) (older : Contents) → Grows older (x ∷ older)
 there_more x older hash e = more_by (same_hash x.0 hash) x (find (λ y. same_hash y.0 hash) older) e
 
 first_by : (b : Bool) (x : Hash × Content) (found : Option (Hash × Content)) → b ≡ true → is_some (option_map (λ y. y.1) (cond b (Some x) found)) ≡ true
@@ -101,22 +99,9 @@ contents_there state after (c ∷ contents) e =
     passed_by (with_content sha256 state c) (λ more. with_contents sha256 more contents) after (AreThere state.present after.present (map (content_hash sha256) (c ∷ contents))) (λ more first rest.
     both_there state.present more.present after.present (content_hash sha256 c) (map (content_hash sha256) contents) (content_there state more c first) (contents_there more after contents rest)) e
 
-commit_added : (state more after : State) (hash : Hash) (kept : Option (List ℕ)) (bytes : List ℕ) → more.present ≡ state.present → added state more hash kept bytes ≡ Ok after → after.present ≡ state.present
-commit_added state more after hash None bytes m e = cc
-commit_added state more after hash (Some kept) bytes m e = kept_by (bytes_eq kept bytes) state after (Collision hash kept bytes) e
-
-commit_keeps : (state after : State) (c : Commit) → with_commit sha256 state c ≡ Ok after → after.present ≡ state.present
-unfolding with_commit
-commit_keeps state after c e =
-    let hash = commit_hash sha256 c in
-    commit_added state (record state { commits = (hash, c) ∷ state.commits }) after hash (commit_bytes sha256 state hash) ((commit_code).spell c) refl e
-
--- contents and a commit that were added
-pub all_there : (state after : State) (contents : List Content) (hashes : List Hash) (c : Commit) → AreHashesOf hashes contents → with_both state contents c ≡ Ok after → AreThere state.present after.present hashes
-all_there state after contents hashes c are e =
-    subst (λ (l : List Hash). AreThere state.present after.present l) (sym are)
-    (passed_by (with_contents sha256 state contents) (λ held. with_commit sha256 held c) after (AreThere state.present after.present (map (content_hash sha256) contents)) (λ middle first last.
-    subst (λ (l : Contents). AreThere state.present l (map (content_hash sha256) contents)) (sym (commit_keeps middle after c last)) (contents_there state middle contents first)) e)
+-- contents that were added, by their hashes
+pub all_there : (state after : State) (contents : List Content) (hashes : List Hash) → AreHashesOf hashes contents → with_contents sha256 state contents ≡ Ok after → AreThere state.present after.present hashes
+all_there state after contents hashes are e = subst (λ (l : List Hash). AreThere state.present after.present l) (sym are) (contents_there state after contents e)
 
 -- ---- maps
 

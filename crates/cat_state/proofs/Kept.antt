@@ -47,7 +47,7 @@ well_entries maps commits hash are = subst (λ (m : Map). is_well_formed m ≡ t
 
 -- ---- one commit more
 
-none_by : (b : Bool) (c : Commit) (m : Map) (commit : Option Commit) (map : Option Map) → (commit ≡ None → map ≡ None) → cond b (Some c) commit ≡ None → cond b (Some m) map ≡ None
+pub none_by : (b : Bool) (c : Commit) (m : Map) (commit : Option Commit) (map : Option Map) → (commit ≡ None → map ≡ None) → cond b (Some c) commit ≡ None → cond b (Some m) map ≡ None
 none_by true c m commit map more e = absurd cc
 none_by false c m commit map more e = more e
 

@@ -1,8 +1,9 @@
 pub mod Kept
-pub mod Added
+pub mod Appended
 pub mod Heads
-pub mod Taken
 pub mod Held
 pub mod Sets
+pub mod Over
+pub mod Added
 pub mod Upon
-pub mod Back
+pub mod Made

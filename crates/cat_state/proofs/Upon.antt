@@ -24,7 +24,6 @@ use Rattle.cat_model.specs.Refusing.{◌>>=◌}
 use Rattle.cat_model.specs.Same.{same_hash}
 use Rattle.cat_model.specs.State.{State, commit_hash}
 use Rattle.cat_state.specs.declared.failure.Failure.{Failure}
-use Rattle.cat_state.specs.Adding.{keeping}
 use Rattle.cat_state.specs.Giving.{Fails}
 use Rattle.cat_state.specs.GivingLaws.{fails_on}
 use Rattle.cat_state.specs.HeldLaws.{all_more}
@@ -124,13 +123,3 @@ planned_may_be_added present commits head moment p c map known merged made is sa
   changed = same ∙ made.changed;
   well_formed = subst (λ (m : Map). IsTrue (is_well_formed m)) (sym same) made.well_formed;
 })
-
--- ---- one commit more, from the parts of a catalogue
-
-pub one_fails : (failure : Failure) (state : State) (commits reserved : Commits) (c made : Commit) → commits ≡ state.commits → reserved ≡ commits → c ≡ made → Fails failure (with_commit sha256 (keeping reserved state) c) → Fails failure (with_commit sha256 state made)
-one_fails failure state commits reserved c made view room is fails =
-    subst (λ (x : Commit). Fails failure (with_commit sha256 state x)) is (subst (λ (l : Commits). Fails failure (with_commit sha256 (keeping l state) c)) (room ∙ view) fails)
-
-pub one_added : (state after : State) (commits reserved more : Commits) (c made : Commit) → commits ≡ state.commits → reserved ≡ commits → c ≡ made → after ≡ keeping more state → with_commit sha256 (keeping reserved state) c ≡ Ok (keeping more state) → with_commit sha256 state made ≡ Ok after
-one_added state after commits reserved more c made view room is same added =
-    subst (λ (x : Commit). with_commit sha256 state x ≡ Ok after) is (subst (λ (l : Commits). with_commit sha256 (keeping l state) c ≡ Ok after) (room ∙ view) (added ∙ ap (λ (s : State). Ok s) (sym same)))

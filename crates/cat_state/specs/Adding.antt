@@ -1,18 +1,21 @@
 -- States with more contents, commits and entries.
-use Rattle.std.specs.Prelude.{◌≡◌, List, ◌-◌, Result, length, drop, map}
+use Rattle.std.specs.Prelude.{◌≡◌, ◌≤◌, ◌+◌, List, ◌-◌, Result, IsTrue, length, drop, map}
 use Rattle.sha2.specs.Sha256.{sha256}
 use Rattle.cat_names.specs.declared.hash.Hash.{Hash}
 use Rattle.cat_model.specs.declared.commit.Commit.{Commit}
 use Rattle.cat_model.specs.declared.content.Content.{Content}
 use Rattle.cat_model.specs.declared.reference.Reference.{Reference}
 use Rattle.cat_model.specs.declared.refusal.Refusal.{Refusal}
-use Rattle.cat_model.specs.Chain.{Commits}
+use Rattle.cat_model.specs.Chain.{Commits, entries}
 use Rattle.cat_model.specs.Formats.{commit_code}
+use Rattle.cat_model.specs.Maps.{Map}
 use Rattle.cat_model.specs.Moves.{with_references}
 use Rattle.cat_model.specs.Records.{with_commit, with_contents}
 use Rattle.cat_model.specs.Refusing.{◌>>=◌}
-use Rattle.cat_model.specs.State.{State, commit_hash, content_hash, moved_reference}
+use Rattle.cat_model.specs.State.{State, commit_hash, content_hash, is_known, moved_reference}
+use Rattle.cat_state.specs.declared.additions.Additions.{Additions}
 use Rattle.cat_state.specs.declared.records.Record.{Record}
+use Rattle.cat_state.specs.Changing.{AreNewTo, with_additions}
 
 -- the hashes are the contents'
 abbrev pub AreHashesOf : List Hash → List Content → Type 0
@@ -35,6 +38,15 @@ keeping commits state = record state { commits = commits }
 -- a list is what the older one was, after some more at its front
 abbrev pub IsAbove : {A : Type 0} → List A → List A → Type 0
 IsAbove older list = drop (length list - length older) list ≡ older
+
+-- additions after a commit of a hash, with the map at it, was added, unless it was there: what was known stays so, it is known, and no content was added
+pub record HasCommit (state : State) (old new : Additions) (hash : Hash) (map : Map) : Type 0 where
+  pub additions : AreNewTo state new
+  pub contents : new.contents ≡ old.contents
+  pub grows : (other : Hash) → IsTrue (is_known sha256 (with_additions state old) other) → IsTrue (is_known sha256 (with_additions state new) other)
+  pub known : IsTrue (is_known sha256 (with_additions state new) hash)
+  pub changed : entries (with_additions state new).commits hash ≡ map
+  pub count : length (with_additions state new).commits ≤ length (with_additions state old).commits + 1
 
 -- a state with more contents, then with one more commit
 abbrev pub with_both : State → List Content → Commit → Result State Refusal

@@ -3,7 +3,12 @@ pub mod KeepingLaws
 pub mod Giving
 pub mod GivingLaws
 pub mod Adding
-pub mod Returning
+pub mod Changing
+pub mod Changed
+pub mod ChangingLaws
+pub mod Kept
 pub mod HeldLaws
 pub mod Planning
+pub mod Views
+pub mod Sharing
 pub mod Counting

@@ -1,240 +1,190 @@
-//! Contents and commits that are added, each under the hash of its bytes.
+//! Contents and commits that calls add, each under the hash of its bytes.
 
-ghost use Rattle.std.specs.Prelude.{◌≡◌, ◌<◌, ◌≤◌, ◌+◌, ◌∷◌, List, None, Some, false, IsTrue, is_none, IfOk, OnOk, OnErr, length, if◌then◌else◌};
-ghost use Rattle.std.specs.Option.{option_map};
+ghost use Rattle.std.specs.Prelude.{◌≡◌, ◌<◌, ◌∷◌, None, Some, false, IfOk, IsTrue, OnOk, if◌then◌else◌};
+ghost use Rattle.std.specs.List.{list_all};
 ghost use Rattle.sha2.specs.Sha256.{sha256};
-ghost use Rattle.cat_names.specs.declared.hash.Hash.{Hash};
 ghost use Rattle.cat_tables.specs.Tables.{value_of};
-ghost use Rattle.cat_graph.specs.Linked.{is_known};
-ghost use Rattle.cat_model.specs.declared.content.Content.{Content};
-ghost use Rattle.cat_model.specs.declared.commit.Commit.{Commit};
-ghost use Rattle.cat_model.specs.Chain.{Commits, commit_of, entries};
-ghost use Rattle.cat_model.specs.Formats.{commit_code};
-ghost use Rattle.cat_model.specs.Records.{commit_bytes, with_commit, with_content, with_contents};
+ghost use Rattle.cat_model.specs.Chain.{commit_of};
+ghost use Rattle.cat_model.specs.Records.{with_commit, with_content, with_contents};
 ghost use Rattle.cat_model.specs.Same.{same_hash};
-ghost use Rattle.cat_model.specs.State.{State, content_hash, no_ancestor};
-ghost use Rattle.cat_state.specs.Adding.{holding, keeping, with_both, AreHashesOf, IsAbove, IsRecordOf};
+ghost use Rattle.cat_model.specs.State.{content_hash, is_known, no_ancestor};
+ghost use Rattle.cat_state.specs.Adding.{AreHashesOf, HasCommit, IsRecordOf, holding, keeping, with_both};
+ghost use Rattle.cat_state.specs.Changing.{AreNewTo, with_additions};
 ghost use Rattle.cat_state.specs.Giving.{GivesAs};
-ghost use Rattle.cat_state.specs.Keeping.{AreKept, HoldsMore, MayBeAdded};
+ghost use Rattle.cat_state.specs.Keeping.{MayBeAdded, has_contents, is_held};
 
-use crate::contents::content_bytes;
+use crate::additions::Additions;
+use crate::catalogue::Catalogue;
 use crate::copies::copy_content;
 use crate::failure::Failure;
 use crate::records::{NewCommit, Record, is_new};
 use cat_codes::fault::NoMemory;
 use cat_codes::field::to_bytes;
-use cat_graph::graph::Graph;
-use cat_keymap::maps::Maps;
 use cat_model::commit::Commit;
 use cat_model::content::Content;
 use cat_names::hash::Hash;
-use cat_tables::table::Table;
 use std::alloc::Global;
 
-/// Whether a content is not there. Other bytes of its hash refuse it.
-fn is_new_content(
-    alloc: Global,
-    contents: &Table<Content>,
-    hash: Hash,
-    content: &Content,
-) -> Result<bool, Failure>
-    requires { hash ≡ content_hash sha256 content.now }
-    ensures step { (s : State) → GivesAs (λ b. if b then holding ((hash, content.now) ∷ contents.now.list) s else holding contents.now.list s) result (with_content sha256 (holding contents.now.list s) content.now) }
-    ensures absent { IfOk result (λ b. IsTrue b → value_of contents.now.list hash ≡ None) }
+/// Takes memory for a commit and the map at it.
+fn reserve(more: &mut Additions) -> Result<(), NoMemory>
+    ensures commits { more.new.commits.list ≡ more.old.commits.list }
+    ensures maps { more.new.maps.list ≡ more.old.maps.list }
+    ensures contents { more.new.contents ≡ more.old.contents }
+    ensures commit_room { OnOk result (0 < more.new.commits.spare) }
+    ensures map_room { OnOk result (0 < more.new.maps.spare) }
 {
-    let kept = content_bytes(alloc, contents, &hash)?;
-    if kept.is_none() {
-        return Ok(true);
-    }
-    let bytes = to_bytes(alloc, content)?;
-    is_new(alloc, &kept, &Record { hash, bytes })
-}
-
-/// Adds a content, unless it is there.
-fn add_content(
-    alloc: Global,
-    contents: &mut Table<Content>,
-    hash: Hash,
-    content: &Content,
-) -> Result<(), Failure>
-    requires { hash ≡ content_hash sha256 content.now }
-    ensures step { (s : State) → GivesAs (λ _. holding contents.new.list s) result (with_content sha256 (holding contents.old.list s) content.now) }
-    ensures above { (older : List (Hash × Content)) → IsAbove older contents.old.list → IsAbove older contents.new.list }
-{
-    if is_new_content(alloc, contents, hash, content)? {
-        contents.add(hash, copy_content(content)?)?;
-    }
+    more.commits.reserve(1)?;
+    more.maps.reserve(1)?;
     Ok(())
 }
 
-/// Adds contents, given their hashes, up to the first that is refused.
-fn add_contents(
-    alloc: Global,
-    contents: &mut Table<Content>,
-    more: &[Content],
-    hashes: &[Hash],
-) -> Result<(), Failure>
-    requires { AreHashesOf hashes.now more.now }
-    ensures step { (s : State) → GivesAs (λ _. holding contents.new.list s) result (with_contents sha256 (holding contents.old.list s) more.now) }
-    ensures above { IsAbove contents.old.list contents.new.list }
-{
-    for (index, content) in more.iter().enumerate() {
-        add_content(alloc, contents, hashes[index], content)?;
+impl Catalogue {
+    /// Whether a content is not there. Other bytes of its hash refuse it.
+    fn is_new_content(
+        &self,
+        alloc: Global,
+        more: &Additions,
+        hash: Hash,
+        content: &Content,
+    ) -> Result<bool, Failure>
+        requires { hash ≡ content_hash sha256 content.now }
+        ensures step { let state = with_additions self.now more.now in GivesAs (λ b. if b then holding ((hash, content.now) ∷ state.present) state else state) result (with_content sha256 state content.now) }
+        ensures absent { IfOk result (λ b. IsTrue b → value_of (with_additions self.now more.now).present hash ≡ None) }
+    {
+        let kept = self.content_bytes_with(alloc, more, &hash)?;
+        if kept.is_none() {
+            return Ok(true);
+        }
+        let bytes = to_bytes(alloc, content)?;
+        is_new(alloc, &kept, &Record { hash, bytes })
     }
-    Ok(())
-}
 
-/// The bytes that are kept under a hash as a commit's.
-#[tactic(auto, unfolding(cat_model::specs::Records::commit_bytes))]
-fn commit_bytes(alloc: Global, commits: &Graph, hash: &Hash) -> Result<Option<Vec<u8>>, NoMemory>
-    ensures bytes { IfOk result (λ b. (s : State) → option_map (λ v. v.items) b ≡ commit_bytes sha256 (keeping commits.now.list s) hash.now) }
-    ensures absent { IfOk result (λ b. IsTrue (is_none b) → commit_of commits.now.list hash.now ≡ None) }
-    ensures below { IfOk result (λ b. IsTrue (is_none b) → same_hash (no_ancestor sha256) hash.now ≡ false) }
-    ensures known { IfOk result (λ b. is_none b ≡ false → IsTrue (is_known commits.now.list hash.now)) }
-    ensures there { IfOk result (λ b. (c : Commit) → (commit_code).Fits c → option_map (λ v. v.items) b ≡ Some ((commit_code).spell c) → commit_of commits.now.list hash.now ≡ Some c) }
-{
-    if let Some(commit) = commits.get(hash) {
-        return Ok(Some(to_bytes(alloc, commit)?));
+    /// Adds a content, unless it is there.
+    #[tactic(auto, using(crate::proofs::Over::absent_in_front))]
+    fn add_content(
+        &self,
+        alloc: Global,
+        more: &mut Additions,
+        hash: Hash,
+        content: &Content,
+    ) -> Result<(), Failure>
+        requires hash { hash ≡ content_hash sha256 content.now }
+        requires new { AreNewTo self.now more.old }
+        ensures step { GivesAs (λ _. with_additions self.now more.new) result (with_content sha256 (with_additions self.now more.old) content.now) }
+        ensures new { OnOk result (AreNewTo self.now more.new) }
+        ensures commits { more.new.commits ≡ more.old.commits }
+    {
+        if !self.is_new_content(alloc, more, hash, content)? {
+            return Ok(());
+        }
+        more.contents.reserve(1)?;
+        more.contents.push(hash, copy_content(content)?);
+        Ok(())
     }
-    if Hash::none() == *hash {
-        return Ok(Some(Vec::from_slice(alloc, b"empty")?));
+
+    /// Adds contents, given their hashes, up to the first that is refused.
+    fn add_contents(
+        &self,
+        alloc: Global,
+        more: &mut Additions,
+        contents: &[Content],
+        hashes: &[Hash],
+    ) -> Result<(), Failure>
+        requires hashes { AreHashesOf hashes.now contents.now }
+        requires new { AreNewTo self.now more.old }
+        ensures step { GivesAs (λ _. with_additions self.now more.new) result (with_contents sha256 (with_additions self.now more.old) contents.now) }
+        ensures new { OnOk result (AreNewTo self.now more.new) }
+        ensures commits { more.new.commits ≡ more.old.commits }
+    {
+        for (index, content) in contents.iter().enumerate() {
+            self.add_content(alloc, more, hashes[index], content)?;
+        }
+        Ok(())
     }
-    Ok(None)
-}
 
-/// Whether a commit is not there. Other bytes of its hash refuse it.
-fn is_new_commit(
-    alloc: Global,
-    commits: &Graph,
-    commit: &Commit,
-    written: &Record,
-) -> Result<bool, Failure>
-    requires { IsRecordOf commit.now written.now }
-    ensures step { (s : State) → GivesAs (λ b. if b then keeping ((written.now.hash, commit.now) ∷ commits.now.list) s else keeping commits.now.list s) result (with_commit sha256 (keeping commits.now.list s) commit.now) }
-    ensures absent { IfOk result (λ b. IsTrue b → commit_of commits.now.list written.now.hash ≡ None) }
-    ensures below { IfOk result (λ b. IsTrue b → same_hash (no_ancestor sha256) written.now.hash ≡ false) }
-    ensures known { IfOk result (λ b. b ≡ false → IsTrue (is_known commits.now.list written.now.hash)) }
-    ensures there { IfOk result (λ b. b ≡ false → commit_of commits.now.list written.now.hash ≡ Some commit.now) }
-{
-    let _ = commit;
-    let earlier = commit_bytes(alloc, commits, &written.hash)?;
-    is_new(alloc, &earlier, written)
-}
-
-/// Adds a commit and the map at it under a hash that is not there, into room that was made before.
-fn push_commit(commits: &mut Graph, maps: &mut Maps, made: NewCommit)
-    requires commit_room { 0 < commits.old.spare }
-    requires map_room { 0 < maps.old.spare }
-    requires kept { AreKept maps.old.list commits.old.list }
-    requires next { MayBeAdded commits.old.list made.commit made.map }
-    requires absent { commit_of commits.old.list made.written.hash ≡ None }
-    requires below { same_hash (no_ancestor sha256) made.written.hash ≡ false }
-    ensures list { commits.new.list ≡ (made.written.hash, made.commit) ∷ commits.old.list }
-    ensures kept { AreKept maps.new.list commits.new.list }
-    ensures held { HoldsMore made.map maps.old.list maps.new.list }
-{
-    let NewCommit {
-        commit,
-        map,
-        written,
-    } = made;
-    commits.push(written.hash, commit);
-    maps.push(written.hash, map);
-}
-
-/// Adds a commit and the map at it, unless it is there, into room that was made before.
-pub(crate) fn add_commit(
-    alloc: Global,
-    commits: &mut Graph,
-    maps: &mut Maps,
-    made: NewCommit,
-) -> Result<(), Failure>
-    requires commit_room { 0 < commits.old.spare }
-    requires map_room { 0 < maps.old.spare }
-    requires kept { AreKept maps.old.list commits.old.list }
-    requires next { MayBeAdded commits.old.list made.commit made.map }
-    requires written { IsRecordOf made.commit made.written }
-    ensures step { (s : State) → GivesAs (λ _. keeping commits.new.list s) result (with_commit sha256 (keeping commits.old.list s) made.commit) }
-    ensures kept { AreKept maps.new.list commits.new.list }
-    ensures grows { (hash : Hash) → IsTrue (is_known commits.old.list hash) → IsTrue (is_known commits.new.list hash) }
-    ensures held { HoldsMore made.map maps.old.list maps.new.list }
-    ensures known { OnOk result (IsTrue (is_known commits.new.list made.written.hash)) }
-    ensures entries { OnOk result (entries commits.new.list made.written.hash ≡ made.map) }
-    ensures above { (older : Commits) → IsAbove older commits.old.list → IsAbove older commits.new.list }
-    ensures more { length commits.new.list ≤ length commits.old.list + 1 }
-    ensures stay { OnErr result (commits.new.list ≡ commits.old.list) }
-    ensures maps_stay { OnErr result (maps.new.list ≡ maps.old.list) }
-{
-    commits.known();
-    if !is_new_commit(alloc, commits, &made.commit, &made.written)? {
-        return Ok(());
+    /// Whether a commit is not there. Other bytes of its hash refuse it.
+    fn is_new_commit(
+        &self,
+        alloc: Global,
+        more: &Additions,
+        commit: &Commit,
+        written: &Record,
+    ) -> Result<bool, Failure>
+        requires { IsRecordOf commit.now written.now }
+        ensures step { let state = with_additions self.now more.now in GivesAs (λ b. if b then keeping ((written.now.hash, commit.now) ∷ state.commits) state else state) result (with_commit sha256 state commit.now) }
+        ensures absent { IfOk result (λ b. IsTrue b → commit_of (with_additions self.now more.now).commits written.now.hash ≡ None) }
+        ensures below { IfOk result (λ b. IsTrue b → same_hash (no_ancestor sha256) written.now.hash ≡ false) }
+        ensures known { IfOk result (λ b. b ≡ false → IsTrue (is_known sha256 (with_additions self.now more.now) written.now.hash)) }
+        ensures there { IfOk result (λ b. b ≡ false → commit_of (with_additions self.now more.now).commits written.now.hash ≡ Some commit.now) }
+    {
+        let _ = commit;
+        let kept = self.commit_bytes_with(alloc, more, &written.hash)?;
+        is_new(alloc, &kept, written)
     }
-    push_commit(commits, maps, made);
-    Ok(())
-}
 
-/// Adds contents, then a commit and the map at it, up to what is refused.
-fn add_in_turn(
-    alloc: Global,
-    contents: &mut Table<Content>,
-    commits: &mut Graph,
-    maps: &mut Maps,
-    more: &[Content],
-    hashes: &[Hash],
-    made: NewCommit,
-) -> Result<(), Failure>
-    requires hashes { AreHashesOf hashes.now more.now }
-    requires commit_room { 0 < commits.old.spare }
-    requires map_room { 0 < maps.old.spare }
-    requires kept { AreKept maps.old.list commits.old.list }
-    requires next { MayBeAdded commits.old.list made.commit made.map }
-    requires written { IsRecordOf made.commit made.written }
-    ensures step { (s : State) → GivesAs (λ _. keeping commits.new.list (holding contents.new.list s)) result (with_both (keeping commits.old.list (holding contents.old.list s)) more.now made.commit) }
-    ensures above { IsAbove contents.old.list contents.new.list }
-    ensures commits_above { (older : Commits) → IsAbove older commits.old.list → IsAbove older commits.new.list }
-    ensures kept { AreKept maps.new.list commits.new.list }
-    ensures grows { (hash : Hash) → IsTrue (is_known commits.old.list hash) → IsTrue (is_known commits.new.list hash) }
-    ensures held { HoldsMore made.map maps.old.list maps.new.list }
-    ensures known { OnOk result (IsTrue (is_known commits.new.list made.written.hash)) }
-    ensures stay { OnErr result (commits.new.list ≡ commits.old.list) }
-    ensures maps_stay { OnErr result (maps.new.list ≡ maps.old.list) }
-{
-    add_contents(alloc, contents, more, hashes)?;
-    add_commit(alloc, commits, maps, made)
-}
-
-/// Adds contents, then a commit and the map at it, or nothing where one is refused or memory runs
-/// out.
-pub(crate) fn add_all(
-    alloc: Global,
-    contents: &mut Table<Content>,
-    commits: &mut Graph,
-    maps: &mut Maps,
-    more: &[Content],
-    hashes: &[Hash],
-    made: NewCommit,
-) -> Result<(), Failure>
-    requires hashes { AreHashesOf hashes.now more.now }
-    requires commit_room { 0 < commits.old.spare }
-    requires map_room { 0 < maps.old.spare }
-    requires kept { AreKept maps.old.list commits.old.list }
-    requires next { MayBeAdded commits.old.list made.commit made.map }
-    requires written { IsRecordOf made.commit made.written }
-    ensures step { (s : State) → GivesAs (λ _. keeping commits.new.list (holding contents.new.list s)) result (with_both (keeping commits.old.list (holding contents.old.list s)) more.now made.commit) }
-    ensures above { OnOk result (IsAbove contents.old.list contents.new.list) }
-    ensures commits_above { (older : Commits) → IsAbove older commits.old.list → IsAbove older commits.new.list }
-    ensures kept { AreKept maps.new.list commits.new.list }
-    ensures grows { (hash : Hash) → IsTrue (is_known commits.old.list hash) → IsTrue (is_known commits.new.list hash) }
-    ensures held { HoldsMore made.map maps.old.list maps.new.list }
-    ensures known { OnOk result (IsTrue (is_known commits.new.list made.written.hash)) }
-    ensures commits_stay { OnErr result (commits.new.list ≡ commits.old.list) }
-    ensures maps_stay { OnErr result (maps.new.list ≡ maps.old.list) }
-    ensures contents_stay { OnErr result (contents.new.list ≡ contents.old.list) }
-{
-    let count = contents.len();
-    let done = add_in_turn(alloc, contents, commits, maps, more, hashes, made);
-    if done.is_err() {
-        contents.cut(count);
+    /// Adds a commit and the map at it under a hash that is not there.
+    fn push_commit(&self, more: &mut Additions, made: NewCommit) -> Result<(), NoMemory>
+        requires new { AreNewTo self.now more.old }
+        requires next { MayBeAdded (with_additions self.now more.old).commits made.commit made.map }
+        requires held { IsTrue (has_contents (with_additions self.now more.old).present made.map) }
+        requires absent { commit_of (with_additions self.now more.old).commits made.written.hash ≡ None }
+        requires below { same_hash (no_ancestor sha256) made.written.hash ≡ false }
+        ensures step { let state = with_additions self.now more.old in OnOk result (with_additions self.now more.new ≡ keeping ((made.written.hash, made.commit) ∷ state.commits) state) }
+        ensures added { OnOk result (HasCommit self.now more.old more.new made.written.hash made.map) }
+    {
+        reserve(more)?;
+        let NewCommit {
+            commit,
+            map,
+            written,
+        } = made;
+        more.commits.push(written.hash, commit);
+        more.maps.push(written.hash, map);
+        Ok(())
     }
-    done
+
+    /// Adds a commit and the map at it, unless it is there.
+    pub(crate) fn add_commit(
+        &self,
+        alloc: Global,
+        more: &mut Additions,
+        made: NewCommit,
+    ) -> Result<(), Failure>
+        requires new { AreNewTo self.now more.old }
+        requires next { MayBeAdded (with_additions self.now more.old).commits made.commit made.map }
+        requires held { IsTrue (has_contents (with_additions self.now more.old).present made.map) }
+        requires written { IsRecordOf made.commit made.written }
+        ensures step { GivesAs (λ _. with_additions self.now more.new) result (with_commit sha256 (with_additions self.now more.old) made.commit) }
+        ensures added { OnOk result (HasCommit self.now more.old more.new made.written.hash made.map) }
+    {
+        if !self.is_new_commit(alloc, more, &made.commit, &made.written)? {
+            drop(made);
+            return Ok(());
+        }
+        self.push_commit(more, made)?;
+        Ok(())
+    }
+
+    /// What contents, given their hashes, then a commit and the map at it add to it, less what is
+    /// there already. Other bytes that are there under one of the hashes refuse them.
+    pub fn additions_of(
+        &self,
+        alloc: Global,
+        contents: &[Content],
+        hashes: &[Hash],
+        made: NewCommit,
+    ) -> Result<Additions, Failure>
+        requires hashes { AreHashesOf hashes.now contents.now }
+        requires next { MayBeAdded self.now.commits made.commit made.map }
+        requires written { IsRecordOf made.commit made.written }
+        requires held { IsTrue (list_all (λ x. is_held self.now.present hashes.now x.1.hash) made.map) }
+        ensures step { GivesAs (λ a. with_additions self.now a) result (with_both self.now contents.now made.commit) }
+        ensures new { IfOk result (AreNewTo self.now) }
+        ensures known { IfOk result (λ a. IsTrue (is_known sha256 (with_additions self.now a) made.written.hash)) }
+    {
+        let mut more = self.no_additions(alloc);
+        self.add_contents(alloc, &mut more, contents, hashes)?;
+        self.add_commit(alloc, &mut more, made)?;
+        Ok(more)
+    }
 }

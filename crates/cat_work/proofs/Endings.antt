@@ -2,8 +2,8 @@
 use Rattle.std.proofs.Common.{◌≡◌, ◌<◌, ◌≤◌, inl, inr, ℕ, ◌+◌, List, [], ◌∷◌, ◌++◌, length, length-append, reverse, Option, Some, None, Result, Ok, Err, Bool, true, vec_capacity, refl, sym, ap, subst, ◌∙◌, arith}
 use Rattle.sha2.specs.Sha256.{sha256}
 use Rattle.cat_names.specs.declared.hash.Hash.{Hash}
-use Rattle.cat_builds.specs.declared.building.Built.{Built}
-use Rattle.cat_builds.specs.Builds.{HasHead, IsBuilt}
+use Rattle.cat_decisions.specs.declared.building.Built.{Built}
+use Rattle.cat_decisions.specs.Builds.{HasHead, IsBuilt}
 use Rattle.cat_checks.specs.Histories.{IsLegalFrom, begun}
 use Rattle.cat_checks.specs.HistoryLaws.{limits_stay}
 use Rattle.cat_core.specs.Drafts.{IsOn, Refuses, called_in, closed, command_in, may_open, open_draft_of, opening_in, without}

@@ -5,13 +5,13 @@ use Rattle.std.proofs.lemmas.Option.{same_Some}
 use Rattle.std.proofs.Math.Seq.{take-length}
 use Rattle.sha2.specs.Sha256.{sha256}
 use Rattle.cat_names.specs.declared.hash.Hash.{Hash}
-use Rattle.cat_builds.specs.BuildLaws.{commit_opened}
-use Rattle.cat_builds.specs.Builds.{HasHead, IsBuilt, IsMadeAt, command_of}
-use Rattle.cat_builds.specs.declared.building.Built.{Built}
-use Rattle.cat_builds.specs.declared.building.Work.{Work}
-use Rattle.cat_builds.specs.declared.building.Work.TheVariants as works
-use Rattle.cat_builds.specs.declared.call.Call.{Call}
-use Rattle.cat_builds.specs.declared.call.Call.TheVariants as calls
+use Rattle.cat_decisions.specs.BuildLaws.{commit_opened}
+use Rattle.cat_decisions.specs.Builds.{HasHead, IsBuilt, IsMadeAt, command_of}
+use Rattle.cat_decisions.specs.declared.building.Built.{Built}
+use Rattle.cat_decisions.specs.declared.building.Work.{Work}
+use Rattle.cat_decisions.specs.declared.building.Work.TheVariants as works
+use Rattle.cat_decisions.specs.declared.call.Call.{Call}
+use Rattle.cat_decisions.specs.declared.call.Call.TheVariants as calls
 use Rattle.cat_checks.specs.Histories.{IsLegalFrom, begun, book_at}
 use Rattle.cat_checks.specs.HistoryLaws.{book_more, books_later, legal_front, place_is}
 use Rattle.cat_desk.specs.Log.{Follows, Others}
@@ -22,7 +22,7 @@ use Rattle.cat_model.specs.declared.reference.Reference.{Reference}
 use Rattle.cat_model.specs.Book.{Book}
 use Rattle.cat_model.specs.Later.{IsLater}
 use Rattle.cat_model.specs.State.{State}
-use Rattle.cat_plans.specs.OpenedLaws.{merge_opened, transplant_opened}
+use Rattle.cat_decisions.specs.OpenedLaws.{merge_opened, transplant_opened}
 use Rattle.cat_work.specs.Answers.{AreHeadsAt, Climbs, IsHeadAt, Rises, first_place}
 use Rattle.cat_work.specs.Passes.{state_of}
 use Rattle.cat_work.specs.Turns.{Trail}

@@ -1,9 +1,9 @@
 -- What the desk's calls and the store's say of a turn, taken together.
 use Rattle.std.proofs.Common.{◌≡◌, ℕ, ◌+◌, List, [], ◌∷◌, ◌++◌, Result, Ok, Err, IfOk, IfErr, inl, inr, sym, ap, subst, ◌∙◌}
 use Rattle.cat_names.specs.declared.hash.Hash.{Hash}
-use Rattle.cat_builds.specs.declared.building.Built.{Built}
-use Rattle.cat_builds.specs.Builds.{IsBuilt}
-use Rattle.cat_builds.specs.declared.call.Call.{Call}
+use Rattle.cat_decisions.specs.declared.building.Built.{Built}
+use Rattle.cat_decisions.specs.Builds.{IsBuilt}
+use Rattle.cat_decisions.specs.declared.call.Call.{Call}
 use Rattle.cat_checks.specs.Histories.{book_at}
 use Rattle.cat_core.specs.Drafts.{IsOpening, NotOpened}
 use Rattle.cat_core.specs.Stored as stored

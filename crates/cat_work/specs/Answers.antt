@@ -2,12 +2,12 @@
 use Rattle.std.specs.Prelude.{◌≡◌, ◌≢◌, ◌⊎◌, ◌<◌, ◌≤◌, ℕ, ◌+◌, List, [], ◌∷◌, ◌++◌, length, take, Option, Some, None, Result, Ok, Err, Bool, true, false}
 use Rattle.sha2.specs.Sha256.{sha256}
 use Rattle.cat_names.specs.declared.hash.Hash.{Hash}
-use Rattle.cat_builds.specs.Builds.{HasHead}
+use Rattle.cat_decisions.specs.Builds.{HasHead}
 use Rattle.cat_desk.specs.Log.{Follows}
 use Rattle.cat_io.specs.Clocks.{Ticks}
 use Rattle.cat_desk.specs.Pass.{DeskId, known, mark_of, number_of, seen}
 use Rattle.cat_desk.specs.declared.pass.Pass.{Pass}
-use Rattle.cat_ledger.specs.Kept.{spelling}
+use Rattle.cat_state.specs.Kept.{spelling}
 use Rattle.cat_ledger.specs.Making.{IsNotKept}
 use Rattle.cat_model.specs.declared.command.Command.{Command}
 use Rattle.cat_model.specs.declared.limits.Quantity.{Quantity}

@@ -2,8 +2,8 @@
 use Rattle.std.specs.Prelude.{◌≡◌, ◌⊎◌, ◌<◌, ◌≤◌, ℕ, ◌+◌, List, [], ◌∷◌, ◌++◌, length, None, Some, Ok, Err, Result, vec_capacity}
 use Rattle.sha2.specs.Sha256.{sha256}
 use Rattle.cat_names.specs.declared.hash.Hash.{Hash}
-use Rattle.cat_builds.specs.declared.building.Built.{Built}
-use Rattle.cat_builds.specs.Builds.{HasHead, IsBuilt, IsGivenBy}
+use Rattle.cat_decisions.specs.declared.building.Built.{Built}
+use Rattle.cat_decisions.specs.Builds.{HasHead, IsBuilt, IsGivenBy}
 use Rattle.cat_core.specs.Drafts.{IsMoved, IsOpening, NotOpened, Settles, command_in, dropping, may_open, open_draft_of}
 use Rattle.cat_core.specs.Stored as stored
 use Rattle.cat_core.specs.Stored.{Stored, log_of, opened_of}

@@ -1,7 +1,7 @@
 //! The last attempt of a call.
 ghost use Rattle.std.specs.Prelude.{◌≡◌, ◌≤◌, ◌<◌, length, IsTrue, vec_len, vec_capacity};
 ghost use Rattle.sha2.specs.Sha256.{sha256};
-ghost use Rattle.cat_builds.specs.Builds.{IsBuilt, IsGivenBy};
+ghost use Rattle.cat_decisions.specs.Builds.{IsBuilt, IsGivenBy};
 ghost use Rattle.cat_checks.specs.Histories.{IsLegalFrom};
 ghost use Rattle.cat_core.specs.Drafts.{IsOpen, command_in, open_draft_of};
 ghost use Rattle.cat_core.specs.Stored.{open_of, snap};

@@ -1,7 +1,7 @@
 //! The turns of a call: each finds the store in one state and leaves it in another.
 ghost use Rattle.std.specs.Prelude.{◌≡◌, ◌≤◌, ◌∷◌, [], None, true, length, IfOk, IfErr, IsTrue};
 ghost use Rattle.sha2.specs.Sha256.{sha256};
-ghost use Rattle.cat_builds.specs.Builds.{IsBuilt, IsGivenBy};
+ghost use Rattle.cat_decisions.specs.Builds.{IsBuilt, IsGivenBy};
 ghost use Rattle.cat_checks.specs.Histories.{IsLegalFrom};
 ghost use Rattle.cat_core.specs.Drafts.{command_in, open_draft_of};
 ghost use Rattle.cat_desk.specs.Pass.{IsFree, Keeps, known, left_by, number_of, seen};

@@ -4,7 +4,7 @@ use Rattle.cat_journal.specs.declared.journal.Journal.{Journal}
 use Rattle.cat_journal.specs.Frames.{payload_of}
 use Rattle.cat_journal.specs.Held.{first_payloads}
 use Rattle.cat_journal.specs.Journals.{journal_disk}
-use Rattle.cat_ledger.specs.Kept.{spellings}
+use Rattle.cat_state.specs.Kept.{spellings}
 use Rattle.cat_cli.proofs.Opened.{holds_log}
 use Rattle.cat_cli.proofs.Surviving.{leaves_of}
 use Rattle.cat_cli.proofs.journal.disk_of.Goals as goal

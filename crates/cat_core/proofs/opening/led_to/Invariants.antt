@@ -1,5 +1,5 @@
 use Rattle.std.specs.Prelude.{◌≡◌}
-use Rattle.cat_ledger.specs.Kept.{Stayed}
+use Rattle.cat_state.specs.Kept.{Stayed}
 use Rattle.cat_core.specs.Opening.{AreDrafts, IsLedSoFar}
 use Rattle.cat_core.proofs.opening.led_to.Given as goal
 

@@ -1,9 +1,6 @@
-use Rattle.std.proofs.Common.{ap, arith}
 use Rattle.cat_core.proofs.Following.{ran_by}
-use Rattle.cat_core.specs.declared.counted.Counted.{Counted}
 use Rattle.cat_core.proofs.replay.run_again.Goals as goal
 
 pub returns-in-Ok : goal.returns-in-Ok
 returns-in-Ok c =
-    ran_by c.args.ledger.now c.replay.new.self c.args.entry.now c.place-place.result c.place.result c.requires.well_made c.requires.own_draft c.in-Ok.ensures.call.book
-    (omega (arith, c.in-Ok.ensures.keeps.number, c.in-Ok.ensures.kept, ap (λ (k : Counted). k.count) c.new-counted.ensures, c.place-place.ensures)) c.place-place.ensures c.place.ensures
+    ran_by c.args.ledger.now c.replay.new.self c.args.entry.now c.place-place.result c.place.result c.requires.well_made c.requires.own_draft c.in-Ok.ensures.call.book c.place-place.ensures c.place.ensures

@@ -1,5 +1,5 @@
 use Rattle.std.proofs.Common.{inr, subst}
-use Rattle.cat_builds.specs.Builds.{IsBuilt}
+use Rattle.cat_decisions.specs.Builds.{IsBuilt}
 use Rattle.cat_model.specs.State.{State}
 use Rattle.cat_work.proofs.Turning.{built_before, ends_last, turned}
 use Rattle.cat_work.proofs.finish.finish.Goals as goal

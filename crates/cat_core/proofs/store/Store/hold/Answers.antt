@@ -1,5 +1,5 @@
 use Rattle.std.proofs.Common.{refl, rules, sym, ◌∙◌}
-use Rattle.cat_builds.specs.Builds.{command_of}
+use Rattle.cat_decisions.specs.Builds.{command_of}
 use Rattle.cat_core.proofs.Held.{holds, pushed_is, sound_held, step_held}
 use Rattle.cat_core.proofs.store.Store.hold.Goals as goal
 

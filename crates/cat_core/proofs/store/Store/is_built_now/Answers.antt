@@ -1,5 +1,5 @@
 use Rattle.std.proofs.Common.{◌∙◌}
-use Rattle.cat_builds.specs.BuildLaws.{built_later}
+use Rattle.cat_decisions.specs.BuildLaws.{built_later}
 use Rattle.cat_core.proofs.Held.{built_seen, state_seen}
 use Rattle.cat_core.proofs.store.Store.is_built_now.Goals as goal
 

@@ -1,5 +1,5 @@
 use Rattle.std.proofs.Common.{rules}
-use Rattle.cat_builds.specs.Builds.{command_of}
+use Rattle.cat_decisions.specs.Builds.{command_of}
 use Rattle.cat_core.proofs.Acting.{acts_held}
 use Rattle.cat_core.proofs.Settling.{not_opened}
 use Rattle.cat_core.proofs.store.Store.open_draft.Goals as goal

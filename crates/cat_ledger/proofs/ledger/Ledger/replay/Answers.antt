@@ -1,15 +1,22 @@
-use Rattle.std.proofs.Common.{List, subst}
-use Rattle.cat_model.specs.declared.log_entry.LogEntry.{LogEntry}
-use Rattle.cat_ledger.specs.Kept.{Keeps}
-use Rattle.cat_ledger.proofs.Occasions.{given_again, logs_again, remakes}
+use Rattle.std.proofs.lemmas.Result.{err_from_is_err_and}
+use Rattle.sha2.specs.Sha256.{sha256}
+use Rattle.cat_model.specs.Step.{opening}
+use Rattle.cat_ledger.specs.Remaking.{own_step}
+use Rattle.cat_ledger.proofs.Replayed.{decided_past, replay_done, replay_fails}
 use Rattle.cat_ledger.proofs.ledger.Ledger.replay.Goals as goal
 
-pub run-requires-clause-given : goal.run-requires-clause-given
-run-requires-clause-given g c = λ κs lives. given_again c.args.entry.now c.requires.own_draft
+pub redo-requires : goal.redo-requires
+redo-requires c =
+    let entry = c.args.entry.now in
+    (entry.command, (decided_past entry.draft c.args.self.now.state entry.command (opening sha256 c.args.self.now.state entry.command) (own_step c.args.self.now entry) c.in_ok-decision.decision c.in_ok-decision.ensures).1)
 
-pub returns-clause-call : goal.returns-clause-call
-returns-clause-call g c = remakes c.args.self.now c.run.new.self c.args.entry.now c.run.result c.requires.own_draft c.run.ensures.call
+pub returns : goal.returns
+returns c =
+    let entry = c.args.entry.now in
+    let past = decided_past entry.draft c.args.self.now.state entry.command (opening sha256 c.args.self.now.state entry.command) (own_step c.args.self.now entry) c.in_ok-decision.decision c.in_ok-decision.ensures in
+    record { call = replay_done c.args.self.now c.redo.new.self entry c.in_ok-told.told past.0 (c.in_ok-told.ensures entry.command past.1) }
 
-pub returns-clause-keeps : goal.returns-clause-keeps
-returns-clause-keeps g c =
-    subst (λ (l : List LogEntry). Keeps g.K.Keeper.told g.K.Keeper.kept g.K.Keeper.down g.K.Keeper.in_flight g.K.Keeper.faults g.K.Keeper.moment g.K.Keeper.left_since g.K.Keeper.may_leave c.args.keeper.now c.run.new.keeper l c.run.result) (logs_again c.args.self.now c.args.entry.now c.requires.own_draft) c.run.ensures.keeps
+pub returns-in_err-decision : goal.returns-in_err-decision
+returns-in_err-decision c =
+    let p = err_from_is_err_and c.from_residual.result c.from_residual.ensures.1 in
+    rw (p.1, p.2) record { call = replay_fails c.args.self.now c.args.self.now c.args.entry.now c.in_err-decision.field-0.0 c.in_err-decision.ensures }

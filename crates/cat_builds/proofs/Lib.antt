@@ -1,4 +1,0 @@
-pub mod Ids
-pub mod Found
-pub mod Steps
-pub mod Puts

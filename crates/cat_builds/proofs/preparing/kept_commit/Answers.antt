@@ -1,6 +1,0 @@
-use Rattle.cat_builds.proofs.Steps.{next_kept}
-use Rattle.cat_builds.proofs.preparing.kept_commit.Goals as goal
-
-pub returns-clause-next : goal.returns-clause-next
-returns-clause-next c =
-    next_kept c.args.catalogue.now c.args.request.now c.args.head.now c.args.moment c.args.ops.now c.args.map c.in_ok-commit.commit c.in_ok-kept.kept c.in_ok-commit.ensures c.requires.known c.requires.map c.requires.well_formed c.in_ok-kept.ensures.commit c.in_ok-kept.ensures.map

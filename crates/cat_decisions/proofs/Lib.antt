@@ -1,0 +1,17 @@
+pub mod Lists
+pub mod Unexpired
+pub mod Room
+pub mod Followed
+pub mod Settled
+pub mod Paired
+pub mod Drafted
+pub mod Transplanted
+pub mod Outcomes
+pub mod DraftsDecided
+pub mod Ids
+pub mod Found
+pub mod Steps
+pub mod Puts
+pub mod Making
+pub mod Referred
+pub mod Decided

@@ -1,0 +1,13 @@
+pub mod Drafts
+pub mod Expiring
+pub mod ExpiringLaws
+pub mod AddedLaws
+pub mod OpenedLaws
+pub mod LaterLaws
+pub mod Decisions
+pub mod Settling
+pub mod Builds
+pub mod BuildLaws
+pub mod KeyLaws
+pub mod Putting
+pub mod UnexpiredLaws

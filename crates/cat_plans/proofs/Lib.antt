@@ -1,9 +1,0 @@
-pub mod Lists
-pub mod Unexpired
-pub mod Room
-pub mod Followed
-pub mod Settled
-pub mod Paired
-pub mod Drafted
-pub mod Transplanted
-pub mod Outcomes

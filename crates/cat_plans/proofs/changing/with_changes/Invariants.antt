@@ -1,7 +1,0 @@
-use Rattle.std.proofs.Common.{◌≡◌, ◌++◌}
-use Rattle.std.specs.Vec.Iter.{into_iter_items}
-use Rattle.cat_plans.specs.Drafts.{changing}
-use Rattle.cat_plans.proofs.changing.with_changes.Given as goal
-
-abbrev pub invariant-loop-one : goal.invariant-loop-one
-invariant-loop-one l = l.made.items ++ changing (into_iter_items l.one-iterator) ≡ changing l.fn.planned.items

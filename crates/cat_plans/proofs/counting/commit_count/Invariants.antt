@@ -1,6 +1,0 @@
-use Rattle.std.proofs.Common.{◌≡◌, ◌+◌, ◌≤◌, drop, length}
-use Rattle.cat_plans.specs.Drafts.{changing}
-use Rattle.cat_plans.proofs.counting.commit_count.Given as goal
-
-abbrev pub invariant-loop-one : goal.invariant-loop-one
-invariant-loop-one l = record { left : l.count + length (changing (drop l.one-index l.planned)) ≡ length (changing l.planned); bound : l.count ≤ l.one-index }

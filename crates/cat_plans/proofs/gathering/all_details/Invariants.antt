@@ -1,6 +1,0 @@
-use Rattle.std.proofs.Common.{◌≡◌, take}
-use Rattle.cat_plans.specs.Drafts.{all_details_in}
-use Rattle.cat_plans.proofs.gathering.all_details.Given as goal
-
-abbrev pub invariant-loop-one : goal.invariant-loop-one
-invariant-loop-one l = l.out ≡ all_details_in (take l.one-index l.planned)
