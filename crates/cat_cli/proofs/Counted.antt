@@ -15,7 +15,7 @@ use Rattle.cat_cli.specs.Runs.{Checks, ChecksKnown, Opens, Seen}
 use Rattle.cat_cli.specs.Surviving.{IsBegun, KeepsThrough, Spared, StandsAs, images_at, images_of}
 use Rattle.cat_cli.proofs.Opened.{begins_at, left_at}
 use Rattle.cat_cli.proofs.Surviving.{spared_surviving, survives, survives_at, tells_of}
-use Rattle.cat_cli.proofs.Told.{some_is, not_none}
+use Rattle.cat_serve.proofs.Told.{some_is, not_none}
 
 stands_both : (told after : Option (List ℕ)) (payloads : List (List ℕ)) → IfSome told (λ bytes. recovered bytes ≡ Ok payloads) → IfSome after (IsJournalOf payloads) → StandsFor told after
 stands_both None after payloads a b before now e f = absurd (not_none before e)

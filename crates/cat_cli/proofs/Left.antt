@@ -9,7 +9,7 @@ use Rattle.cat_core.specs.Stored.{Stored, opened_of}
 use Rattle.cat_desk.specs.Pass.{DeskId, mark_of}
 use Rattle.cat_desk.specs.declared.pass.Pass.{Pass}
 use Rattle.cat_work.specs.Passes.{book_of}
-use Rattle.cat_cli.specs.Sessions.{Fallen, Standing, IsAt, seen_failed, seen_fallen}
+use Rattle.cat_serve.specs.Sessions.{Fallen, Standing, IsAt, seen_failed, seen_fallen}
 use Rattle.cat_cli.specs.Stores.{IsLeftSo}
 
 -- the count and the payload of what is seen

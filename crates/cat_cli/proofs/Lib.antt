@@ -1,14 +1,3 @@
-pub mod Points
-pub mod Clocked
-pub mod Told
-pub mod Calls
-pub mod Changing
-pub mod Brought
-pub mod Changed
-pub mod Standing
-pub mod Answering
-pub mod Reading
-pub mod Visiting
 pub mod Starting
 pub mod Left
 pub mod Opened

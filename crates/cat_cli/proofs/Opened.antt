@@ -26,9 +26,9 @@ use Rattle.cat_cli.specs.declared.unopened.Unopened.TheVariants as whys
 use Rattle.cat_cli.specs.Journals.{Begins, DisksFell, Holds, IsBack, IsJournalOf, RoseBy, StandsFor, TellsAs, told_at}
 use Rattle.cat_cli.specs.Opening.{FaultKnown, FaultTold, IsReason, IsStored, Refused, RefusedKnown, by_journal, by_store, is_unreadable}
 use Rattle.cat_cli.specs.Runs.{CountedBy, Refuses, RefusesSo, Seen, spares_disks}
-use Rattle.cat_cli.specs.Sessions.{Fallen}
+use Rattle.cat_serve.specs.Sessions.{Fallen}
 use Rattle.cat_cli.specs.Surviving.{Images, Spared}
-use Rattle.cat_cli.proofs.Told.{some_is, not_none}
+use Rattle.cat_serve.proofs.Told.{some_is, not_none}
 
 -- ---- counts of faults
 

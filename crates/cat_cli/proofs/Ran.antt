@@ -6,15 +6,15 @@ use Rattle.cat_io.specs.Places.{stood, taken}
 use Rattle.cat_state.specs.Kept.{spelling, spellings}
 use Rattle.cat_core.specs.Stored.{Stored}
 use Rattle.cat_model.specs.declared.log_entry.LogEntry.{LogEntry}
-use Rattle.cat_cli.specs.declared.ending.Session.{Session as End}
-use Rattle.cat_cli.specs.declared.ending.Session.TheVariants as ends
+use Rattle.cat_serve.specs.declared.ending.Session.{Session as End}
+use Rattle.cat_serve.specs.declared.ending.Session.TheVariants as ends
 use Rattle.cat_cli.specs.declared.status.Status.{Status}
 use Rattle.cat_cli.specs.declared.status.Status.TheVariants as statuses
 use Rattle.cat_cli.specs.Journals.{Holds, told_at}
 use Rattle.cat_cli.specs.Opening.{HoldsLog, IsStored, status_of}
 use Rattle.cat_cli.specs.Runs.{Answers, CountedBy, Ran, RanKnown, RanWell, SaysKnown, Seen, spares_disks, start, tells_all}
-use Rattle.cat_cli.specs.Sessions.{Readings, ReadsOn, Fallen}
-use Rattle.cat_cli.specs.SessionLaws.{log_grows}
+use Rattle.cat_serve.specs.Sessions.{Readings, ReadsOn, Fallen}
+use Rattle.cat_serve.specs.SessionLaws.{log_grows}
 use Rattle.cat_cli.specs.Stores.{RunsKnown}
 use Rattle.cat_cli.specs.Surviving.{IsBegun, KeepsThrough, StandsAs, Survives, images_at, images_of}
 use Rattle.cat_cli.proofs.Opened.{begins_at, left_at}

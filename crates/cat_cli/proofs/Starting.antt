@@ -7,8 +7,8 @@ use Rattle.cat_desk.specs.Pass.{DeskId, mark_of, number_of}
 use Rattle.cat_desk.specs.declared.pass.Pass.{Pass}
 use Rattle.cat_work.specs.Passes.{IsAlone, IsReady, book_of}
 use Rattle.cat_cli.specs.Runs.{IsTold, start}
-use Rattle.cat_cli.specs.Sessions.{Stands, seen_failed}
-use Rattle.cat_cli.proofs.Told.{appended}
+use Rattle.cat_serve.specs.Sessions.{Stands, seen_failed}
+use Rattle.cat_serve.proofs.Told.{appended}
 
 -- the first pass of a desk whose store's appends have all succeeded stands at the start of a session
 pub started : (desk : DeskId) (pass : Pass) (book : Book) (mark : Mark) (bytes held : Option (List ℕ)) (b w : List ℕ)

@@ -13,7 +13,7 @@ use Rattle.cat_keeper.specs.Keeping.{WithOrWithout}
 use Rattle.cat_keeper.specs.Watching.{IsFrontOf, IsWatchedSo, with_flying}
 use Rattle.cat_state.specs.Kept.{spelling}
 use Rattle.cat_cli.specs.Journals.{TellsAs, told_at}
-use Rattle.cat_cli.specs.Sessions.{Fallen}
+use Rattle.cat_serve.specs.Sessions.{Fallen}
 use Rattle.cat_cli.specs.Surviving.{EndsAt, Images, IsBegun, IsEarlier, IsOnTheWay, LeavesLog, Spared, StandsAs, Survives, images_at, images_of}
 
 take_past : {A : Type 0} (xs ys : List A) (m : ℕ) → take (length xs + m) (xs ++ ys) ≡ xs ++ take m ys

@@ -10,7 +10,7 @@ use Rattle.cat_model.specs.Book.{Book, first_book}
 use Rattle.cat_model.specs.Limits.{program_limits}
 use Rattle.cat_cli.specs.declared.unopened.Unopened.{Unopened}
 use Rattle.cat_cli.specs.declared.unopened.Unopened.TheVariants as whys
-use Rattle.cat_cli.specs.Sessions.{Fallen}
+use Rattle.cat_serve.specs.Sessions.{Fallen}
 
 -- ---- disks at paths
 

@@ -1,8 +1,3 @@
-pub mod Replies
-pub mod Sessions
-pub mod SessionLaws
-pub mod Answers
-pub mod Passes
 pub mod Lines
 pub mod Journals
 pub mod Surviving

@@ -7,8 +7,8 @@ use Rattle.cat_state.specs.Kept.{spelling, spellings}
 use Rattle.cat_journal.specs.declared.fault.OpenFault.{OpenFault}
 use Rattle.cat_journal.specs.declared.fault.OpenFault.TheVariants as faults
 use Rattle.cat_model.specs.Book.{Book}
-use Rattle.cat_cli.specs.declared.ending.Session.{Session as End}
-use Rattle.cat_cli.specs.declared.ending.Session.TheVariants as ends
+use Rattle.cat_serve.specs.declared.ending.Session.{Session as End}
+use Rattle.cat_serve.specs.declared.ending.Session.TheVariants as ends
 use Rattle.cat_cli.specs.declared.status.Status.{Status}
 use Rattle.cat_cli.specs.declared.status.Status.TheVariants as statuses
 use Rattle.cat_cli.specs.declared.unopened.Unopened.{Unopened}
@@ -16,7 +16,7 @@ use Rattle.cat_cli.specs.declared.unopened.Unopened.TheVariants as whys
 use Rattle.cat_cli.specs.Journals.{Begins, Holds, unopened_of}
 use Rattle.cat_cli.specs.Lines.{disk_fault_line, no_memory_line, unopened_line}
 use Rattle.cat_cli.specs.Runs.{IsFront, IsTold}
-use Rattle.cat_cli.specs.Sessions.{Fallen}
+use Rattle.cat_serve.specs.Sessions.{Fallen}
 
 -- ---- why none is opened
 

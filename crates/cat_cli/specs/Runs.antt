@@ -6,14 +6,14 @@ use Rattle.cat_model.specs.Book.{Book}
 use Rattle.std.specs.Option.{option_map}
 use Rattle.cat_state.specs.Kept.{spelling, spellings}
 use Rattle.cat_words.specs.Asked.{Task, script, check, drill}
-use Rattle.cat_cli.specs.declared.ending.Session.{Session as End}
-use Rattle.cat_cli.specs.declared.ending.Session.TheVariants as ends
+use Rattle.cat_serve.specs.declared.ending.Session.{Session as End}
+use Rattle.cat_serve.specs.declared.ending.Session.TheVariants as ends
 use Rattle.cat_cli.specs.declared.unopened.Unopened.{Unopened}
 use Rattle.cat_cli.specs.declared.status.Status.{Status}
 use Rattle.cat_cli.specs.declared.status.Status.TheVariants as statuses
 use Rattle.cat_cli.specs.Journals.{Begins, Holds, IsJournalOf, StandsFor, unopened_of}
 use Rattle.cat_cli.specs.Lines.{check_line, disk_fault_line, no_memory_line, unopened_line}
-use Rattle.cat_cli.specs.Sessions.{AreAhead, Readings, ReadsOn, Fallen, Point, Standing, Ends}
+use Rattle.cat_serve.specs.Sessions.{AreAhead, Readings, ReadsOn, Fallen, Point, Standing, Ends}
 use Rattle.cat_cli.specs.Surviving.{Images, Spared, Survives}
 
 -- the process's status

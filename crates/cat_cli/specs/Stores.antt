@@ -2,9 +2,9 @@
 use Rattle.std.specs.Prelude.{ℕ, ◌≡◌, List, Option, Some, option_map}
 use Rattle.cat_state.specs.Kept.{spelling}
 use Rattle.cat_core.specs.Stored.{Stored}
-use Rattle.cat_cli.specs.declared.ending.Session.{Session as End}
+use Rattle.cat_serve.specs.declared.ending.Session.{Session as End}
 use Rattle.cat_cli.specs.Runs.{start}
-use Rattle.cat_cli.specs.Sessions.{AreAhead, Readings, ReadsOn, Fallen, Standing, Ends}
+use Rattle.cat_serve.specs.Sessions.{AreAhead, Readings, ReadsOn, Fallen, Standing, Ends}
 
 -- what a session left of a store: the log of its last standing, and a keeper that is down where an append failed
 pub record IsLeftSo {K : Type 0} (down : K → Option ℕ) (in_flight : K → Option (List ℕ)) (last : Standing) (store : Stored K) : Type 0 where

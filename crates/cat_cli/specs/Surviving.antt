@@ -8,7 +8,7 @@ use Rattle.cat_keeper.specs.Keeping.{WithOrWithout}
 use Rattle.cat_keeper.specs.Watching.{IsFrontOf, with_flying}
 use Rattle.cat_state.specs.Kept.{spelling, spellings}
 use Rattle.cat_model.specs.Book.{Book}
-use Rattle.cat_cli.specs.Sessions.{Fallen}
+use Rattle.cat_serve.specs.Sessions.{Fallen}
 
 -- ---- what is known of the disk
 

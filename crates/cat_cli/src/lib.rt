@@ -6,20 +6,15 @@
 //! that a seed makes.
 #![tactic(auto)]
 
-mod answer;
 mod checking;
-mod ending;
 mod journal;
 mod program;
-mod reply;
 mod scripting;
-mod session;
 mod status;
 mod telling;
 mod unopened;
 
 pub use cat_words::words_of;
-pub use ending::Session;
 pub use program::run;
 pub use status::Status;
 pub use telling::tell_no_memory;

@@ -10,19 +10,22 @@ ghost use Rattle.cat_cli.specs.Stores.{RunsKnown};
 ghost use Rattle.cat_cli.specs.Surviving.{IsBegun, Spared, images_at, images_of};
 ghost use Rattle.cat_model.specs.Drafts.{nothing_open};
 
-use crate::ending::Session;
 use crate::journal::{disk_of, store_on};
-use crate::session::run_session;
 use crate::status::Status;
 use crate::unopened::{Unopened, refuse};
 use cat_codes::fault::NoMemory;
 use cat_core::Store;
+use cat_desk::NoGate;
 use cat_io::{Clock, Disk, Disks, Sink, Source};
 use cat_keeper::{Keeper, Since};
+use cat_serve::{Session, Settings, serve_connection};
 use cat_work::{hold, release};
 use std::alloc::Global;
 use std::marker::{Brand, Send};
 use std::sync::Wait;
+
+/// How often a call is tried on a branch that others move.
+const ATTEMPTS: u32 = 8;
 
 // The status after a session, by whether the disk failed.
 fn status_of(end: Session, failed: bool) -> Status
@@ -63,7 +66,11 @@ fn hold_session<R: Wait, K0: Keeper, S: Source, K: Sink, C: Clock>(
 {
     match hold(alloc, store) {
         Ok((desk, mut pass)) => {
-            let end = run_session(rt, alloc, &desk, &mut pass, source, sink, clock);
+            let mut gate = NoGate {};
+            let settings = Settings { attempts: ATTEMPTS };
+            let end = serve_connection(
+                rt, alloc, &desk, &mut pass, source, sink, clock, &mut gate, settings,
+            );
             let store = release(desk, pass);
             store.log_is_kept();
             Ok((store, end))

@@ -1,6 +1,6 @@
 use Rattle.std.proofs.Common.{◌≡◌, ℕ, List, [], Option, Some, inr, refl, sym, ◌∙◌, ap}
 use Rattle.cat_words.specs.Asked.{Task, check, script, task}
-use Rattle.cat_cli.proofs.Clocked.{some_readings}
+use Rattle.cat_serve.specs.ReadingLaws.{some_readings}
 use Rattle.cat_cli.proofs.Opened.{stands_untouched}
 use Rattle.cat_cli.proofs.Surviving.{spared_untouched}
 use Rattle.cat_cli.proofs.program.run.Goals as goal

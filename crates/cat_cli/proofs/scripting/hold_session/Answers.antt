@@ -1,20 +1,19 @@
-use Rattle.std.proofs.Common.{ℕ, ◌≤◌, refl, subst}
+use Rattle.std.proofs.Common.{ℕ, ◌≤◌, refl, subst, arith}
 use Rattle.cat_io.specs.Causes.{Rose}
 use Rattle.cat_cli.specs.Runs.{start}
-use Rattle.cat_cli.proofs.Clocked.{reads_on, some_readings}
+use Rattle.cat_serve.specs.ReadingLaws.{reads_on, some_readings}
 use Rattle.cat_cli.proofs.Left.{began_on, fallen_at, left_so}
-use Rattle.cat_cli.proofs.Standing.{alone_on}
 use Rattle.cat_cli.proofs.Starting.{started}
 use Rattle.cat_cli.proofs.scripting.hold_session.Goals as goal
 
 pub release-store-requires-clause-alone : goal.release-store-requires-clause-alone
-release-store-requires-clause-alone g c lives alive = alone_on c.in-Ok.desk c.in-Ok.pass _ c.run_session-end.ensures.kept c.in-Ok.ensures.ready.1
+release-store-requires-clause-alone g c lives alive = omega (arith, c.serve_connection-end.ensures.kept.held, c.serve_connection-end.ensures.kept.spare, c.in-Ok.ensures.ready.1)
 
 pub returns-in-Ok-clause-ends : goal.returns-in-Ok-clause-ends
 returns-in-Ok-clause-ends g c b w e f =
     let ready = c.in-Ok.ensures.ready in
     let begins = started c.in-Ok.desk c.in-Ok.pass c.args.store.book c.args.store.mark _ _ b w ready.0 ready.1 ready.2 c.in-Ok.ensures.book c.in-Ok.ensures.mark c.requires.up e f in
-    let ends = c.run_session-end.ensures.ends in
+    let ends = c.serve_connection-end.ensures.alone in
     let k = some_readings ends.0 _ _ ends.1 in
     let x = ends.2 k.0 (start c.args.store.book b w) k.2 refl begins in (
       k.0,
@@ -23,7 +22,7 @@ returns-in-Ok-clause-ends g c b w e f =
       x.1,
       x.2,
       x.3,
-      left_so g.K0.Keeper.down g.K0.Keeper.in_flight c.in-Ok.desk x.2 c.run_session-end.new.pass c.release-store.result x.4 c.release-store.ensures.book c.release-store.ensures.mark
+      left_so g.K0.Keeper.down g.K0.Keeper.in_flight c.in-Ok.desk x.2 c.serve_connection-end.new.pass c.release-store.result x.4 c.release-store.ensures.book c.release-store.ensures.mark
           c.log_is_kept.ensures.fallen c.log_is_kept.ensures.flies,
       reads_on ends.0 _ _ x.2.readings ends.1 x.5,
     )

@@ -1,6 +1,6 @@
 use Rattle.std.proofs.Common.{rules, ◌≡◌, [], inl, inr, refl, ◌∙◌, ap}
 use Rattle.cat_cli.specs.Journals.{DisksFell, RoseBy}
-use Rattle.cat_cli.proofs.Clocked.{some_readings}
+use Rattle.cat_serve.specs.ReadingLaws.{some_readings}
 use Rattle.cat_cli.proofs.Opened.{disk_fell, rose_first, rose_there}
 use Rattle.cat_cli.proofs.Ran.{says}
 use Rattle.cat_cli.proofs.Refused.{never_opened, of_err, of_ok, refused_there}

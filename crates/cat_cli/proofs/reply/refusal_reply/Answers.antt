@@ -1,8 +1,0 @@
-use Rattle.std.proofs.Common.{ap, inr}
-use Rattle.cat_http.specs.Reply.{render}
-use Rattle.cat_cli.specs.Replies.{said_bytes}
-use Rattle.cat_cli.proofs.reply.refusal_reply.Goals as goal
-
-pub returns : goal.returns
-unfolding said_bytes
-returns c = inr (ap render c.no_memory.ensures)

@@ -1,0 +1,13 @@
+pub mod Points
+pub mod Clocked
+pub mod Told
+pub mod Calls
+pub mod Changing
+pub mod Brought
+pub mod Changed
+pub mod Standing
+pub mod Answering
+pub mod Reading
+pub mod Making
+pub mod Visiting
+pub mod Serving

@@ -1,0 +1,92 @@
+-- The entries that a request makes.
+use Rattle.std.proofs.Common.{◌≡◌, ℕ, ◌==◌, List, [], ◌∷◌, ◌++◌, cond, Bool, Result, Ok, Err, refl, sym, ◌∙◌, ap, ap₂, inl, inr}
+use Rattle.std.proofs.lemmas.Bool.{eq-eqb, ne_eqb}
+use Rattle.std.proofs.lemmas.List.{append_assoc, append-nil}
+use Rattle.std.proofs.lemmas.List.Elements.{filter-append}
+use Rattle.cat_desk.specs.Log.{Follows, Others}
+use Rattle.cat_desk.specs.Pass.{DeskId, known, mark_of, number_of, seen}
+use Rattle.cat_desk.specs.declared.pass.Pass.{Pass}
+use Rattle.cat_model.specs.declared.command.Command.{Command}
+use Rattle.cat_model.specs.declared.log_entry.LogEntry.{LogEntry}
+use Rattle.cat_model.specs.declared.refusal.Refusal.{Refusal}
+use Rattle.cat_model.specs.declared.refusal.Refused.{Refused}
+use Rattle.cat_model.specs.declared.reply.Told.{Told}
+use Rattle.cat_model.specs.declared.wanted.Wanted.{Wanted}
+use Rattle.cat_model.specs.declared.wanted.Wanted.TheVariants.{Change, Read}
+use Rattle.cat_work.specs.Answers.{Answers}
+use Rattle.cat_serve.specs.Entries.{BeginsWith, Makes, entries_of}
+use Rattle.cat_serve.specs.Passes.{Comes}
+
+-- ---- lists that begin with others
+
+pub begins_on : (l m k : List LogEntry) → BeginsWith l m → BeginsWith m k → BeginsWith l k
+begins_on l m k one two = (one.0 ++ two.0, two.1 ∙ ap (λ (x : List LogEntry). x ++ two.0) one.1 ∙ append_assoc l one.0 two.0)
+
+-- ---- a caller's entries
+
+others_none : (n : ℕ) (xs : List LogEntry) → Others n xs → entries_of n xs ≡ []
+others_none n [] none = refl
+others_none n (x ∷ xs) (other, others) =
+    ap (λ (own : Bool). cond own (x ∷ entries_of n xs) (entries_of n xs)) (ne_eqb x.caller n other) ∙ others_none n xs others
+
+own_one : (n : ℕ) (x : LogEntry) → x.caller ≡ n → entries_of n (x ∷ []) ≡ x ∷ []
+own_one n x own = ap (λ (b : Bool). cond b (x ∷ []) []) (eq-eqb x.caller n own)
+
+follows_own : (n : ℕ) (l m : List LogEntry) → Follows n l m → entries_of n m ≡ entries_of n l
+follows_own n l m (rest, is, others) =
+    ap (entries_of n) is ∙ filter-append (λ (entry : LogEntry). entry.caller == n) l rest
+    ∙ ap (λ (x : List LogEntry). entries_of n l ++ x) (others_none n rest others) ∙ append-nil (entries_of n l)
+
+accepted_own : (n : ℕ) (l m earlier : List LogEntry) (entry : LogEntry) → Follows n l earlier → m ≡ earlier ++ entry ∷ [] → entry.caller ≡ n
+    → entries_of n m ≡ entries_of n l ++ entry ∷ []
+accepted_own n l m earlier entry follows log own =
+    ap (entries_of n) log ∙ filter-append (λ (x : LogEntry). x.caller == n) earlier (entry ∷ [])
+    ∙ ap₂ (λ (x y : List LogEntry). x ++ y) (follows_own n l earlier follows) (own_one n entry own)
+
+accepted_begins : (n : ℕ) (l m earlier : List LogEntry) (entry : LogEntry) → Follows n l earlier → m ≡ earlier ++ entry ∷ [] → BeginsWith l m
+accepted_begins n l m earlier entry (rest, is, others) log =
+    (rest ++ entry ∷ [], log ∙ ap (λ (x : List LogEntry). x ++ entry ∷ []) is ∙ append_assoc l rest (entry ∷ []))
+
+-- ---- by what was made
+
+module _ (desk : DeskId) (wants : Result Wanted Refusal) (taken : List ℕ) (p q : Pass) (told : Result Told Refused) where
+  pub makes_own : (entries : List LogEntry) → Makes desk wants taken p q told entries → entries_of (number_of p) (seen q) ≡ entries_of (number_of p) (seen p) ++ entries
+  makes_own [] follows = follows_own (number_of p) (seen p) (seen q) follows ∙ sym (append-nil (entries_of (number_of p) (seen p)))
+  makes_own (entry ∷ []) is =
+      let a = is.accepts in
+      accepted_own (number_of p) (seen p) (seen q) a.earlier a.entry a.follows a.log a.caller
+      ∙ ap (λ (x : LogEntry). entries_of (number_of p) (seen p) ++ x ∷ []) is.entry_is
+  makes_own (entry ∷ next ∷ more) is = absurd is
+
+  pub makes_begins : (entries : List LogEntry) → Makes desk wants taken p q told entries → BeginsWith (seen p) (seen q)
+  makes_begins [] follows = (follows.0, follows.1)
+  makes_begins (entry ∷ []) is = let a = is.accepts in accepted_begins (number_of p) (seen p) (seen q) a.earlier a.entry a.follows a.log
+  makes_begins (entry ∷ next ∷ more) is = absurd is
+
+-- ---- what is made, by what was told
+
+made_by_change : (desk : DeskId) (attempts : ℕ) (command : Command) (moment : ℕ) (taken : List ℕ) (p q : Pass) (told : Result Told Refused) → taken ≡ moment ∷ []
+    → Answers desk (number_of p) command moment attempts (known p) (mark_of p) (mark_of q) (seen p) (seen q) told
+    → (entries : List LogEntry) × Makes desk (Ok (Change command)) taken p q told entries
+made_by_change desk attempts command moment taken p q (Ok answer) one (inl accepts) = (
+  accepts.entry ∷ [],
+  record {
+    command = command;
+    wants_is = refl;
+    moment = moment;
+    one = one;
+    answer = answer;
+    told_is = refl;
+    accepts = accepts;
+    entry_is = refl;
+  },
+)
+made_by_change desk attempts command moment taken p q (Ok answer) one (inr tells) = ([], tells.follows)
+made_by_change desk attempts command moment taken p q (Err refused) one answers = ([], answers.0)
+
+pub made_in : (desk : DeskId) (attempts : ℕ) (wants : Result Wanted Refusal) (taken : List ℕ) (p q : Pass) (told : Result Told Refused) → Comes desk attempts wants taken p q told
+    → (entries : List LogEntry) × Makes desk wants taken p q told entries
+made_in desk attempts (Ok (Change command)) taken p q told (inl change) = made_by_change desk attempts command change.moment taken p q told change.one change.answers
+made_in desk attempts (Ok (Read ask)) taken p q told (inl reading) = ([], reading.follows)
+made_in desk attempts (Err why) taken p q told (inl call) = absurd call
+made_in desk attempts wants taken p q told (inr refusal) = ([], ([], ap seen refusal.stays ∙ sym (append-nil (seen p)), tt))

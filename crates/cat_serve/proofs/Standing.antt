@@ -1,0 +1,146 @@
+-- What a pass does at a request, from where it stands.
+use Rattle.std.proofs.Common.{◌≡◌, ℕ, ◌+◌, List, [], ◌∷◌, Option, Some, None, Result, Ok, Err, refl, sym, ◌∙◌, ap, ap₂, subst}
+use Rattle.sha2.specs.Sha256.{sha256}
+use Rattle.cat_model.specs.declared.ask.Ask.{Ask}
+use Rattle.cat_model.specs.declared.command.Command.{Command}
+use Rattle.cat_model.specs.declared.refusal.Refusal.{Refusal}
+use Rattle.cat_model.specs.declared.refusal.Refusal.TheVariants.{Down, Expired, Fault, NoMemory, RetriesSpent}
+use Rattle.cat_model.specs.declared.refusal.Refused.{Refused}
+use Rattle.cat_model.specs.declared.reply.Told.{Told}
+use Rattle.cat_model.specs.declared.wanted.Wanted.{Wanted}
+use Rattle.cat_model.specs.declared.wanted.Wanted.TheVariants.{Read, Change}
+use Rattle.cat_model.specs.Book.{Book, Reads, call_on}
+use Rattle.cat_model.specs.Mark.{FailedAppend}
+use Rattle.cat_model.specs.Script.{Brought, said_only}
+use Rattle.cat_http.specs.Message.{Message}
+use Rattle.cat_rest.specs.Wanted.{wanted}
+use Rattle.cat_rest.specs.Faults.{Answers}
+use Rattle.cat_state.specs.Kept.{spelling}
+use Rattle.cat_desk.specs.Pass.{DeskId, IsFree, Keeps, mark_of, number_of}
+use Rattle.cat_desk.specs.declared.pass.Pass.{Pass}
+use Rattle.cat_work.specs.Answers.{AnswersAlone, RefusesAlone}
+use Rattle.cat_work.specs.Passes.{IsAlone, IsReady, book_of}
+use Rattle.cat_serve.specs.Sessions.{Readings, Fallen, HasTaken, Standing, IsAt, seen_failed, seen_fallen, session_of}
+use Rattle.cat_serve.specs.Answers.{Brings}
+use Rattle.cat_serve.proofs.Brought.{read, refused_by_bytes}
+use Rattle.cat_serve.proofs.Changed.{after_change, called, down, falls, given_up_change}
+use Rattle.cat_serve.proofs.Clocked.{takes_none}
+
+none_fell : (f : Option FailedAppend) (fallen : Option Fallen) → seen_failed f ≡ seen_fallen fallen → f ≡ None → fallen ≡ None
+none_fell f None is none = refl
+none_fell f (Some y) is none = let no : ◌≡◌ {A = Option (ℕ × List ℕ)} None (Some (y.count, spelling y.entry)) = sym (ap seen_failed none) ∙ is in absurd (none_is_some _ no)
+  where
+    none_is_some : (x : ℕ × List ℕ) → ◌≡◌ {A = Option (ℕ × List ℕ)} None (Some x) → ⊥
+    none_is_some x e = cc
+
+-- the append that a standing knows of
+record IsFallen (fallen : Option Fallen) (count : ℕ) : Type 0 where
+  fell : Fallen
+  is : fallen ≡ Some fell
+  count_is : fell.count ≡ count
+
+one_fell : (f : Option FailedAppend) (fallen : Option Fallen) (x : FailedAppend) → seen_failed f ≡ seen_fallen fallen → f ≡ Some x → IsFallen fallen x.count
+one_fell f None x is one = absurd (none_is_some _ (sym is ∙ ap seen_failed one))
+  where
+    none_is_some : (x : ℕ × List ℕ) → ◌≡◌ {A = Option (ℕ × List ℕ)} None (Some x) → ⊥
+    none_is_some x e = cc
+one_fell f (Some y) x is one = record { fell = y; is = refl; count_is = same (y.count, spelling y.entry) (x.count, x.payload) (sym is ∙ ap seen_failed one) }
+  where
+    same : (a b : ℕ × List ℕ) → ◌≡◌ {A = Option (ℕ × List ℕ)} (Some a) (Some b) → a.0 ≡ b.0
+    same a b e = cc
+
+-- a pass that is as much as it was
+pub keeps_self : (desk : DeskId) (p : Pass) → IsFree desk p → Keeps desk p p
+keeps_self desk p free = record { free = free; number = refl; spare = refl; held = refl }
+
+pub keeps_on : (desk : DeskId) (p q r : Pass) → Keeps desk p q → Keeps desk q r → Keeps desk p r
+keeps_on desk p q r one two = record { free = two.free; number = two.number ∙ one.number; spare = two.spare ∙ one.spare; held = two.held ∙ one.held }
+
+-- the only pass of its desk stays so
+alone_on : (desk : DeskId) (p q : Pass) → Keeps desk p q → IsAlone p → IsAlone q
+alone_on desk p q kept alone = ap₂ (λ (a b : ℕ). a + b) kept.held kept.spare ∙ alone
+
+module _ (desk : DeskId) where
+  -- what a request brings, and where the pass stands then, once these readings were taken
+  abbrev pub BringsOn : List ℕ → Readings → Standing → Message → Result Told Refused → Pass → Type 0
+  BringsOn taken k s m told pass = (b : Brought) × (s' : Standing) × Brings k s m told b s' × IsAt desk s' pass × HasTaken taken s s'
+
+  -- where a pass stands after a call
+  stands_on : (s s' : Standing) (p q : Pass) → IsAt desk s p → Keeps desk p q → IsReady desk q
+      → book_of desk q ≡ s'.book → seen_failed (mark_of q).fault ≡ seen_fallen s'.fallen → IsAt desk s' q
+  stands_on s s' p q at kept ready book fault =
+      record { ready = ready; alone = alone_on desk p q kept at.alone; number = kept.number ∙ at.number; book_is = book; fault_is = fault }
+
+  -- ---- requests that change nothing
+
+  pub from_reading : (k : Readings) (s : Standing) (m : Message) (p q : Pass) (ask : Ask) (result : Result Told Refused) → IsAt desk s p → wanted m ≡ Ok (Read ask)
+      → Keeps desk p q → IsReady desk q → Reads sha256 (book_of desk q) ask result → (IsAlone p → (book_of desk q ≡ book_of desk p) × ((mark_of q).fault ≡ (mark_of p).fault))
+      → BringsOn [] k s m result q
+  from_reading k s m p q ask result at w kept ready reads alone =
+      let same = alone at.alone in
+      let book : book_of desk q ≡ s.book = same.0 ∙ at.book_is in (
+        said_only (session_of s) result,
+        s,
+        read k s m ask result w (subst (λ (x : Book). Reads sha256 x ask result) book reads),
+        stands_on s s p q at kept ready book (ap seen_failed same.1 ∙ at.fault_is),
+        takes_none s,
+      )
+
+  pub from_refusal : (k : Readings) (s : Standing) (m : Message) (pass : Pass) (refused : Refused) → IsAt desk s pass
+      → Answers {A = Wanted} (Err refused) (wanted m) → BringsOn [] k s m (Err refused) pass
+  from_refusal k s m pass refused at w = (said_only (session_of s) (Err refused), s, refused_by_bytes k s m refused w, at, takes_none s)
+
+  -- ---- changes
+
+  module _ (k : Readings) (s : Standing) (m : Message) (command : Command) (p q : Pass) (moment : ℕ) (at : IsAt desk s p) (kept : Keeps desk p q) (ready : IsReady desk q)
+      (w : wanted m ≡ Ok (Change command)) where
+    -- where the pass stands after the call
+    stands_at : (fallen : Option Fallen) → seen_failed (mark_of q).fault ≡ seen_fallen fallen → IsAt desk (after_change s (book_of desk q) fallen) q
+    stands_at fallen fault = stands_on s (after_change s (book_of desk q) fallen) p q at kept ready refl fault
+
+    -- by why the call was refused
+    refused_by : (place : Option ℕ) (why : Refusal)
+        → RefusesAlone 1 (call_on sha256 1 s.book command (k s.readings)) s.book (book_of desk q) (mark_of p).fault (mark_of q).fault (record { place = place; why = why }) why
+        → BringsOn (moment ∷ []) k s m (Err (record { place = place; why = why })) q
+    refused_by place NoMemory a =
+        (_, after_change s (book_of desk q) s.fallen, given_up_change k s m (book_of desk q) place a.0, stands_at s.fallen (ap seen_failed a.1 ∙ at.fault_is), refl)
+    refused_by place Fault a =
+        let fallen : Fallen = record { count = a.fault.count; entry = a.entry } in (
+          _,
+          after_change s (book_of desk q) (Some fallen),
+          falls k s m command (book_of desk q) place fallen (none_fell (mark_of p).fault s.fallen at.fault_is a.up) w a.place a.logged a.unkept,
+          stands_at (Some fallen) (ap seen_failed a.is ∙ ap (λ (y : List ℕ). Some (a.fault.count, y)) a.payload),
+          refl,
+        )
+    refused_by place (Down count) a =
+        let fell = one_fell (mark_of p).fault s.fallen a.fault at.fault_is a.was in
+        let told : ◌≡◌ {A = Result Told Refused} (Err (record { place = Some s.book.state.place; why = Down fell.fell.count })) (Err (record { place = place; why = Down count })) =
+        ap₂ (λ (x : Option ℕ) (c : ℕ). Err (record { place = x; why = Down c })) (sym a.place) (fell.count_is ∙ a.count_is) in
+        subst (λ (x : Result Told Refused). BringsOn (moment ∷ []) k s m x q) told (
+          _,
+          after_change s s.book s.fallen,
+          down k s fell.fell m command fell.is w,
+          stands_on s (after_change s s.book s.fallen) p q at kept ready a.book (ap seen_failed (a.is ∙ sym a.was) ∙ at.fault_is),
+          refl,
+        )
+    refused_by place (RetriesSpent pairs) a = absurd a
+    refused_by place (Expired keys opened) a = absurd a
+    refused_by place why a =
+        (_, after_change s (book_of desk q) None, called k s m command (book_of desk q) _ (none_fell (mark_of p).fault s.fallen at.fault_is a.1) w a.0, stands_at None (ap seen_failed a.2), refl)
+
+    -- by what was told
+    changed : (result : Result Told Refused) → AnswersAlone 1 (call_on sha256 1 s.book command (k s.readings)) s.book (book_of desk q) (mark_of p).fault (mark_of q).fault result
+        → BringsOn (moment ∷ []) k s m result q
+    changed (Ok x) a =
+        (_, after_change s (book_of desk q) None, called k s m command (book_of desk q) (Ok x) (none_fell (mark_of p).fault s.fallen at.fault_is a.1) w a.0, stands_at None (ap seen_failed a.2), refl)
+    changed (Err refused) a = refused_by refused.place refused.why a
+
+  pub from_change : (k : Readings) (s : Standing) (m : Message) (command : Command) (p q : Pass) (moment : ℕ) (result : Result Told Refused)
+      → IsAt desk s p → wanted m ≡ Ok (Change command) → Keeps desk p q → IsReady desk q → k s.readings ≡ moment
+      → (IsAlone p → AnswersAlone (number_of p) (call_on sha256 (number_of p) (book_of desk p) command moment) (book_of desk p) (book_of desk q) (mark_of p).fault (mark_of q).fault result)
+      → BringsOn (moment ∷ []) k s m result q
+  from_change k s m command p q moment result at w kept ready reads alone =
+      let by_number = subst (λ (n : ℕ). AnswersAlone n (call_on sha256 n (book_of desk p) command moment) (book_of desk p) (book_of desk q) (mark_of p).fault (mark_of q).fault result) at.number (alone at.alone) in
+      let by_book = subst (λ (b : Book). AnswersAlone 1 (call_on sha256 1 b command moment) b (book_of desk q) (mark_of p).fault (mark_of q).fault result) at.book_is by_number in
+      let by_moment = subst (λ (t : ℕ). AnswersAlone 1 (call_on sha256 1 s.book command t) s.book (book_of desk q) (mark_of p).fault (mark_of q).fault result) (sym reads) by_book in
+      changed k s m command p q moment at kept ready w result by_moment

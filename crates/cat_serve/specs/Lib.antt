@@ -1,0 +1,8 @@
+pub mod Replies
+pub mod Sessions
+pub mod SessionLaws
+pub mod ReadingLaws
+pub mod Answers
+pub mod Entries
+pub mod Passes
+pub mod Serving

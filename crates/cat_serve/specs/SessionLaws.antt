@@ -1,0 +1,60 @@
+-- What a session leaves of the log of its store.
+use Rattle.std.specs.Prelude.{◌≡◌, ◌⊎◌, ℕ, List, [], ◌∷◌, ◌++◌, Option, Some, None, Result}
+use Rattle.std.proofs.Common.{sym, ◌∙◌, ap, inl, inr}
+use Rattle.std.proofs.lemmas.List.{append_assoc}
+use Rattle.cat_model.specs.declared.log_entry.LogEntry.{LogEntry}
+use Rattle.cat_model.specs.declared.refusal.Refusal.{Refusal}
+use Rattle.cat_model.specs.declared.wanted.Wanted.{Wanted}
+use Rattle.cat_model.specs.Script.{Brought}
+use Rattle.cat_serve.specs.declared.ending.Session.{Session as End}
+use Rattle.cat_serve.specs.declared.ending.Session.TheVariants as ends
+use Rattle.cat_serve.specs.Sessions.{Readings, Fallen, Standing, Went, MayComeTo, Point, Turn, Answered, GoesOn, EndsAt, Ends}
+
+-- these entries stand in front of the log before
+abbrev pub IsGrownBy : List LogEntry → Standing → Standing → Type 0
+IsGrownBy entries before after = after.book.log ≡ entries ++ before.book.log
+
+grown_on : (more entries : List LogEntry) (a b c : Standing) → IsGrownBy entries a b → IsGrownBy more b c → IsGrownBy (more ++ entries) a c
+grown_on more entries a b c one two = two ∙ ap (λ (l : List LogEntry). more ++ l) one ∙ sym (append_assoc more entries a.book.log)
+
+went : (k : Readings) (s s' : Standing) (fallen : Option Fallen) (w : Result Wanted Refusal) (b : Brought) → MayComeTo k s fallen w b s' → Went s s' b
+went k s s' None w b (inl p) = p.1
+went k s s' None w b (inr p) = p.went
+went k s s' (Some f) w b p = p.1
+
+by_turn : (k : Readings) (a : Point) (t : Turn) → Answered k a t → IsGrownBy t.brought.logged a.standing t.after.standing
+by_turn k a t p = ap (λ book. book.log) (went k a.standing t.after.standing a.standing.fallen _ t.brought p.brings).book
+
+by_turns : (k : Readings) (turns : List Turn) (a c : Point) → GoesOn k turns a c → (entries : List LogEntry) × IsGrownBy entries a.standing c.standing
+by_turns k [] a c same = ([], ap (λ (p : Point). p.standing.book.log) (sym same))
+by_turns k (t ∷ turns) a c (answered, stays, rest) =
+    let more = by_turns k turns t.after c rest in
+    (more.0 ++ t.brought.logged, grown_on more.0 t.brought.logged a.standing t.after.standing c.standing (by_turn k a t answered) more.1)
+
+-- the store stands as before the request that was due, or as after it
+abbrev IsLast : Readings → Point → Standing → Type 0
+IsLast k c last = (last ≡ c.standing) ⊎ ((t : Turn) × Answered k c t × (last ≡ t.after.standing))
+
+is_last : (k : Readings) (c : Point) (end : End) (held : List ℕ) (last : Standing) → EndsAt k c end held last → IsLast k c last
+is_last k c ends.Closed held last (inl p) = inl p.stays
+is_last k c ends.Closed held last (inr (t, p)) = inr (t, p.answered, p.leaves)
+is_last k c ends.Capped held last p = inl p.2
+is_last k c ends.BadHead held last p = inl p.stays
+is_last k c ends.TooLarge held last p = inl p.stays
+is_last k c ends.ReadFault held last p = inl p.1
+is_last k c ends.WriteFault held last (bytes, inl p, n, is) = inr (p.0, p.1, p.3)
+is_last k c ends.WriteFault held last (bytes, inr (inl p), n, is) = inl p.2
+is_last k c ends.WriteFault held last (bytes, inr (inr p), n, is) = inl p.2
+is_last k c ends.NoMemory held last (told, inl p) = inl p.1
+is_last k c ends.NoMemory held last (told, inr (t, answered, must, same)) = inr (t, answered, same)
+
+by_last : (k : Readings) (c : Point) (last : Standing) → IsLast k c last → (entries : List LogEntry) × IsGrownBy entries c.standing last
+by_last k c last (inl same) = ([], ap (λ (s : Standing). s.book.log) same)
+by_last k c last (inr (t, answered, same)) = (t.brought.logged, ap (λ (s : Standing). s.book.log) same ∙ by_turn k c t answered)
+
+-- the log at the end of a session is that before it, with the entries of the session in front
+pub log_grows : (k : Readings) (a : Point) (end : End) (held : List ℕ) (last : Standing) (unread : Option (List ℕ)) → Ends k a end held last unread → (entries : List LogEntry) × IsGrownBy entries a.standing last
+log_grows k a end held last unread (c, (turns, goes), at, cut) =
+    let one = by_turns k turns a c goes in
+    let two = by_last k c last (is_last k c end held last at) in
+    (two.0 ++ one.0, grown_on two.0 one.0 a.standing c.standing last one.1 two.1)

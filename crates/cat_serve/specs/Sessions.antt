@@ -1,0 +1,227 @@
+-- A session over one stream of bytes: the requests in turn, the replies to them, and how it ends.
+use Rattle.std.specs.Prelude.{ℕ, ◌+◌, ◌<◌, ◌==◌, ◌≡◌, ◌⊎◌, List, [], ◌∷◌, ◌++◌, length, take, Option, Some, None, Bool, true, false, ◌||◌, Result, Ok, Err}
+use Rattle.sha2.specs.Sha256.{sha256}
+use Rattle.cat_io.specs.Clocks.{Ticks, from}
+use Rattle.cat_model.specs.declared.log_entry.LogEntry.{LogEntry}
+use Rattle.cat_model.specs.declared.refusal.Refusal.{Refusal}
+use Rattle.cat_model.specs.declared.refusal.Refusal.TheVariants.{BadRequest, Down, Fault, TooLarge}
+use Rattle.cat_model.specs.declared.refusal.Reason.TheVariants.{BadHead}
+use Rattle.cat_model.specs.declared.wanted.Wanted.{Wanted}
+use Rattle.cat_model.specs.declared.wanted.Wanted.TheVariants.{Change}
+use Rattle.cat_model.specs.Book.{Book}
+use Rattle.cat_model.specs.Script.{Session, Brought, IsGivenUp, MayBring, request}
+use Rattle.cat_http.specs.Message.{Message}
+use Rattle.cat_http.specs.Fields.{closes}
+use Rattle.cat_http.specs.Next.{IsRequest, IsEnd, IsMalformed, IsTooLarge, IsCut}
+use Rattle.cat_rest.specs.Wanted.{wanted}
+use Rattle.cat_state.specs.Kept.{spelling}
+use Rattle.cat_model.specs.Mark.{FailedAppend}
+use Rattle.cat_desk.specs.Pass.{DeskId, mark_of, number_of}
+use Rattle.cat_desk.specs.declared.pass.Pass.{Pass}
+use Rattle.cat_work.specs.Passes.{IsAlone, IsReady, book_of}
+use Rattle.cat_serve.specs.declared.ending.Session.{Session as End}
+use Rattle.cat_serve.specs.declared.ending.Session.TheVariants as ends
+use Rattle.cat_serve.specs.Replies.{IsRefusalOf, is_head, must_be_told, said_bytes}
+
+-- ---- readings
+
+-- the readings of a clock, the first at 0
+abbrev pub Readings : Type 0
+Readings = ℕ → ℕ
+
+-- these were taken of a clock, one after another
+abbrev pub Took : List ℕ → Option Readings → Option Readings → Type 0
+Took [] ahead now = now ≡ ahead
+Took (reading ∷ readings) ahead now = (next : Option Readings) × Ticks ahead next reading × Took readings next now
+
+-- the readings from the n-th on begin with these
+abbrev pub BeginsAt : ℕ → Readings → List ℕ → Type 0
+BeginsAt n clock [] = Unit {0}
+BeginsAt n clock (reading ∷ readings) = (clock n ≡ reading) × BeginsAt (n + 1) clock readings
+
+-- where the clock tells what is ahead, it tells these
+abbrev pub AreAhead : Option Readings → Readings → Type 0
+AreAhead ahead clock = (told : Readings) → ahead ≡ Some told → clock ≡ told
+
+-- and then it tells afterwards what comes behind so many
+abbrev pub ReadsOn : Option Readings → Option Readings → ℕ → Type 0
+ReadsOn ahead now count = (told : Readings) → ahead ≡ Some told → now ≡ Some (from count told)
+
+-- ---- one request on a store
+
+-- an append that failed: the count of faults then, and the entry that was to be kept
+pub record Fallen : Type 0 where
+  pub count : ℕ
+  pub entry : LogEntry
+
+-- how a store stands in a session: its book, how many moments were taken, and the append that failed, if one did
+pub record Standing : Type 0 where
+  pub book : Book
+  pub readings : ℕ
+  pub fallen : Option Fallen
+
+-- the session at which it stands
+abbrev pub session_of : Standing → Session
+session_of s = record { state = s.book.state; draft = s.book.draft; readings = s.readings }
+
+-- what a request brought on a store, which it left so
+pub record Went (before after : Standing) (b : Brought) : Type 0 where
+  pub book : after.book ≡ record { state = b.after.state; draft = b.after.draft; log = b.logged ++ before.book.log }
+  pub readings : after.readings ≡ b.after.readings
+
+-- a request while the store is down: a change is told so, once its moment is taken, and all others are answered as ever
+abbrev pub down_request : Readings → Session → ℕ → Result Wanted Refusal → Brought
+down_request clock s count (Ok (Change command)) =
+    record { said = Err (record { place = Some s.state.place; why = Down count }); logged = []; after = record s { readings = s.readings + 1 } }
+down_request clock s count wanted = request sha256 1 clock s wanted
+
+-- the call is accepted and its entry wasn't kept, which is told as a fault: its moment and its draft number are taken, nothing else is changed, and the store is down
+pub record Falls (clock : Readings) (before after : Standing) (wanted : Result Wanted Refusal) (b : Brought) : Type 0 where
+  pub fallen : Fallen
+  pub accepted : (request sha256 1 clock (session_of before) wanted).logged ≡ fallen.entry ∷ []
+  pub said : b.said ≡ Err (record { place = Some before.book.state.place; why = Fault })
+  pub logged : b.logged ≡ []
+  pub after_is : b.after ≡ record { state = before.book.state; draft = (request sha256 1 clock (session_of before) wanted).after.draft; readings = before.readings + 1 }
+  pub went : Went before after b
+  pub down : after.fallen ≡ Some fallen
+
+-- what one request may come to, by whether an append had failed before
+abbrev pub MayComeTo : Readings → Standing → Option Fallen → Result Wanted Refusal → Brought → Standing → Type 0
+MayComeTo clock s None wanted b s' =
+    (MayBring sha256 1 clock (session_of s) wanted b × Went s s' b × (s'.fallen ≡ None))
+    ⊎ Falls clock s s' wanted b
+MayComeTo clock s (Some f) wanted b s' =
+    ((b ≡ down_request clock (session_of s) f.count wanted) ⊎ IsGivenUp (session_of s) b) × Went s s' b × (s'.fallen ≡ Some f)
+
+-- ---- one request after another
+
+-- where a session stands: how many requests it still answers, the store, the bytes to come, and what was written
+pub record Point : Type 0 where
+  pub left : ℕ
+  pub standing : Standing
+  pub bytes : List ℕ
+  pub written : List ℕ
+
+-- the request asks for the end of the session
+abbrev pub asks_to_close : Message → Bool
+asks_to_close m = closes m.minor m.fields
+
+-- a request, what it brings, and where the session stands after the reply
+pub record Turn : Type 0 where
+  pub message : Message
+  pub brought : Brought
+  pub after : Point
+
+-- the next request at a is answered; the reply to the last request that a session answers says that it ends
+pub record Answered (clock : Readings) (a : Point) (t : Turn) : Type 0 where
+  pub reads : IsRequest a.bytes t.message t.after.bytes
+  pub brings : MayComeTo clock a.standing a.standing.fallen (wanted t.message) t.brought t.after.standing
+  pub left : a.left ≡ t.after.left + 1
+  pub written : t.after.written ≡ a.written ++ said_bytes (asks_to_close t.message || t.after.left == 0) (is_head t.message) t.brought.said
+
+-- from a the session goes on to c by these requests, none of which asks for its end
+abbrev pub GoesOn : Readings → List Turn → Point → Point → Type 0
+GoesOn clock [] a c = a ≡ c
+GoesOn clock (t ∷ turns) a c = Answered clock a t × (asks_to_close t.message ≡ false) × GoesOn clock turns t.after c
+
+abbrev pub Reaches : Readings → Point → Point → Type 0
+Reaches clock a c = (turns : List Turn) × GoesOn clock turns a c
+
+-- ---- how it ends at the point that it reached, and how the store stands then
+
+-- the input ends between two requests
+pub record IsAtEnd (c : Point) (held : List ℕ) (last : Standing) : Type 0 where
+  pub some_left : 0 < c.left
+  pub at_end : IsEnd c.bytes
+  pub all : held ≡ c.written
+  pub stays : last ≡ c.standing
+
+-- the last request asks for the end
+pub record IsClosedBy (clock : Readings) (c : Point) (t : Turn) (held : List ℕ) (last : Standing) : Type 0 where
+  pub answered : Answered clock c t
+  pub asks : asks_to_close t.message ≡ true
+  pub all : held ≡ t.after.written
+  pub leaves : last ≡ t.after.standing
+
+-- what comes next is refused by its bytes, and the reply says that the session ends
+pub record IsRefused (c : Point) (cause : Type 0) (why : Refusal) (held : List ℕ) (last : Standing) : Type 0 where
+  pub some_left : 0 < c.left
+  pub is_so : cause
+  pub bytes : List ℕ
+  pub replies : IsRefusalOf why bytes
+  pub all : held ≡ c.written ++ bytes
+  pub stays : last ≡ c.standing
+
+-- this is the reply that is due next, and so the store stands then
+abbrev pub IsDue : Readings → Point → List ℕ → Standing → Type 0
+IsDue clock c bytes last =
+    ((t : Turn) × Answered clock c t × (t.after.written ≡ c.written ++ bytes) × (last ≡ t.after.standing))
+    ⊎ (IsMalformed c.bytes × IsRefusalOf (BadRequest BadHead) bytes × (last ≡ c.standing))
+    ⊎ (IsTooLarge c.bytes × IsRefusalOf TooLarge bytes × (last ≡ c.standing))
+
+-- a front of the reply that was due
+abbrev pub IsCutOff : Readings → Point → List ℕ → Standing → Type 0
+IsCutOff clock c held last = (bytes : List ℕ) × IsDue clock c bytes last × (n : ℕ) × (held ≡ c.written ++ take n bytes)
+
+-- nothing is told: before the first of 1,000 requests, or where the next one is answered by what must be told, and no memory is left for its text
+abbrev pub IsUntold : Readings → Point → List ℕ → Standing → Type 0
+IsUntold clock c held last =
+    (held ≡ c.written)
+    × (((c.left ≡ 1000) × (last ≡ c.standing)) ⊎ ((t : Turn) × Answered clock c t × (must_be_told t.brought.said ≡ true) × (last ≡ t.after.standing)))
+
+-- what the sink holds where the session ended so, and how the store stands
+abbrev pub EndsAt : Readings → Point → End → List ℕ → Standing → Type 0
+EndsAt clock c ends.Closed held last = IsAtEnd c held last ⊎ ((t : Turn) × IsClosedBy clock c t held last)
+EndsAt clock c ends.Capped held last = (c.left ≡ 0) × (held ≡ c.written) × (last ≡ c.standing)
+EndsAt clock c ends.BadHead held last = IsRefused c (IsMalformed c.bytes) (BadRequest BadHead) held last
+EndsAt clock c ends.TooLarge held last = IsRefused c (IsTooLarge c.bytes) TooLarge held last
+EndsAt clock c ends.ReadFault held last = (held ≡ c.written) × (last ≡ c.standing)
+EndsAt clock c ends.WriteFault held last = IsCutOff clock c held last
+EndsAt clock c ends.NoMemory held last = IsUntold clock c held last
+
+-- of the bytes to come a source gave some and has left those that are unread: what it gave is no whole request, nor the head of one that is too large
+abbrev pub LeavesCut : List ℕ → Option (List ℕ) → Type 0
+LeavesCut bytes unread = (left : List ℕ) × (unread ≡ Some left) × IsCut bytes left
+
+-- a session that begins at a ends so; after a read fault no whole request was read that isn't answered
+abbrev pub Ends : Readings → Point → End → List ℕ → Standing → Option (List ℕ) → Type 0
+Ends clock a end held last unread = (c : Point) × Reaches clock a c × EndsAt clock c end held last × (end ≡ ends.ReadFault → LeavesCut c.bytes unread)
+
+-- ---- what a pass, a source and a sink tell
+
+-- what is seen of an append that failed: the count of faults then, and the payload
+abbrev pub seen_failed : Option FailedAppend → Option (ℕ × List ℕ)
+seen_failed None = None
+seen_failed (Some x) = Some (x.count, x.payload)
+
+abbrev pub seen_fallen : Option Fallen → Option (ℕ × List ℕ)
+seen_fallen None = None
+seen_fallen (Some x) = Some (x.count, spelling x.entry)
+
+-- the caller of the only pass of a desk has nothing open, and the pass stands so
+pub record IsAt (desk : DeskId) (s : Standing) (pass : Pass) : Type 0 where
+  pub ready : IsReady desk pass
+  pub alone : IsAlone pass
+  pub number : number_of pass ≡ 1
+  pub book_is : book_of desk pass ≡ s.book
+  pub fault_is : seen_failed (mark_of pass).fault ≡ seen_fallen s.fallen
+
+-- the pass, the source and the sink stand at a point
+pub record Stands (desk : DeskId) (c : Point) (pass : Pass) (bytes held : Option (List ℕ)) : Type 0 where
+  pub pass_at : IsAt desk c.standing pass
+  pub bytes_are : bytes ≡ Some c.bytes
+  pub held_is : held ≡ Some c.written
+
+-- so many readings more were taken
+abbrev pub HasTaken : List ℕ → Standing → Standing → Type 0
+HasTaken taken before after = after.readings ≡ before.readings + length taken
+
+-- some readings were taken of the clock, and this is so by all readings that go on with these at a point
+abbrev pub ByReadings : Option Readings → Option Readings → (List ℕ → Readings → Point → Type 0) → Type 0
+ByReadings ahead now so = (taken : List ℕ) × Took taken ahead now × ((clock : Readings) (c : Point) → BeginsAt c.standing.readings clock taken → so taken clock c)
+
+-- a session that begins so ends so, where the source and the sink tell what they have
+abbrev pub EndsKnown : DeskId → ℕ → Pass → Pass → Option Readings → Option Readings → Option (List ℕ) → Option (List ℕ) → Option (List ℕ) → End → Option (List ℕ) → Type 0
+EndsKnown desk most pass pass' ahead now bytes unread held end after =
+    ByReadings ahead now (λ (taken : List ℕ) (clock : Readings) (a : Point). a.left ≡ most → Stands desk a pass bytes held
+    → (h : List ℕ) × (after ≡ Some h) × (last : Standing) × Ends clock a end h last unread × IsAt desk last pass' × HasTaken taken a.standing last)
