@@ -6,6 +6,7 @@ pub mod NumberLemmas
 pub mod NextLemmas
 pub mod ReadingLemmas
 pub mod PutLemmas
+pub mod GatherLemmas
 pub mod OneWay
 pub mod ChunkLemmas
 pub mod ChunkSteps

@@ -21,8 +21,9 @@ use Rattle.cat_http.specs.Streams.{KeepsStream}
 use Rattle.cat_http.specs.declared.fields.BodyLength.{BodyLength}
 use Rattle.cat_http.specs.declared.chunked.ChunkedRead.TheVariants as read
 use Rattle.cat_http.specs.Head.{FoundHead, HoldsHead}
-use Rattle.cat_http.specs.Outcome.{OutcomeOf}
+use Rattle.cat_http.specs.Outcome.{OutcomeOf, OutcomeIs}
 use Rattle.cat_http.specs.declared.fields.BodyLength.TheVariants as size
+use Rattle.cat_http.specs.declared.next.Outcome.{Outcome}
 use Rattle.cat_http.specs.declared.next.Outcome.TheVariants as outcome
 
 fields_same : (xs ys : List ℕ) (m : ℕ) (hs : List HeaderSpan) → take m xs ≡ take m ys → All (IsHeaderWithin m) hs
@@ -124,35 +125,39 @@ answer_cut_head (Some xs) (Some ys) given b hs e stream none = record {
   not_large = λ large. none large.0 large.1 large.2;
 }
 
+-- what a body behind the head comes to is what the stream comes to
+pub outcome_behind : (o : Outcome) (old mid new : Option (List ℕ)) (given seen b : List ℕ) (hs : List HeaderSpan) (e : ℕ) → KeepsStream old mid given seen
+    → OutcomeOf o mid new seen b hs e → OutcomeOf o old new given b hs e
+outcome_behind o None mid new given seen b hs e before is = tt
+outcome_behind o (Some xs) None new given seen b hs e before is = absurd before
+outcome_behind o (Some xs) (Some m) None given seen b hs e before is = is
+outcome_behind o (Some xs) (Some m) (Some ys) given seen b hs e before is = subst (λ s. OutcomeIs o b hs e s ys) (sym before) is
+
 -- the head was read up to e
-module _ (given b : List ℕ) (e : ℕ) (hs : List HeaderSpan) (r : RequestSpans) (f : FoundHead (take e b) hs r) (slots : length hs ≤ 64) (fits : IsRequestWithin (take e b) hs r)
+module _ (b : List ℕ) (e : ℕ) (hs : List HeaderSpan) (r : RequestSpans) (f : FoundHead (take e b) hs r) (slots : length hs ≤ 64) (fits : IsRequestWithin (take e b) hs r)
     (kind : BodyLength) (says : kind ≡ body_length (map (header_bytes (take e b)) (take r.headers hs))) where
   -- all of a body with a length was there
-  pub counted_held : (count : ℕ) → kind ≡ size.Bytes count → e ≤ length b → take e b ≡ given → HoldsRequest given → r.len + count ≤ e
-  counted_held count is had same held =
-      let x = body_held (take e b) hs r f slots fits kind says (subst HoldsRequest (sym same) held) in
+  pub counted_held : (count : ℕ) → kind ≡ size.Bytes count → e ≤ length b → HoldsRequest (take e b) → r.len + count ≤ e
+  counted_held count is had held =
+      let x = body_held (take e b) hs r f slots fits kind says held in
       let body : IsBody (size.Bytes count) (drop r.len (take e b)) x.0 x.1 = subst (λ k. IsBody k (drop r.len (take e b)) x.0 x.1) is x.2 in
       omega (arith, head_len (take e b) hs r f slots, f.within, length-take-le e b had, length-drop r.len (take e b), ap length body.1, length-append x.0 x.1, body.0)
 
   -- all of a body in chunks was there
-  pub chunked_held : kind ≡ size.Chunked → take e b ≡ given → HoldsRequest given → HoldsChunks (slice_range b r.len e)
-  chunked_held is same held =
-      let x = body_held (take e b) hs r f slots fits kind says (subst HoldsRequest (sym same) held) in
+  pub chunked_held : kind ≡ size.Chunked → HoldsRequest (take e b) → HoldsChunks (slice_range b r.len e)
+  chunked_held is held =
+      let x = body_held (take e b) hs r f slots fits kind says held in
       let body : IsChunkedBody (drop r.len (take e b)) x.0 x.1 = subst (λ k. IsBody k (drop r.len (take e b)) x.0 x.1) is x.2 in
       (x.0, x.1, subst (λ s. ReadsChunked s x.0 x.1) (sym (between_is b r.len e)) body.reads)
 
   -- the head alone tells
-  pub answer_malformed : (old mid : Option (List ℕ)) → KeepsStream old mid given (take e b) → kind ≡ size.Malformed → OutcomeOf outcome.Malformed old mid given b hs e
-  answer_malformed None mid stream is = tt
-  answer_malformed (Some xs) None stream is = stream
-  answer_malformed (Some xs) (Some m) stream is =
-      subst IsMalformed (sym stream) (bad_body (take e b) hs r f slots fits kind says m (subst (λ k. IsBadBody k (drop r.len (take e b) ++ m)) (sym is) tt))
+  pub answer_malformed : (left : Option (List ℕ)) → kind ≡ size.Malformed → OutcomeOf outcome.Malformed left left (take e b) b hs e
+  answer_malformed None is = tt
+  answer_malformed (Some m) is = bad_body (take e b) hs r f slots fits kind says m (subst (λ k. IsBadBody k (drop r.len (take e b) ++ m)) (sym is) tt)
 
-  pub answer_large : (old mid : Option (List ℕ)) → KeepsStream old mid given (take e b) → kind ≡ size.Excess → OutcomeOf outcome.TooLarge old mid given b hs e
-  answer_large None mid stream is = tt
-  answer_large (Some xs) None stream is = stream
-  answer_large (Some xs) (Some m) stream is =
-      subst IsTooLarge (sym stream) (large_body (take e b) hs r f slots fits kind says m (subst (λ k. IsLargeBody k (drop r.len (take e b) ++ m)) (sym is) tt))
+  pub answer_large : (left : Option (List ℕ)) → kind ≡ size.Excess → OutcomeOf outcome.TooLarge left left (take e b) b hs e
+  answer_large None is = tt
+  answer_large (Some m) is = large_body (take e b) hs r f slots fits kind says m (subst (λ k. IsLargeBody k (drop r.len (take e b) ++ m)) (sym is) tt)
 
   -- what came behind it is no whole body
   cut_behind : (m came ys : List ℕ) → drop r.len (take e b) ++ m ≡ came ++ ys → IsBadBody kind came → IsCut (take e b ++ m) ys
@@ -207,12 +212,11 @@ module _ (given b : List ℕ) (e : ℕ) (hs : List HeaderSpan) (r : RequestSpans
           sym (drop-append-le r.len (take e b) m (omega (arith, seen_len, len_in))) ∙ ap (drop r.len) stream
           ∙ drop-append-le r.len (take e' b') ys (omega (arith, length-take-le e' b' has, len_in))
 
-      pub answer_request : (old mid new : Option (List ℕ)) → KeepsStream old mid given (take e b) → KeepsStream mid new (take e b) (take e' b') → r.len + count ≤ e'
-          → OutcomeOf (outcome.Request r (r.len + count) (r.len + count)) old new given b' hs e'
-      answer_request None mid new before stream all_read = tt
-      answer_request (Some xs) None new before stream all_read = absurd before
-      answer_request (Some xs) (Some m) None before stream all_read = stream
-      answer_request (Some xs) (Some m) (Some ys) before stream all_read =
+      pub answer_request : (mid new : Option (List ℕ)) → KeepsStream mid new (take e b) (take e' b') → r.len + count ≤ e'
+          → OutcomeOf (outcome.Request r (r.len + count) (r.len + count)) mid new (take e b) b' hs e'
+      answer_request None new stream all_read = tt
+      answer_request (Some m) None stream all_read = stream
+      answer_request (Some m) (Some ys) stream all_read =
           let stop = r.len + count in
           let body = slice_range b' r.len stop in
           let rest = slice_range b' stop e' ++ ys in
@@ -222,74 +226,61 @@ module _ (given b : List ℕ) (e : ℕ) (hs : List HeaderSpan) (r : RequestSpans
           after_is m ys stream
           ∙ ap (λ s. s ++ ys) (drop_split (take e' b') r.len stop (omega arith) ∙ ap (λ s. s ++ drop stop (take e' b')) body_same ∙ ap (λ s. body ++ s) (sym (between_is b' stop e')))
           ∙ append_assoc body (slice_range b' stop e') ys in
-          subst (λ s. IsRequest s (message_at b' hs r stop) rest) (sym before)
-          (request_of m body rest stop refl (subst (λ k. IsBody k (drop r.len (take e b) ++ m) body rest) (sym is) (len, split)))
+          request_of m body rest stop refl (subst (λ k. IsBody k (drop r.len (take e b) ++ m) body rest) (sym is) (len, split))
 
-      pub answer_short : (old mid new : Option (List ℕ)) → KeepsStream old mid given (take e b) → KeepsStream mid new (take e b) (take e' b') → IsAtEnd new → e' < r.len + count
-          → OutcomeOf outcome.Malformed old new given b' hs e'
-      answer_short None mid new before stream at short = tt
-      answer_short (Some xs) None new before stream at short = absurd before
-      answer_short (Some xs) (Some m) None before stream at short = stream
-      answer_short (Some xs) (Some m) (Some ys) before stream at short =
+      pub answer_short : (mid new : Option (List ℕ)) → KeepsStream mid new (take e b) (take e' b') → IsAtEnd new → e' < r.len + count
+          → OutcomeOf outcome.Malformed mid new (take e b) b' hs e'
+      answer_short None new stream at short = tt
+      answer_short (Some m) None stream at short = stream
+      answer_short (Some m) (Some ys) stream at short =
           let few : length (drop r.len (take e b) ++ m) < count =
           omega (arith, ap length (after_is m ys stream), length-append (drop r.len (take e' b')) ys, length-drop r.len (take e' b'), length-take-le e' b' has, ap length at, len_in) in
-          subst IsMalformed (sym before)
-          (bad_body (take e b) hs r f slots fits kind says m (subst (λ k. IsBadBody k (drop r.len (take e b) ++ m)) (sym is) few))
+          bad_body (take e b) hs r f slots fits kind says m (subst (λ k. IsBadBody k (drop r.len (take e b) ++ m)) (sym is) few)
 
-      pub answer_cut : (old mid new : Option (List ℕ)) → KeepsStream old mid given (take e b) → KeepsStream mid new (take e b) (take e' b') → e' < r.len + count
-          → OutcomeOf outcome.Fault old new given b' hs e'
-      answer_cut None mid new before stream short = tt
-      answer_cut (Some xs) None new before stream short = absurd before
-      answer_cut (Some xs) (Some m) None before stream short = stream
-      answer_cut (Some xs) (Some m) (Some ys) before stream short =
+      pub answer_cut : (mid new : Option (List ℕ)) → KeepsStream mid new (take e b) (take e' b') → e' < r.len + count
+          → OutcomeOf outcome.Fault mid new (take e b) b' hs e'
+      answer_cut None new stream short = tt
+      answer_cut (Some m) None stream short = stream
+      answer_cut (Some m) (Some ys) stream short =
           let came = drop r.len (take e' b') in
           let few : length came < count = omega (arith, length-drop r.len (take e' b'), length-take-le e' b' has, len_in) in
-          subst (λ s. IsCut s ys) (sym before) (cut_behind m came ys (after_is m ys stream) (subst (λ k. IsBadBody k came) (sym is) few))
+          cut_behind m came ys (after_is m ys stream) (subst (λ k. IsBadBody k came) (sym is) few)
 
     module _ (is : kind ≡ size.Chunked) where
       -- the chunks begin behind the head
       chunks_at : (m : List ℕ) → slice_range b r.len e ++ m ≡ drop r.len (take e b) ++ m
       chunks_at m = ap (λ s. s ++ m) (between_is b r.len e)
 
-      pub answer_whole : (old mid new : Option (List ℕ)) (kept at : ℕ) → KeepsStream old mid given (take e b)
-          → AnswerOf (read.Whole kept at) mid new (slice_range b r.len e) b' r.len e'
-          → OutcomeOf (outcome.Request r (r.len + kept) at) old new given b' hs e'
-      answer_whole None mid new kept at before answer = tt
-      answer_whole (Some xs) None new kept at before answer = absurd before
-      answer_whole (Some xs) (Some m) None kept at before answer = answer
-      answer_whole (Some xs) (Some m) (Some ys) kept at before answer =
+      pub answer_whole : (mid new : Option (List ℕ)) (kept at : ℕ) → AnswerOf (read.Whole kept at) mid new (slice_range b r.len e) b' r.len e'
+          → OutcomeOf (outcome.Request r (r.len + kept) at) mid new (take e b) b' hs e'
+      answer_whole None new kept at answer = tt
+      answer_whole (Some m) None kept at answer = answer
+      answer_whole (Some m) (Some ys) kept at answer =
           let body = slice_range b' r.len (r.len + kept) in
           let rest = slice_range b' at e' ++ ys in
           let decodes : IsChunkedBody (drop r.len (take e b) ++ m) body rest = subst (λ s. IsChunkedBody s body rest) (chunks_at m) answer in
-          subst (λ s. IsRequest s (message_at b' hs r (r.len + kept)) rest) (sym before)
-          (request_of m body rest (r.len + kept) refl (subst (λ k. IsBody k (drop r.len (take e b) ++ m) body rest) (sym is) decodes))
+          request_of m body rest (r.len + kept) refl (subst (λ k. IsBody k (drop r.len (take e b) ++ m) body rest) (sym is) decodes)
 
-      pub answer_bad_chunks : (old mid new : Option (List ℕ)) → KeepsStream old mid given (take e b) → AnswerOf read.Malformed mid new (slice_range b r.len e) b' r.len e'
-          → OutcomeOf outcome.Malformed old new given b' hs e'
-      answer_bad_chunks None mid new before answer = tt
-      answer_bad_chunks (Some xs) None new before answer = absurd before
-      answer_bad_chunks (Some xs) (Some m) None before answer = answer
-      answer_bad_chunks (Some xs) (Some m) (Some ys) before answer =
-          subst IsMalformed (sym before)
-          (bad_body (take e b) hs r f slots fits kind says m (subst (λ k. IsBadBody k (drop r.len (take e b) ++ m)) (sym is) (subst IsBadChunked (chunks_at m) answer)))
+      pub answer_bad_chunks : (mid new : Option (List ℕ)) → AnswerOf read.Malformed mid new (slice_range b r.len e) b' r.len e'
+          → OutcomeOf outcome.Malformed mid new (take e b) b' hs e'
+      answer_bad_chunks None new answer = tt
+      answer_bad_chunks (Some m) None answer = answer
+      answer_bad_chunks (Some m) (Some ys) answer =
+          bad_body (take e b) hs r f slots fits kind says m (subst (λ k. IsBadBody k (drop r.len (take e b) ++ m)) (sym is) (subst IsBadChunked (chunks_at m) answer))
 
-      pub answer_large_chunks : (old mid new : Option (List ℕ)) → KeepsStream old mid given (take e b) → AnswerOf read.TooLarge mid new (slice_range b r.len e) b' r.len e'
-          → OutcomeOf outcome.TooLarge old new given b' hs e'
-      answer_large_chunks None mid new before answer = tt
-      answer_large_chunks (Some xs) None new before answer = absurd before
-      answer_large_chunks (Some xs) (Some m) None before answer = answer
-      answer_large_chunks (Some xs) (Some m) (Some ys) before answer =
-          subst IsTooLarge (sym before)
-          (large_body (take e b) hs r f slots fits kind says m (subst (λ k. IsLargeBody k (drop r.len (take e b) ++ m)) (sym is) (subst IsLargeChunked (chunks_at m) answer)))
+      pub answer_large_chunks : (mid new : Option (List ℕ)) → AnswerOf read.TooLarge mid new (slice_range b r.len e) b' r.len e'
+          → OutcomeOf outcome.TooLarge mid new (take e b) b' hs e'
+      answer_large_chunks None new answer = tt
+      answer_large_chunks (Some m) None answer = answer
+      answer_large_chunks (Some m) (Some ys) answer =
+          large_body (take e b) hs r f slots fits kind says m (subst (λ k. IsLargeBody k (drop r.len (take e b) ++ m)) (sym is) (subst IsLargeChunked (chunks_at m) answer))
 
-      pub answer_cut_chunks : (old mid new : Option (List ℕ)) → KeepsStream old mid given (take e b) → AnswerOf read.Fault mid new (slice_range b r.len e) b' r.len e'
-          → OutcomeOf outcome.Fault old new given b' hs e'
-      answer_cut_chunks None mid new before answer = tt
-      answer_cut_chunks (Some xs) None new before answer = absurd before
-      answer_cut_chunks (Some xs) (Some m) None before answer = answer
-      answer_cut_chunks (Some xs) (Some m) (Some ys) before answer =
-          subst (λ s. IsCut s ys) (sym before)
-          (cut_behind m answer.came ys (sym (chunks_at m) ∙ answer.split) (subst (λ k. IsBadBody k answer.came) (sym is) answer.bad))
+      pub answer_cut_chunks : (mid new : Option (List ℕ)) → AnswerOf read.Fault mid new (slice_range b r.len e) b' r.len e'
+          → OutcomeOf outcome.Fault mid new (take e b) b' hs e'
+      answer_cut_chunks None new answer = tt
+      answer_cut_chunks (Some m) None answer = answer
+      answer_cut_chunks (Some m) (Some ys) answer =
+          cut_behind m answer.came ys (sym (chunks_at m) ∙ answer.split) (subst (λ k. IsBadBody k answer.came) (sym is) answer.bad)
 
 -- a request within the first bytes is the same there
 pub message_front : (bytes : List ℕ) (hs : List HeaderSpan) (r : RequestSpans) (stop : ℕ) → stop ≤ length bytes → IsRequestWithin (take stop bytes) hs r

@@ -3,6 +3,7 @@ pub mod Buffer
 pub mod Chunked
 pub mod ChunkedRead
 pub mod Fields
+pub mod Gathering
 pub mod Head
 pub mod Lines
 pub mod Message

@@ -10,6 +10,7 @@ mod chunk_end;
 mod chunked;
 mod fields;
 mod fill;
+mod gather;
 mod head;
 mod law;
 mod next;

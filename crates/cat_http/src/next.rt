@@ -1,6 +1,8 @@
 ghost use Rattle.std.specs.Prelude.{◌≡◌, ◌≢◌, ◌<◌, ◌≤◌, length, take};
 ghost use Rattle.std.specs.Io.KnownBytes.{IsAtEnd};
 ghost use Rattle.cat_io.specs.Causes.{Rose};
+ghost use Rattle.httparse.specs.Spans.{IsRequestWithin};
+ghost use Rattle.cat_http.specs.Head.{FoundHead};
 ghost use Rattle.cat_http.specs.Next.{HoldsRequest};
 ghost use Rattle.cat_http.specs.Outcome.{OutcomeFits, OutcomeOf};
 
@@ -44,12 +46,37 @@ pub fn read_next<S: Source>(
     ensures stays { result ≢ Outcome.Fault → S.faults source.new ≡ S.faults source.old }
     ensures waits { HoldsRequest (take end.old bytes.old) → source.new ≡ source.old }
 {
-    let head = match read_head(source, bytes, headers, end) {
-        HeadRead::Found(head) => head,
-        HeadRead::End => return Outcome::End,
-        HeadRead::Malformed => return Outcome::Malformed,
-        HeadRead::Fault => return Outcome::Fault,
-    };
+    match read_head(source, bytes, headers, end) {
+        HeadRead::Found(head) => read_body(source, bytes, headers, end, head),
+        HeadRead::End => Outcome::End,
+        HeadRead::Malformed => Outcome::Malformed,
+        HeadRead::Fault => Outcome::Fault,
+    }
+}
+
+// Reads until the body is there that the head states.
+fn read_body<S: Source>(
+    source: &mut S,
+    bytes: &mut [u8],
+    headers: &[HeaderSpan],
+    end: &mut usize,
+    head: RequestSpans,
+) -> Outcome
+    requires room { length bytes.old ≡ 2113538 }
+    requires filled { end.old ≤ length bytes.old }
+    requires slots { length headers.now ≡ 64 }
+    requires short { head.len ≤ 16384 }
+    requires found_within { IsRequestWithin (take end.old bytes.old) headers.now head }
+    requires found { FoundHead (take end.old bytes.old) headers.now head }
+    ensures within { end.new ≤ length bytes.new }
+    ensures fits { OutcomeFits result bytes.new headers.now end.new }
+    ensures is { OutcomeOf result (S.left source.old) (S.left source.new) (take end.old bytes.old) bytes.new headers.now end.new }
+    ensures goes_on { result ≢ Outcome.End }
+    ensures fault { result ≡ Outcome.Fault → Rose (S.faults source.old) (S.faults source.new) }
+    ensures later { S.faults source.old ≤ S.faults source.new }
+    ensures stays { result ≢ Outcome.Fault → S.faults source.new ≡ S.faults source.old }
+    ensures waits { HoldsRequest (take end.old bytes.old) → source.new ≡ source.old }
+{
     let body = match body_length(&bytes[..*end], &headers[..head.headers]) {
         BodyLength::Bytes(count) => count,
         BodyLength::Chunked => return match read_chunks(source, bytes, end, head.len) {

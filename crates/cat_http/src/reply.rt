@@ -2,7 +2,8 @@ ghost use Rattle.std.specs.Prelude.{◌≡◌, None};
 ghost use Rattle.cat_http.specs.Writing.{Wrote};
 ghost use Rattle.cat_http.specs.Reply.{render, close_line, body_part, body_length_of, phrase_of};
 
-use crate::put::{WriteFault, put_after, put_number_line, put_text_line, write_all};
+use crate::gather::Gathered;
+use crate::put::WriteFault;
 use cat_io::Sink;
 use http::StatusCode;
 
@@ -110,25 +111,24 @@ impl Response {
     }
 }
 
-/// Writes the reply, or a front of it where the sink fails. It takes no memory.
+/// Writes the reply, or a front of it where the sink fails. It takes no memory. A small reply is one
+/// write and a large one two, where the sink takes all that it is handed.
 pub fn write_reply<K: Sink>(sink: &mut K, reply: &Response) -> Result<(), WriteFault>
     ensures { Wrote (K.held sink.old) (K.held sink.new) (K.faults sink.old) (K.faults sink.new) result (render reply.now) }
 {
     let mut digits = itoa::Buffer::new();
-    let version = write_all(sink, b"HTTP/1.1 ");
-    let code = put_after(
-        version,
-        sink,
-        digits.format(reply.status.as_u16()).as_bytes(),
-    );
-    let space = put_after(code, sink, b" ");
-    let phrase = put_after(space, sink, phrase(reply.status));
-    let first = put_after(phrase, sink, b"\r\n");
-    let kind = put_after(first, sink, b"Content-Type: application/json\r\n");
-    let allow = put_text_line(kind, sink, b"Allow: ", reply.allow);
-    let place = put_number_line(allow, sink, b"Catalogue-Place: ", reply.place_number());
-    let length = put_number_line(place, sink, b"Content-Length: ", reply.body_length());
-    let close = put_after(length, sink, reply.close_line());
-    let head = put_after(close, sink, b"\r\n");
-    put_after(head, sink, reply.body_part())
+    let mut gathered = Gathered::new();
+    gathered.put(sink, b"HTTP/1.1 ");
+    gathered.put(sink, digits.format(reply.status.as_u16()).as_bytes());
+    gathered.put(sink, b" ");
+    gathered.put(sink, phrase(reply.status));
+    gathered.put(sink, b"\r\n");
+    gathered.put(sink, b"Content-Type: application/json\r\n");
+    gathered.put_text_line(sink, b"Allow: ", reply.allow);
+    gathered.put_number_line(sink, b"Catalogue-Place: ", reply.place_number());
+    gathered.put_number_line(sink, b"Content-Length: ", reply.body_length());
+    gathered.put(sink, reply.close_line());
+    gathered.put(sink, b"\r\n");
+    gathered.put(sink, reply.body_part());
+    gathered.finish(sink)
 }

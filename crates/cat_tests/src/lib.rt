@@ -1,5 +1,5 @@
-//! Tests of what no request reaches: threads, calls that meet others, real files and streams, low
-//! limits, crash images, and calls that the program doesn't make. What is expected comes from
+//! Tests of what no request reaches: threads, calls that meet others, streams, low limits, crash
+//! images, connections, and calls that the program doesn't make. What is expected comes from
 //! outside. A value whose parts have variants is given to `drop` or to a helper before the next way
 //! out, so that a test's own body has plain values alone: each way out has its proof.
 #![tactic(auto)]
@@ -15,8 +15,6 @@ mod desk;
 #[cfg(test)]
 mod disks;
 #[cfg(test)]
-mod files;
-#[cfg(test)]
 mod graph;
 #[cfg(test)]
 mod holding;
@@ -24,6 +22,8 @@ mod holding;
 mod journals;
 #[cfg(test)]
 mod limits;
+#[cfg(test)]
+mod listening;
 #[cfg(test)]
 mod maps;
 #[cfg(test)]

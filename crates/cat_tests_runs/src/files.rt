@@ -1,6 +1,5 @@
 //! Real files: a disk over one, and a journal in one.
 
-use crate::requests::PUT_T1;
 use cat_cli::{Status, run};
 use cat_io::{
     Disk, Disks, Failed, FileDisk, Folder, MemoryClock, MemorySink, MemorySource, NoListener,
@@ -34,7 +33,7 @@ fn is_written(disk: &mut FileDisk) -> bool {
 #[test]
 fn a_file_is_one_disks_and_keeps_its_bytes_when_it_is_opened_again(rt: HostRuntime) {
     let mut folder = Folder::new(&rt, rt.alloc());
-    let path = "cat_tests.file";
+    let path = "cat_tests_runs.file";
     let Ok(mut disk) = folder.open(path) else {
         panic!(rt; "a file is opened");
     };
@@ -53,7 +52,11 @@ fn a_file_is_one_disks_and_keeps_its_bytes_when_it_is_opened_again(rt: HostRunti
     assert!(rt; folder.open("absent/file").is_err());
 }
 
-const PATH: &str = "cat_tests.journal";
+const PATH: &str = "cat_tests_runs.journal";
+
+/// A commit of a new table `m1` at `t1` of `main`.
+const PUT_T1: &str =
+    "POST /api/v2/trees/main/history/commit HTTP/1.1\r\nContent-Length: 202\r\n\r\n{\"commitMeta\":{\"message\":\"one\"},\"operations\":[{\"type\":\"PUT\",\"key\":{\"elements\":[\"t1\"]},\"content\":{\"type\":\"ICEBERG_TABLE\",\"metadataLocation\":\"m1\",\"snapshotId\":1,\"schemaId\":0,\"specId\":0,\"sortOrderId\":0}}]}";
 
 const READ_T1: &str = "GET /api/v2/trees/main/contents/t1 HTTP/1.1\r\n\r\n";
 
