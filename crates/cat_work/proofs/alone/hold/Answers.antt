@@ -20,3 +20,8 @@ pub returns-clause-begun : goal.returns-clause-begun
 returns-clause-begun g c =
     from_three c.new.result _ _ _ _ (λ t desk pass number. (desk.1, pass.0 ∙ sym desk.1))
     c.new.ensures.desk c.new.ensures.pass c.new.ensures.number
+
+pub returns-clause-spare : goal.returns-clause-spare
+returns-clause-spare g c =
+    from_three c.new.result _ _ _ _ (λ t desk pass number. number.1)
+    c.new.ensures.desk c.new.ensures.pass c.new.ensures.number
