@@ -18,7 +18,7 @@ use Rattle.cat_desk.specs.Sight.{Origin, Stage, Idle, Making, Waiting, Called, H
 use Rattle.cat_desk.specs.Log.{Follows, Missed, Since}
 use Rattle.cat_desk.specs.Marks.{Linked, IsGiven, AreGiven}
 use Rattle.cat_desk.specs.Rule.{Place, home, out, IsLive, IsBusy, IsServed, IsAlone, IsMaking, IsUnborn, tickets_of, total, queue, weight, Fits, Turned, SomeoneSaw, Stands, Kept, at_stage, waiting, knowing, drew, called, served, met, unnumbered, finding, leaving, Begins, Found, TookAt, took, gave}
-use Rattle.cat_desk.proofs.Logs.{missed_none, missed_follows, missed_more, adds_longer, since_more, since_next}
+use Rattle.cat_desk.proofs.Logs.{both_itself, both_on, missed_none, missed_follows, missed_more, adds_longer, since_more, since_next}
 use Rattle.cat_desk.proofs.Marks.{linked_self, linked_more, given_more, are_given_more}
 use Rattle.cat_desk.proofs.Totals.{total_set, total_le, two_of}
 use Rattle.cat_desk.proofs.Standing.{stands_stay, stands_at, home_at, unborn_at}
@@ -116,7 +116,7 @@ module _ {V : Type 0} (log : V → List LogEntry) (opened : V → Opened) (legal
       (someone_stays s r me v w here live seen turned) (stands_stay log opened mark left_open key r.all (r.marks r.last) r.opens (r.owner (word_at s 2)) s.homes s.views me v w r.place here n r.stands))
 
   -- a load that moves no slot, and leaves the view as it is
-  looked_on : (s : St) (r : Rule s) (i me : ℕ) (cs : List (ℕ × Option V)) (v : View) → get_elem? s.views me ≡ some v → IsLive v.stage → ¬ IsAlone v.stage → Rule (stepped s i (word_at s i) me cs v keeps)
+  pub looked_on : (s : St) (r : Rule s) (i me : ℕ) (cs : List (ℕ × Option V)) (v : View) → get_elem? s.views me ≡ some v → IsLive v.stage → ¬ IsAlone v.stage → Rule (stepped s i (word_at s i) me cs v keeps)
   looked_on s r i me cs v here live n = unmoved s r i me cs v v here live refl refl refl refl n (r.each me v here live)
 
   begins_at : (origin : Option Origin) (x : V) → origin ≡ Some (opened key, log key) → opened x ≡ opened key → legal (opened key) (log x) → Begins log opened legal mark left_open origin x
@@ -136,7 +136,7 @@ module _ {V : Type 0} (log : V → List LogEntry) (opened : V → Opened) (legal
         tt,
         rebuilt s 1 new s.homes (set s.views id w) r.three (step_to s r id v w (word_at s 0 ∷ new ∷ word_at s 2 ∷ []) s.homes r.all (t + 1) o r.place r.last r.marks r.opens r.grows r.first_mark r.mark_given r.opens_given here tt refl refl r.count r.small (omega arith) (omega arith) r.is_legal r.since
             record {
-              saw = record { based = f.saw.based; since = f.saw.since; missed = f.saw.missed; least = f.saw.least; most = f.saw.most };
+              saw = record { based = f.saw.based; since = f.saw.since; missed = f.saw.missed; least = f.saw.least; most = f.saw.most; parts = f.saw.parts };
               numbered = record { own_number = f.numbered.own_number; given = f.numbered.given; stands_for = f.numbered.stands_for; may_give = f.numbered.may_give };
               in_line = record { has_ticket = λ _. (omega arith, omega arith, mine_at); served = λ x. absurd x; alone = λ x. absurd x; making = λ x. absurd x };
               marked = record { turn = f.marked.turn; mark = f.marked.mark; linked = f.marked.linked; own = f.marked.own; whole = λ x. absurd x };
@@ -172,7 +172,7 @@ module _ {V : Type 0} (log : V → List LogEntry) (opened : V → Opened) (legal
         keeps,
         tt,
         unmoved s r 2 id me.1 v (at_stage v Called) here tt refl (sym (ap tickets_of waits)) refl refl n record {
-          saw = record { based = f.saw.based; since = f.saw.since; missed = f.saw.missed; least = f.saw.least; most = f.saw.most };
+          saw = record { based = f.saw.based; since = f.saw.since; missed = f.saw.missed; least = f.saw.least; most = f.saw.most; parts = f.saw.parts };
           numbered = record { own_number = f.numbered.own_number; given = f.numbered.given; stands_for = f.numbered.stands_for; may_give = f.numbered.may_give };
           in_line = record { has_ticket = λ _. l; served = λ _. sym turn; alone = λ x. absurd x; making = λ x. absurd x };
           marked = record { turn = f.marked.turn; mark = f.marked.mark; linked = f.marked.linked; own = f.marked.own; whole = λ x. absurd x };
@@ -188,7 +188,7 @@ module _ {V : Type 0} (log : V → List LogEntry) (opened : V → Opened) (legal
         keeps,
         tt,
         unmoved s r 0 id me.1 v w here live refl refl refl refl (λ a. subst IsAlone idle a) record {
-          saw = record { based = f.saw.based; since = f.saw.since; missed = f.saw.missed; least = omega arith; most = omega arith };
+          saw = record { based = f.saw.based; since = f.saw.since; missed = f.saw.missed; least = omega arith; most = omega arith; parts = f.saw.parts };
           numbered = record { own_number = f.numbered.own_number; given = f.numbered.given; stands_for = f.numbered.stands_for; may_give = f.numbered.may_give };
           in_line = record { has_ticket = f.in_line.has_ticket; served = f.in_line.served; alone = f.in_line.alone; making = f.in_line.making };
           marked = record { turn = f.marked.turn; mark = f.marked.mark; linked = f.marked.linked; own = f.marked.own; whole = f.marked.whole };
@@ -212,10 +212,11 @@ module _ {V : Type 0} (log : V → List LogEntry) (opened : V → Opened) (legal
       → Rule (stepped s 0 (word_at s 0) id cs (record v { seen = seen; known = k; mark = m; found = op; turn = t; stage = Holding }) (takes 0 x))
   taken s r id cs v x seen k m op t here sv all least most marks opens last = let w : View = record v { seen = seen; known = k; mark = m; found = op; turn = t; stage = Holding } in
       let f = r.each id v here (busy_live v.stage (served_busy v.stage sv)) in let turn = my_turn s r id v f sv in
+      let on : Follows v.number v.seen seen = subst (Follows v.number v.seen) (sym all) (missed_follows v.number r.next v.seen r.all f.saw.missed) in
       rebuilt s 0 (word_at s 0) (set s.homes 0 none) (set s.views id w) r.three (step_to s r id v w (word_at s 0 ∷ word_at s 1 ∷ word_at s 2 ∷ []) (set s.homes 0 none) r.all r.tickets r.owner out r.last r.marks r.opens r.grows r.first_mark r.mark_given r.opens_given here tt refl
       refl r.count r.small r.drawn (queue_stays s r id v w here (sym (served_ticket v.stage sv))) r.is_legal r.since
       record {
-        saw = record { based = f.saw.based; since = subst (Since r.next (log key)) (sym all) r.since; missed = subst (λ l. Missed v.number r.next l r.all) (sym all) (missed_none v.number r.next r.all); least = least; most = most };
+        saw = record { based = f.saw.based; since = subst (Since r.next (log key)) (sym all) r.since; missed = subst (λ l. Missed v.number r.next l r.all) (sym all) (missed_none v.number r.next r.all); least = least; most = most; parts = both_on v.number v.parts.0 v.parts.1 v.seen seen f.saw.parts on };
         numbered = record { own_number = f.numbered.own_number; given = f.numbered.given; stands_for = f.numbered.stands_for; may_give = f.numbered.may_give };
         in_line = record { has_ticket = λ _. f.in_line.has_ticket (served_busy v.stage sv); served = λ _. f.in_line.served sv; alone = λ _. all; making = λ y. absurd y };
         marked = record {
@@ -311,7 +312,7 @@ module _ {V : Type 0} (log : V → List LogEntry) (opened : V → Opened) (legal
       (are_given_more v.number r.next r.opens (left_open x) f.numbered.given r.opens_given moved_open) here tt refl
       refl count (omega arith) r.drawn (queue_stays s r id v w here (sym (ap tickets_of is))) ok more_since
       record {
-        saw = record { based = f.saw.based; since = more_since; missed = missed_none v.number r.next (log x); least = le_refl (length (log x)); most = le_refl (length (log x)) };
+        saw = record { based = f.saw.based; since = more_since; missed = missed_none v.number r.next (log x); least = le_refl (length (log x)); most = le_refl (length (log x)); parts = both_itself v.number (log x) };
         numbered = record { own_number = f.numbered.own_number; given = f.numbered.given; stands_for = f.numbered.stands_for; may_give = f.numbered.may_give };
         in_line = record { has_ticket = λ _. f.in_line.has_ticket (served_busy v.stage sv); served = λ _. f.in_line.served sv; alone = λ y. absurd y; making = λ y. absurd y };
         marked = record { turn = le_refl t; mark = sym new_at; linked = subst (Linked v.number (mark x)) (sym new_at) (linked_self v.number (mark x)); own = stays_self (open_of v.number (left_open x)); whole = λ y. absurd y };
@@ -324,6 +325,7 @@ module _ {V : Type 0} (log : V → List LogEntry) (opened : V → Opened) (legal
           missed = missed_more v.number d.number r.next d.seen r.all (log x) apart f.numbered.given g.saw.missed more;
           least = g.saw.least;
           most = omega arith;
+          parts = g.saw.parts;
         };
         numbered = g.numbered;
         in_line = record {
@@ -373,7 +375,7 @@ module _ {V : Type 0} (log : V → List LogEntry) (opened : V → Opened) (legal
         rebuilt s 2 n s.homes (set s.views id w) r.three (step_to s r id v w (word_at s 0 ∷ word_at s 1 ∷ n ∷ []) s.homes r.all r.tickets r.owner (home h.0) r.last r.marks r.opens r.grows r.first_mark r.mark_given r.opens_given here tt refl
             refl r.count r.small r.drawn (omega arith) r.is_legal r.since
             record {
-              saw = record { based = f.saw.based; since = f.saw.since; missed = f.saw.missed; least = f.saw.least; most = f.saw.most };
+              saw = record { based = f.saw.based; since = f.saw.since; missed = f.saw.missed; least = f.saw.least; most = f.saw.most; parts = f.saw.parts };
               numbered = record { own_number = f.numbered.own_number; given = f.numbered.given; stands_for = f.numbered.stands_for; may_give = f.numbered.may_give };
               in_line = record { has_ticket = λ y. absurd y; served = λ y. absurd y; alone = λ y. absurd y; making = λ y. absurd y };
               marked = record { turn = f.marked.turn; mark = f.marked.mark; linked = f.marked.linked; own = f.marked.own; whole = λ y. absurd y };

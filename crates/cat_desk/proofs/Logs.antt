@@ -1,16 +1,10 @@
 -- Logs that go on.
-use Rattle.std.proofs.Common.{◌≡◌, ◌≢◌, ℕ, ◌+◌, ◌<◌, ◌≤◌, List, [], ◌∷◌, ◌++◌, length, sym, ap, ◌∙◌, subst, arith, length-append, cond, max, nat_lt, true, false}
+use Rattle.std.proofs.Common.{◌≡◌, ◌≢◌, ℕ, ◌+◌, ◌<◌, ◌≤◌, List, [], ◌∷◌, ◌++◌, length, refl, sym, ap, ap₂, ◌∙◌, subst, arith, length-append, max}
 use Rattle.std.proofs.lemmas.List.{append_assoc, append-nil}
-use mathlib.Core.Logic.{dite}
-use native.Mathlib.Decide.{dec_le}
-use Rattle.std.proofs.lemmas.Bool.Decides.{nat_tests}
 use Rattle.cat_model.specs.declared.log_entry.LogEntry.{LogEntry}
 use Rattle.cat_model.specs.Turns.{Own, Adds}
-use Rattle.cat_desk.specs.Log.{Others, Below, Follows, Missed, Since, longer}
-
-others_more : (n : ℕ) (xs ys : List LogEntry) → Others n xs → Others n ys → Others n (xs ++ ys)
-others_more n [] ys a b = b
-others_more n (x ∷ xs) ys a b = (a.0, others_more n xs ys a.1 b)
+use Rattle.cat_desk.specs.Log.{BeginsWith, Others, Below, Follows, Missed, Since, longer}
+use Rattle.cat_desk.specs.LogLaws.{begins_itself, begins_on, follows_itself, follows_on, longer_cases, others_more}
 
 below_more : (n : ℕ) (xs ys : List LogEntry) → Below n xs → Below n ys → Below n (xs ++ ys)
 below_more n [] ys a b = b
@@ -71,6 +65,10 @@ since_next next first log s = (s.0, s.1, below_others next s.0 s.2)
 pub adds_longer : (n : ℕ) (found log : List LogEntry) → Adds n found log → length found ≤ length log
 adds_longer n found log a = let e : length log ≡ length found + length a.0 = ap length a.1 ∙ length-append found a.0 in omega arith
 
+others_first : (n : ℕ) (xs ys : List LogEntry) → Others n (xs ++ ys) → Others n xs
+others_first n [] ys a = tt
+others_first n (x ∷ xs) ys a = (a.0, others_first n xs ys a.1)
+
 others_tail : (n : ℕ) (xs ys : List LogEntry) → Others n (xs ++ ys) → Others n ys
 others_tail n [] ys a = a
 others_tail n (x ∷ xs) ys a = others_tail n xs ys a.1
@@ -79,17 +77,17 @@ after_first : List LogEntry → List LogEntry
 after_first [] = []
 after_first (x ∷ xs) = xs
 
--- of two beginnings of one list the longer has less behind it
-overlap : (xs ys a b : List LogEntry) → xs ++ a ≡ ys ++ b → length xs ≤ length ys → (mid : List LogEntry) × (a ≡ mid ++ b)
-unfolding after_first
-overlap [] ys a b e le = (ys, e)
-overlap (x ∷ xs) [] a b e le = absurd (omega arith)
-overlap (x ∷ xs) (y ∷ ys) a b e le = overlap xs ys a b (ap after_first e) (omega arith)
+first_or : LogEntry → List LogEntry → LogEntry
+first_or d [] = d
+first_or d (x ∷ xs) = x
 
-pub longer_cases : (xs ys : List LogEntry) (P : List LogEntry → Type 0) → (length xs < length ys → P ys) → (length ys ≤ length xs → P xs) → P (longer xs ys)
-longer_cases xs ys P more less = dite (dec_le (length ys) (length xs))
-    (λ le. subst (λ b. P (cond b ys xs)) (sym (let not_lt : nat_lt (length xs) (length ys) ≡ false = grind (arith, nat_tests) in not_lt)) (less le))
-    (λ gt. let lt : length xs < length ys = omega arith in subst (λ b. P (cond b ys xs)) (sym (let is : nat_lt (length xs) (length ys) ≡ true = grind (arith, nat_tests) in is)) (more lt))
+-- of two beginnings of one list the longer has less behind it, and begins with the other
+overlap : (xs ys a b : List LogEntry) → xs ++ a ≡ ys ++ b → length xs ≤ length ys → (mid : List LogEntry) × (a ≡ mid ++ b) × (ys ≡ xs ++ mid)
+unfolding after_first first_or
+overlap [] ys a b e le = (ys, e, refl)
+overlap (x ∷ xs) [] a b e le = absurd (omega arith)
+overlap (x ∷ xs) (y ∷ ys) a b e le = let o = overlap xs ys a b (ap after_first e) (omega arith) in
+    (o.0, o.1, ap₂ (λ (z : LogEntry) (l : List LogEntry). z ∷ l) (sym (ap (first_or x) e)) o.2)
 
 pub since_longer : (next : ℕ) (first xs ys : List LogEntry) → Since next first xs → Since next first ys → Since next first (longer xs ys)
 since_longer next first xs ys a b = longer_cases xs ys (λ l. Since next first l) (λ _. b) (λ _. a)
@@ -104,6 +102,19 @@ pub missed_longer : (n m next : ℕ) (xs ys log : List LogEntry) → Missed n ne
 missed_longer n m next xs ys log a b = longer_cases xs ys (λ l. Missed n next l log)
     (λ lt. let o = overlap xs ys a.0 b.0 (sym a.1 ∙ b.1) (omega arith) in (b.0, b.1, others_tail n o.0 b.0 (subst (Others n) o.1 a.2), b.3))
     (λ _. a)
+
+-- the longer of two beginnings of one list begins with both, and has no entry more of the first's caller
+pub longer_both : (n m next : ℕ) (xs ys log : List LogEntry) → Missed n next xs log → Missed m next ys log → Follows n xs (longer xs ys) × BeginsWith ys (longer xs ys)
+longer_both n m next xs ys log a b = longer_cases xs ys (λ l. Follows n xs l × BeginsWith ys l)
+    (λ lt. let o = overlap xs ys a.0 b.0 (sym a.1 ∙ b.1) (omega arith) in ((o.0, o.2, others_first n o.0 b.0 (subst (Others n) o.1 a.2)), begins_itself ys))
+    (λ le. let o = overlap ys xs b.0 a.0 (sym b.1 ∙ a.1) le in (follows_itself n xs, (o.0, o.2)))
+
+-- a log that goes on without an entry of this caller
+pub both_on : (n : ℕ) (xs ys seen log : List LogEntry) → Follows n xs seen × BeginsWith ys seen → Follows n seen log → Follows n xs log × BeginsWith ys log
+both_on n xs ys seen log both f = (follows_on n xs seen log both.0 f, begins_on ys seen log both.1 (f.0, f.1))
+
+pub both_itself : (n : ℕ) (log : List LogEntry) → Follows n log log × BeginsWith [] log
+both_itself n log = (follows_itself n log, (log, refl))
 
 none_left : (seen rest log : List LogEntry) → log ≡ seen ++ rest → length log ≤ length seen → seen ≡ log
 none_left seen [] log e le = sym (e ∙ append-nil seen)

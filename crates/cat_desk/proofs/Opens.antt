@@ -11,7 +11,7 @@ use Rattle.cat_model.specs.TurnLaws.{grows_self, stays_self}
 use Rattle.cat_desk.specs.Sight.{View}
 use Rattle.cat_desk.specs.Marks.{AreGiven}
 use Rattle.cat_desk.specs.Rule.{unborn, IsLive, tickets_of, Fits, Kept, newcomer}
-use Rattle.cat_desk.proofs.Logs.{missed_none, since_none}
+use Rattle.cat_desk.proofs.Logs.{both_itself, missed_none, since_none}
 use Rattle.cat_desk.proofs.Marks.{linked_self, given_self}
 
 module _ {V : Type 0} (log : V → List LogEntry) (opened : V → Opened) (legal : Opened → List LogEntry → Type 0) (mark : V → Mark) (left_open : V → Open) (key : V) where
@@ -46,7 +46,7 @@ module _ {V : Type 0} (log : V → List LogEntry) (opened : V → Opened) (legal
   } where
     first : (j : ℕ) (d : View) → get_elem? (newcomer log opened mark left_open key ∷ []) j ≡ some d → IsLive d.stage → Fits (opened key, log key) (log key) 1 0 2 0 (λ _. 0) (λ _. 0) (Unit {0}) 0 (λ _. mark key) (left_open key) j d
     first zero d e _ = subst (λ (x : View). Fits (opened key, log key) (log key) 1 0 2 0 (λ _. 0) (λ _. 0) (Unit {0}) 0 (λ _. mark key) (left_open key) 0 x) (some-injective (newcomer log opened mark left_open key) d e) record {
-      saw = record { based = refl; since = since_none 2 (log key); missed = missed_none 1 2 (log key); least = le_refl (length (log key)); most = le_refl (length (log key)) };
+      saw = record { based = refl; since = since_none 2 (log key); missed = missed_none 1 2 (log key); least = le_refl (length (log key)); most = le_refl (length (log key)); parts = both_itself 1 (log key) };
       numbered = record { own_number = refl; given = omega arith; stands_for = omega arith; may_give = λ _. (refl, refl) };
       in_line = record { has_ticket = λ _. (omega arith, omega arith, refl); served = λ _. refl; alone = λ _. refl; making = λ _. tt };
       marked = record { turn = le_refl 0; mark = refl; linked = linked_self 1 (mark key); own = stays_self (open_of 1 (left_open key)); whole = λ _. (refl, refl) };

@@ -6,7 +6,7 @@ use mathlib.Core.Logic.{dite}
 use native.Mathlib.Decide.{ℕ_discrete, dec_le}
 use Rattle.std.proofs.lemmas.Bool.Decides.{nat_tests}
 use lib.ListN.{get_elem?}
-use Rattle.atomic_table.specs.Table.{Splits, Joins, Final, Seen}
+use Rattle.atomic_table.specs.Table.{Me, keeps, Allows, Splits, Joins, Final, Seen}
 use Rattle.atomic_table.proofs.Lists.{at_set, set_else, at_longer}
 use Rattle.cat_model.specs.declared.log_entry.LogEntry.{LogEntry}
 use Rattle.cat_model.specs.Drafts.{Open, nothing_open, open_of, StaysOpen}
@@ -16,16 +16,16 @@ use Rattle.cat_model.specs.TurnLaws.{stays_self}
 use Rattle.cat_desk.specs.Sight.{Stage, Idle, Making, Holding, View}
 use Rattle.cat_desk.specs.declared.pass.Held.{Held}
 use Rattle.cat_desk.specs.declared.pass.Pass.{Pass}
-use Rattle.cat_desk.specs.Pass.{seen_in, held_in, mark_in, own_in, mark_of, left_by, DeskId, IsFree, seen, stands_for, found}
+use Rattle.cat_desk.specs.Pass.{seen_in, held_in, mark_in, own_in, mark_of, left_by, number_of, DeskId, IsFree, seen, stands_for, found}
 use Rattle.cat_desk.specs.Marks.{Linked}
 use Rattle.cat_desk.proofs.Marks.{linked_next, linked_later, given_later, are_given_later}
-use Rattle.cat_desk.specs.Log.{Missed, longer}
-use Rattle.cat_desk.specs.Rule.{Place, home, unborn, out, IsLive, IsAlone, IsUnborn, tickets_of, total, queue, weight, Numbered, Fits, Turned, SomeoneSaw, Stands, finding, splitting, split_off, joined, nobody}
-use Rattle.cat_desk.proofs.Logs.{missed_later, missed_next, missed_longer, since_later, since_longer, longer_first, longer_second, longer_bound, whole}
+use Rattle.cat_desk.specs.Log.{BeginsWith, Follows, Missed, longer}
+use Rattle.cat_desk.specs.Rule.{Place, home, unborn, out, IsLive, IsAlone, IsUnborn, tickets_of, total, queue, weight, Numbered, Fits, Turned, SomeoneSaw, Stands, HasParts, compared, finding, splitting, split_off, joined, nobody}
+use Rattle.cat_desk.proofs.Logs.{both_itself, longer_both, missed_later, missed_next, missed_longer, since_later, since_longer, longer_first, longer_second, longer_bound, whole}
 use Rattle.cat_desk.proofs.Totals.{total_set, total_snoc}
 use Rattle.cat_desk.proofs.Seats.{alone_served, served_busy, busy_live, set_there, seats_stay, same_view}
 use Rattle.cat_desk.proofs.Standing.{stands_stay}
-use Rattle.cat_desk.proofs.Keeps.{Rule, St, word_at, only_one, saw_all}
+use Rattle.cat_desk.proofs.Keeps.{Rule, St, looked_on, word_at, only_one, saw_all}
 
 at_snoc_at : (l : List View) (a b : View) (j : ℕ) → get_elem? (l ++ a ∷ []) j ≡ some b → (get_elem? l j ≡ some b) ⊎ ((j ≡ length l) × (a ≡ b))
 at_snoc_at [] a b zero e = inr (refl, some-injective a b e)
@@ -54,7 +54,7 @@ module _ {V : Type 0} (log : V → List LogEntry) (opened : V → Opened) (legal
       let new_name : names (4294967296 - v.spare) ≡ length s.views = ap (λ b. cond b (length s.views) (r.named (4294967296 - v.spare))) (eq-eqb (4294967296 - v.spare) r.next number) in
       let Fit : ℕ → View → Type 0 = λ j d. Fits (opened key, log key) r.all r.tickets (word_at log opened legal mark left_open key s 2) (r.next + 1) r.keeper r.owner names (IsUnborn r.place) r.last r.marks r.opens j d in
       let left : Fit id l = record {
-        saw = record { based = f.saw.based; since = since_later r.next (r.next + 1) (log key) v.seen (omega arith) f.saw.since; missed = missed_later v.number r.next (r.next + 1) v.seen r.all (omega arith) f.saw.missed; least = f.saw.least; most = f.saw.most };
+        saw = record { based = f.saw.based; since = since_later r.next (r.next + 1) (log key) v.seen (omega arith) f.saw.since; missed = missed_later v.number r.next (r.next + 1) v.seen r.all (omega arith) f.saw.missed; least = f.saw.least; most = f.saw.most; parts = f.saw.parts };
         numbered = record {
           own_number = old_name v.number f.numbered.given ∙ f.numbered.own_number;
           given = let lt : v.number < r.next = f.numbered.given in omega arith;
@@ -71,6 +71,7 @@ module _ {V : Type 0} (log : V → List LogEntry) (opened : V → Opened) (legal
           missed = subst (λ (n : ℕ). Missed n (r.next + 1) v.seen r.all) (sym number) (missed_next v.number r.next v.seen r.all f.saw.missed);
           least = f.saw.least;
           most = f.saw.most;
+          parts = both_itself (4294967296 - v.spare) v.seen;
         };
         numbered = record { own_number = new_name; given = omega arith; stands_for = omega arith; may_give = λ lt. absurd (omega arith) };
         in_line = record { has_ticket = λ x. absurd x; served = λ x. absurd x; alone = λ x. absurd x; making = λ x. absurd x };
@@ -84,7 +85,7 @@ module _ {V : Type 0} (log : V → List LogEntry) (opened : V → Opened) (legal
         };
       } in
       let others : (j : ℕ) (d : View) → j ≢ id → get_elem? s.views j ≡ some d → IsLive d.stage → Fit j d = λ j d other at alive. let g = r.each j d at alive in record {
-        saw = record { based = g.saw.based; since = since_later r.next (r.next + 1) (log key) d.seen (omega arith) g.saw.since; missed = missed_later d.number r.next (r.next + 1) d.seen r.all (omega arith) g.saw.missed; least = g.saw.least; most = g.saw.most };
+        saw = record { based = g.saw.based; since = since_later r.next (r.next + 1) (log key) d.seen (omega arith) g.saw.since; missed = missed_later d.number r.next (r.next + 1) d.seen r.all (omega arith) g.saw.missed; least = g.saw.least; most = g.saw.most; parts = g.saw.parts };
         numbered = record {
           own_number = old_name d.number g.numbered.given ∙ g.numbered.own_number;
           given = let lt : d.number < r.next = g.numbered.given in omega arith;
@@ -151,6 +152,7 @@ module _ {V : Type 0} (log : V → List LogEntry) (opened : V → Opened) (legal
           missed = missed;
           least = longer_bound v.seen w.seen v.known w.known f.saw.least g.saw.least;
           most = let p : v.known ≤ length r.all = f.saw.most in let q : w.known ≤ length r.all = g.saw.most in omega arith;
+          parts = longer_both v.number w.number r.next v.seen w.seen r.all f.saw.missed g.saw.missed;
         };
         numbered = record {
           own_number = f.numbered.own_number;
@@ -221,6 +223,16 @@ module _ {V : Type 0} (log : V → List LogEntry) (opened : V → Opened) (legal
             (stands_stay log opened mark left_open key r.all (r.marks r.last) r.opens (r.owner (word_at log opened legal mark left_open key s 2)) s.homes s.views id v b r.place here (λ x. subst IsAlone vi x) r.stands);
       }
 
+  -- a pass that was made of two has seen what they had
+  pub compares : (slots id : ℕ) (me : Me (Option V) View) → me.0.stage ≡ Idle → Allows (Rule log opened legal mark left_open key) slots id me 0 (λ n. n) (λ _. compared me)
+  compares slots id me idle s r len here below = let v : View = me.0 in let live : IsLive v.stage = subst IsLive (sym idle) tt in (
+    v,
+    keeps,
+    tt,
+    looked_on log opened legal mark left_open key s r 0 id me.1 v here live (λ a. subst IsAlone idle a),
+    (refl, (r.each id v here live).saw.parts),
+  )
+
   -- once a pass stands for all, no other is left
   pub closes : (s : St log opened legal mark left_open key) (r : Rule log opened legal mark left_open key s) (id : ℕ) (v : View) → get_elem? s.views id ≡ some v → v.stage ≡ Idle → v.held + v.spare ≡ 4294967295
       → (x : V) × (get_elem? s.homes 0 ≡ some (some (Some x))) × (log x ≡ v.seen) × (opened x ≡ opened key) × legal (opened key) (log x) × (mark x ≡ v.mark) × StaysOpen v.own (open_of v.number (left_open x))
@@ -268,6 +280,15 @@ free_view desk p w f e = let same : f.0 ≡ w = ap (λ l. first_view l w) (sym f
   mark = ap mark_in e;
   left = ap own_in e;
 }
+
+-- what was told of a pass that took in another, of the two
+pub took_in : (desk : DeskId) (p other : Pass) (v w u : View) (l : List LogEntry) → FreeView desk p v → FreeView desk other w → u ≡ joined v w → HasParts u → l ≡ u.seen → Follows (number_of p) (seen p) l × BeginsWith (seen other) l
+took_in desk p other v w u l f g is told same =
+    let both : HasParts (joined v w) = subst HasParts is told in
+    let now : (joined v w).seen ≡ l = ap (λ (x : View). x.seen) (sym is) ∙ sym same in (
+      subst (λ (z : ℕ × List LogEntry × List LogEntry). Follows z.0 z.1 z.2) (λ i. (f.number i, sym f.seen i, now i)) both.0,
+      subst (λ (z : List LogEntry × List LogEntry). BeginsWith z.0 z.1) (λ i. (sym g.seen i, now i)) both.1,
+    )
 
 -- the same of what is equal
 pub stays_at : {m n : ℕ} {a b : Open} (o p : Open) → a ≡ b → m ≡ n → o ≡ p → StaysOpen a (open_of m o) → StaysOpen b (open_of n p)

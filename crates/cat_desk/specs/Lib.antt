@@ -1,4 +1,5 @@
 pub mod Log
+pub mod LogLaws
 pub mod Marks
 pub mod Sight
 pub mod Rule

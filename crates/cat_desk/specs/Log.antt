@@ -24,6 +24,10 @@ Missed caller next seen log = (rest : List LogEntry) × (log ≡ seen ++ rest) �
 abbrev pub Since : ℕ → List LogEntry → List LogEntry → Type 0
 Since next first log = (rest : List LogEntry) × (log ≡ first ++ rest) × Below next rest
 
+-- the log begins with the first
+abbrev pub BeginsWith : List LogEntry → List LogEntry → Type 0
+BeginsWith first log = (rest : List LogEntry) × (log ≡ first ++ rest)
+
 -- the longer of two lists, the first where they are of one length
 abbrev pub longer : List LogEntry → List LogEntry → List LogEntry
 longer xs ys = cond (nat_lt (length xs) (length ys)) ys xs

@@ -10,7 +10,7 @@ use Rattle.cat_model.specs.Drafts.{Open, nothing_open, open_of, StaysOpen}
 use Rattle.cat_model.specs.Mark.{Mark, Grows}
 use Rattle.cat_model.specs.Turns.{Opened}
 use Rattle.cat_desk.specs.Sight.{Origin, Stage, Idle, Making, Waiting, Called, Holding, Leaving, Spent, View, blank}
-use Rattle.cat_desk.specs.Log.{Follows, Missed, Since, longer}
+use Rattle.cat_desk.specs.Log.{BeginsWith, Follows, Missed, Since, longer}
 use Rattle.cat_desk.specs.Marks.{Linked, IsGiven, AreGiven, later_mark}
 
 -- where the value is: at home, not yet there, or out with the seat whose turn it is
@@ -69,6 +69,10 @@ queue v = tickets_of v.stage
 abbrev pub weight : View → ℕ
 weight v = v.held + v.spare
 
+-- it has seen what its two parts had, and besides that of the first none of its own entries
+abbrev pub HasParts : View → Type 0
+HasParts d = Follows d.number d.parts.0 d.seen × BeginsWith d.parts.1 d.seen
+
 -- what a pass has seen of the log
 pub record Saw (base : Origin) (all : List LogEntry) (next : ℕ) (d : View) : Type 0 where
   pub based : d.origin ≡ Some base
@@ -76,6 +80,7 @@ pub record Saw (base : Origin) (all : List LogEntry) (next : ℕ) (d : View) : T
   pub missed : Missed d.number next d.seen all
   pub least : length d.seen ≤ d.known
   pub most : d.known ≤ length all
+  pub parts : HasParts d
 
 -- its number, and the numbers that it may still give
 pub record Numbered (named : ℕ → ℕ) (next keeper seat : ℕ) (d : View) : Type 0 where
@@ -164,6 +169,7 @@ newcomer log opened mark left_open v = record {
   found = left_open v;
   stage = Making;
   ticket = 0;
+  parts = (log v, []);
 }
 
 abbrev pub at_stage : View → Stage → View
@@ -178,7 +184,7 @@ finding v all mark opens t = record v { seen = all; known = length all; mark = m
 
 -- the pass has left it so
 abbrev pub leaving : View → List LogEntry → Mark → Open → View
-leaving v all mark opens = record v { seen = all; known = length all; mark = mark; own = open_of v.number opens; found = opens; turn = v.turn + 1; stage = Leaving }
+leaving v all mark opens = record v { seen = all; known = length all; mark = mark; own = open_of v.number opens; found = opens; turn = v.turn + 1; stage = Leaving; parts = (all, []) }
 
 -- it knows of so many entries
 abbrev pub knowing : View → ℕ → View
@@ -189,11 +195,11 @@ abbrev pub splitting : View → View
 splitting v = record v { spare = v.spare - 1 }
 
 abbrev pub split_off : View → View
-split_off v = record v { number = 4294967296 - v.spare; spare = 0; held = 1; own = nothing_open; stage = Idle }
+split_off v = record v { number = 4294967296 - v.spare; spare = 0; held = 1; own = nothing_open; stage = Idle; parts = (v.seen, []) }
 
 -- a pass that took in another, and what is left of that
 abbrev pub joined : View → View → View
-joined v w = record v { mark = later_mark v.turn w.turn v.mark w.mark; turn = max v.turn w.turn; seen = longer v.seen w.seen; known = max v.known w.known; spare = max v.spare w.spare; held = v.held + w.held }
+joined v w = record v { mark = later_mark v.turn w.turn v.mark w.mark; turn = max v.turn w.turn; seen = longer v.seen w.seen; known = max v.known w.known; spare = max v.spare w.spare; held = v.held + w.held; parts = (v.seen, w.seen) }
 
 abbrev pub nobody : View
 nobody = blank Spent
@@ -212,6 +218,10 @@ module _ {V : Type 0} where
   -- nothing was moved, and the number that is given next has no entry since the desk was made
   abbrev pub unnumbered : Me (Option V) View → Me (Option V) View → Type 0
   unnumbered m n = (n ≡ m) × ((o : Origin) → m.0.origin ≡ Some o → Follows (4294967296 - m.0.spare) o.1 m.0.seen)
+
+  -- nothing was moved, and it is told what a pass has seen that was made of two
+  abbrev pub compared : Me (Option V) View → Me (Option V) View → Type 0
+  compared m n = (n ≡ m) × HasParts m.0
 
   -- the count was read
   abbrev pub met : Me (Option V) View → ℕ → Me (Option V) View → Type 0

@@ -19,7 +19,7 @@ pub data Stage : Type 0 where
   Leaving : Stage
   Spent : Stage
 
--- the log that was seen, how many entries are known of, the caller's number, how many passes may still be split off and how many it stands for; the mark and the number of the turn that left it; what the last turn left open of the caller, and what was open in all as the value was found
+-- the log that was seen, how many entries are known of, the caller's number, how many passes may still be split off and how many it stands for; the mark and the number of the turn that left it; what the last turn left open of the caller, and what was open in all as the value was found; what the two passes had seen of which it was last made
 pub record View : Type 0 where
   pub origin : Option Origin
   pub seen : List LogEntry
@@ -33,6 +33,7 @@ pub record View : Type 0 where
   pub found : Open
   pub stage : Stage
   pub ticket : ℕ
+  pub parts : List LogEntry × List LogEntry
 
 -- the view of a seat at a stage that knows nothing
 abbrev pub blank : Stage → View
@@ -49,4 +50,5 @@ blank stage = record {
   found = nothing_open;
   stage = stage;
   ticket = 0;
+  parts = ([], []);
 }

@@ -3,13 +3,13 @@ ghost use Rattle.std.specs.Prelude.{◌≡◌, ◌+◌, ◌-◌, ◌%◌, ◌<�
 ghost use Rattle.cat_model.specs.Drafts.{nothing_open, open_of, StaysOpen};
 ghost use Rattle.cat_model.specs.Turns.{Acts, snapshot};
 ghost use Rattle.cat_desk.specs.Sight.{Waiting, Called};
-ghost use Rattle.cat_desk.specs.Log.{Follows, longer};
+ghost use Rattle.cat_desk.specs.Log.{BeginsWith, Follows, longer};
 ghost use Rattle.cat_desk.specs.Marks.{Linked, later_mark};
 ghost use Rattle.cat_desk.specs.Rule.{at_stage, finding, Found};
 ghost use Rattle.cat_desk.specs.Pass.{IsFree, IsTurn, Keeps, seen, known, number_of, spare_of, stands_for, mark_of, turn_of, left_by, Remembers, found, held_for, found_turn};
 
 use crate::pass::{Held, Pass};
-use crate::plays::{Apart, Call, Draw, Give, Look, Meet, Serve, Take, Together, Turns};
+use crate::plays::{Apart, Call, Compare, Draw, Give, Look, Meet, Serve, Take, Together, Turns};
 use crate::view::View;
 use atomic_table::{Badge, Seat, Table};
 use cat_codes::fault::NoMemory;
@@ -160,12 +160,15 @@ impl<V: Logged> Desk<V> {
         })
     }
 
-    /// Takes a pass in. It has then seen what either had, and holds the mark of the later turn. What
-    /// the other's caller left open stays open, and is nobody's.
+    /// Takes a pass in. It has then seen what either had, one of which is a beginning of the other,
+    /// and holds the mark of the later turn. What the other's caller left open stays open, and is
+    /// nobody's.
     pub fn join(&self, pass: &mut Pass, other: Pass)
         requires free { IsFree self.now pass.old × IsFree self.now other }
         ensures free { IsFree self.now pass.new × (number_of pass.new ≡ number_of pass.old) }
         ensures seen { (seen pass.new ≡ longer (seen pass.old) (seen other)) × (known pass.new ≡ max (known pass.old) (known other)) }
+        ensures whole { BeginsWith (seen pass.old) (seen pass.new) × BeginsWith (seen other) (seen pass.new) }
+        ensures follows { Follows (number_of pass.old) (seen pass.old) (seen pass.new) }
         ensures mark { (mark_of pass.new ≡ later_mark (turn_of pass.old) (turn_of other) (mark_of pass.old) (mark_of other)) × (turn_of pass.new ≡ max (turn_of pass.old) (turn_of other)) }
         ensures left { left_by pass.new ≡ left_by pass.old }
         ensures sum { (stands_for pass.new ≡ stands_for pass.old + stands_for other) × (spare_of pass.new ≡ max (spare_of pass.old) (spare_of other)) }
@@ -180,6 +183,7 @@ impl<V: Logged> Desk<V> {
         self.table
             .shared
             .join_seat::<Together>(&mut seat, gone.into_seat::<Option<V>>());
+        self.table.shared.load::<Compare>(&mut seat, COUNT);
         pass.badge = seat.into_badge();
         pass.spare = pass.spare.max(spare);
     }

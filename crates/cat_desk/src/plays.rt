@@ -78,6 +78,15 @@ impl<V: Logged> Play<Option<V>, View> for Look {
     ghost then = { λ st m r n. unnumbered m n };
 }
 
+/// The rule is looked at for what a pass has seen that was made of two.
+pub(crate) struct Compare;
+
+impl<V: Logged> Play<Option<V>, View> for Compare {
+    ghost use Rattle.cat_desk.specs.Rule.{compared};
+
+    ghost then = { λ st m r n. compared m n };
+}
+
 /// A pass is split off.
 pub(crate) struct Apart;
 

@@ -1,6 +1,7 @@
 -- What a turn that changes nothing leaves of a pass, and what calls on it leave.
 use Rattle.std.proofs.Common.{◌≡◌, ℕ, ◌+◌, ◌*◌, ◌<◌, ◌≤◌, min, Option, Some, Result, Ok, Err, OnOk, refl, ◌∙◌, ap, ap₂, subst, arith}
 use Rattle.cat_checks.specs.Histories.{IsLegalFrom}
+use Rattle.cat_desk.specs.Log.{BeginsWith}
 use Rattle.cat_desk.specs.Pass.{DeskId, IsFree, Keeps, left_by, number_of, seen}
 use Rattle.cat_desk.specs.declared.pass.Pass.{Pass}
 use Rattle.cat_io.specs.Clocks.{Ticks, from, readings, ticks_on}
@@ -9,6 +10,7 @@ use Rattle.cat_model.specs.Book.{Book}
 use Rattle.cat_model.specs.Drafts.{Open, StaysOpen, nothing_open, open_of}
 use Rattle.cat_model.specs.TurnLaws.{nothing_stays}
 use Rattle.cat_work.specs.Passes.{IsAlone, IsReady}
+use Rattle.cat_work.specs.ReadyLaws.{ready_on}
 use Rattle.cat_drill.specs.Drill.{after_command, after_step, asked, moments}
 use Rattle.cat_drill.specs.Steps.{moment_of}
 
@@ -23,10 +25,10 @@ alone_on desk p q kept alone = ap₂ (λ (a b : ℕ). a + b) kept.held kept.spar
 
 -- nothing was left open
 pub left_ready : (desk : DeskId) (p q : Pass) (n : ℕ) (opens : Open) → IsReady desk p → IsFree desk q → left_by q ≡ open_of n opens → n ≡ number_of p → StaysOpen (left_by p) (open_of (number_of p) opens)
-    → IsLegalFrom desk.opened (seen q) → IsReady desk q
-left_ready desk p q n opens ready free left number own legal =
+    → IsLegalFrom desk.opened (seen q) → BeginsWith (seen p) (seen q) → IsReady desk q
+left_ready desk p q n opens ready free left number own legal begins =
     let none : StaysOpen nothing_open (open_of (number_of p) opens) = subst (λ (x : Open). StaysOpen x (open_of (number_of p) opens)) ready.none own in
-    record { free = free; none = left ∙ ap (λ (k : ℕ). open_of k opens) number ∙ nothing_stays (open_of (number_of p) opens) none; legal = legal }
+    ready_on desk p q ready free (left ∙ ap (λ (k : ℕ). open_of k opens) number ∙ nothing_stays (open_of (number_of p) opens) none) legal begins
 
 -- ---- moments
 

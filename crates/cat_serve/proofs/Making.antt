@@ -1,9 +1,10 @@
 -- The entries that a request makes.
 use Rattle.std.proofs.Common.{◌≡◌, ℕ, ◌==◌, List, [], ◌∷◌, ◌++◌, cond, Bool, Result, Ok, Err, refl, sym, ◌∙◌, ap, ap₂, inl, inr}
 use Rattle.std.proofs.lemmas.Bool.{eq-eqb, ne_eqb}
-use Rattle.std.proofs.lemmas.List.{append_assoc, append-nil}
+use Rattle.std.proofs.lemmas.List.{append-nil}
 use Rattle.std.proofs.lemmas.List.Elements.{filter-append}
-use Rattle.cat_desk.specs.Log.{Follows, Others}
+use Rattle.cat_desk.specs.Log.{BeginsWith, Follows, Others}
+use Rattle.cat_desk.specs.LogLaws.{begins_on}
 use Rattle.cat_desk.specs.Pass.{DeskId, known, mark_of, number_of, seen}
 use Rattle.cat_desk.specs.declared.pass.Pass.{Pass}
 use Rattle.cat_model.specs.declared.command.Command.{Command}
@@ -14,13 +15,8 @@ use Rattle.cat_model.specs.declared.reply.Told.{Told}
 use Rattle.cat_model.specs.declared.wanted.Wanted.{Wanted}
 use Rattle.cat_model.specs.declared.wanted.Wanted.TheVariants.{Change, Read}
 use Rattle.cat_work.specs.Answers.{Answers}
-use Rattle.cat_serve.specs.Entries.{BeginsWith, Makes, entries_of}
+use Rattle.cat_serve.specs.Entries.{Makes, entries_of}
 use Rattle.cat_serve.specs.Passes.{Comes}
-
--- ---- lists that begin with others
-
-pub begins_on : (l m k : List LogEntry) → BeginsWith l m → BeginsWith m k → BeginsWith l k
-begins_on l m k one two = (one.0 ++ two.0, two.1 ∙ ap (λ (x : List LogEntry). x ++ two.0) one.1 ∙ append_assoc l one.0 two.0)
 
 -- ---- a caller's entries
 
@@ -43,10 +39,6 @@ accepted_own n l m earlier entry follows log own =
     ap (entries_of n) log ∙ filter-append (λ (x : LogEntry). x.caller == n) earlier (entry ∷ [])
     ∙ ap₂ (λ (x y : List LogEntry). x ++ y) (follows_own n l earlier follows) (own_one n entry own)
 
-accepted_begins : (n : ℕ) (l m earlier : List LogEntry) (entry : LogEntry) → Follows n l earlier → m ≡ earlier ++ entry ∷ [] → BeginsWith l m
-accepted_begins n l m earlier entry (rest, is, others) log =
-    (rest ++ entry ∷ [], log ∙ ap (λ (x : List LogEntry). x ++ entry ∷ []) is ∙ append_assoc l rest (entry ∷ []))
-
 -- ---- by what was made
 
 module _ (desk : DeskId) (wants : Result Wanted Refusal) (taken : List ℕ) (p q : Pass) (told : Result Told Refused) where
@@ -60,7 +52,7 @@ module _ (desk : DeskId) (wants : Result Wanted Refusal) (taken : List ℕ) (p q
 
   pub makes_begins : (entries : List LogEntry) → Makes desk wants taken p q told entries → BeginsWith (seen p) (seen q)
   makes_begins [] follows = (follows.0, follows.1)
-  makes_begins (entry ∷ []) is = let a = is.accepts in accepted_begins (number_of p) (seen p) (seen q) a.earlier a.entry a.follows a.log
+  makes_begins (entry ∷ []) is = let a = is.accepts in begins_on (seen p) a.earlier (seen q) (a.follows.0, a.follows.1) (a.entry ∷ [], a.log)
   makes_begins (entry ∷ next ∷ more) is = absurd is
 
 -- ---- what is made, by what was told

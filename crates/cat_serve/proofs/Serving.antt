@@ -3,16 +3,18 @@ use Rattle.std.proofs.Common.{◌≡◌, ℕ, List, [], ◌∷◌, ◌++◌, Opt
 use Rattle.std.proofs.lemmas.List.{append_assoc, append-nil}
 use Rattle.std.specs.Io.KnownBytes.{Appends}
 use Rattle.cat_checks.specs.Histories.{IsLegalFrom}
+use Rattle.cat_desk.specs.Log.{BeginsWith}
+use Rattle.cat_desk.specs.LogLaws.{begins_on}
 use Rattle.cat_desk.specs.Pass.{DeskId, number_of, seen}
 use Rattle.cat_desk.specs.declared.pass.Pass.{Pass}
 use Rattle.cat_model.specs.declared.log_entry.LogEntry.{LogEntry}
 use Rattle.cat_rest.specs.Wanted.{wanted}
 use Rattle.cat_serve.specs.declared.ending.Session.{Session as End}
-use Rattle.cat_serve.specs.Entries.{BeginsWith, entries_of}
+use Rattle.cat_serve.specs.Entries.{entries_of}
 use Rattle.cat_serve.specs.Passes.{EndsBy, GoesBy, Place, Visit, Visits, Went, place}
 use Rattle.cat_serve.specs.Serving.{AreAnswered, Rises, Serves, made_by, replies_of}
 use Rattle.cat_serve.specs.Sessions.{Readings}
-use Rattle.cat_serve.proofs.Making.{begins_on, makes_begins, makes_own}
+use Rattle.cat_serve.proofs.Making.{makes_begins, makes_own}
 use Rattle.cat_serve.proofs.Told.{appends_nothing, appends_on}
 
 -- ---- one visit, and then others
@@ -79,10 +81,10 @@ module _ (desk : DeskId) (attempts : ℕ) where
     own_all n (v ∷ visits) last a c (b, visit, stays, told, rest) ends number =
         own_on n a.pass b.pass z.pass v.made (made_by (visits ++ last)) (owns n v a b visit number) (own_all n visits last b c rest ends (visit.is.number ∙ number))
 
-  -- the whole promise of a session that went so, of a legal log
+  -- the whole promise of a session that went so, on a pass that was ready, of a legal log
   pub serves : (a : Place) (end : End) (unread : Option (List ℕ)) (pass : Pass) (now : Option Readings) (held : Option (List ℕ)) → Went desk attempts a end unread pass now held
-      → IsLegalFrom desk.opened (seen pass) → Serves desk attempts a end unread pass now held
-  serves a end unread pass now held went legal =
+      → BeginsWith desk.begun (seen a.pass) → IsLegalFrom desk.opened (seen pass) → Serves desk attempts a end unread pass now held
+  serves a end unread pass now held went starts legal =
       let e = went.ended in
       let z = place e.left pass now e.rest held in
       let rises = rises_all end unread e.tail z went.visits e.last a went.c went.goes e.ends in
@@ -93,7 +95,7 @@ module _ (desk : DeskId) (attempts : ℕ) where
         answers = answered_all end unread e.tail z went.visits e.last a went.c went.goes e.ends;
         legal = legal;
         rises = rises;
-        starts = λ first. begins_on desk.begun (seen a.pass) (seen pass) first begins;
+        starts = begins_on desk.begun (seen a.pass) (seen pass) starts begins;
         once = own_all end unread e.tail z (number_of a.pass) went.visits e.last a went.c went.goes e.ends refl;
         begins = begins;
       }

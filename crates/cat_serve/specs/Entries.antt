@@ -1,5 +1,5 @@
 -- The entries that a request makes in the list that its pass has seen.
-use Rattle.std.specs.Prelude.{ℕ, ◌==◌, ◌≡◌, List, [], ◌∷◌, ◌++◌, filter, Result, Ok}
+use Rattle.std.specs.Prelude.{ℕ, ◌==◌, ◌≡◌, List, [], ◌∷◌, filter, Result, Ok}
 use Rattle.cat_desk.specs.Log.{Follows}
 use Rattle.cat_desk.specs.Pass.{DeskId, mark_of, number_of, seen}
 use Rattle.cat_desk.specs.declared.pass.Pass.{Pass}
@@ -11,10 +11,6 @@ use Rattle.cat_model.specs.declared.reply.Told.{Told}
 use Rattle.cat_model.specs.declared.wanted.Wanted.{Wanted}
 use Rattle.cat_model.specs.declared.wanted.Wanted.TheVariants.{Change}
 use Rattle.cat_work.specs.Answers.{Accepts}
-
--- a list begins with another
-abbrev pub BeginsWith : List LogEntry → List LogEntry → Type 0
-BeginsWith first log = (rest : List LogEntry) × (log ≡ first ++ rest)
 
 -- a caller's entries, in their order
 abbrev pub entries_of : ℕ → List LogEntry → List LogEntry

@@ -2,11 +2,12 @@
 use Rattle.std.specs.Prelude.{ℕ, ◌≡◌, List, [], ◌∷◌, ◌++◌, flat_map, Option}
 use Rattle.std.specs.Io.KnownBytes.{Appends}
 use Rattle.cat_checks.specs.Histories.{IsLegalFrom}
+use Rattle.cat_desk.specs.Log.{BeginsWith}
 use Rattle.cat_desk.specs.Pass.{DeskId, number_of, seen}
 use Rattle.cat_desk.specs.declared.pass.Pass.{Pass}
 use Rattle.cat_model.specs.declared.log_entry.LogEntry.{LogEntry}
 use Rattle.cat_serve.specs.declared.ending.Session.{Session as End}
-use Rattle.cat_serve.specs.Entries.{BeginsWith, entries_of}
+use Rattle.cat_serve.specs.Entries.{entries_of}
 use Rattle.cat_serve.specs.Passes.{IsAnswered, Place, Visit, Went}
 use Rattle.cat_serve.specs.Sessions.{Readings}
 
@@ -39,8 +40,8 @@ pub record Serves (desk : DeskId) (attempts : ℕ) (a : Place) (end : End) (unre
   -- in one legal log, which the pass has seen at the end, and a beginning of it at each
   pub legal : IsLegalFrom desk.opened (seen pass)
   pub rises : Rises a.pass (went.visits ++ went.ended.last) pass
-  -- which starts with the log that the desk was made with, as what the pass had seen did
-  pub starts : BeginsWith desk.begun (seen a.pass) → BeginsWith desk.begun (seen pass)
+  -- which starts with the log that the desk was made with
+  pub starts : BeginsWith desk.begun (seen pass)
   -- has of the caller's entries those of before, and then that of each accepted call, once, in order
   pub once : entries_of (number_of a.pass) (seen pass) ≡ entries_of (number_of a.pass) (seen a.pass) ++ made_by (went.visits ++ went.ended.last)
   -- and begins with all that its caller had seen

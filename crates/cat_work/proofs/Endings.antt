@@ -11,6 +11,7 @@ use Rattle.cat_core.specs.Stored as stored
 use Rattle.cat_core.specs.Stored.{Stored, log_of}
 use Rattle.cat_core.specs.declared.draft.Draft.{Draft}
 use Rattle.cat_desk.specs.Log.{Follows}
+use Rattle.cat_desk.specs.LogLaws.{follows_on}
 use Rattle.cat_desk.specs.Pass.{DeskId, Keeps, known, left_by, mark_of, number_of, seen, spare_of, stands_for}
 use Rattle.cat_desk.specs.declared.pass.Pass.{Pass}
 use Rattle.cat_ledger.specs.Occasions.{made_on}
@@ -36,7 +37,7 @@ use Rattle.cat_work.proofs.Callings.{Brings, called_alone, in_draft, made_brings
 use Rattle.cat_work.proofs.Opened.{drafts_more, drafts_one, none_left}
 use Rattle.cat_work.proofs.Openings.{may_room}
 use Rattle.cat_work.proofs.Telling.{AloneAt, Found, Left, Numbered, alone_err, alone_ok, answers_ok, book_found, causes, faults_same, follows_same, given_up_alone, grew_in, left_by_turn}
-use Rattle.cat_work.proofs.Trails.{built_on, follows_on, one_head, place_at, trail_next, trail_start}
+use Rattle.cat_work.proofs.Trails.{built_on, one_head, place_at, trail_next, trail_start}
 
 -- ---- what is open of the caller
 

@@ -1,6 +1,6 @@
 -- Logs that go on, and the heads that were built on over them.
 use Rattle.std.proofs.Common.{◌≡◌, ◌≢◌, ℕ, ◌+◌, ◌<◌, ◌≤◌, List, [], ◌∷◌, ◌++◌, length, take, refl, sym, ap, ◌∙◌, subst, arith, length-append, le_refl}
-use Rattle.std.proofs.lemmas.List.{append_assoc, append-nil, take-append-le}
+use Rattle.std.proofs.lemmas.List.{append-nil, take-append-le}
 use Rattle.std.proofs.lemmas.Option.{same_Some}
 use Rattle.std.proofs.Math.Seq.{take-length}
 use Rattle.sha2.specs.Sha256.{sha256}
@@ -14,7 +14,7 @@ use Rattle.cat_decisions.specs.declared.call.Call.{Call}
 use Rattle.cat_decisions.specs.declared.call.Call.TheVariants as calls
 use Rattle.cat_checks.specs.Histories.{IsLegalFrom, begun, book_at}
 use Rattle.cat_checks.specs.HistoryLaws.{book_more, books_later, legal_front, place_is}
-use Rattle.cat_desk.specs.Log.{Follows, Others}
+use Rattle.cat_desk.specs.Log.{Follows}
 use Rattle.cat_desk.specs.Pass.{DeskId}
 use Rattle.cat_model.specs.declared.command.Command.{Command}
 use Rattle.cat_model.specs.declared.log_entry.LogEntry.{LogEntry}
@@ -29,18 +29,8 @@ use Rattle.cat_work.specs.Turns.{Trail}
 
 -- ---- logs that go on
 
-others_both : (n : ℕ) (xs ys : List LogEntry) → Others n xs → Others n ys → Others n (xs ++ ys)
-others_both n [] ys a b = b
-others_both n (x ∷ xs) ys a b = (a.0, others_both n xs ys a.1 b)
-
-pub follows_on : (n : ℕ) (a b c : List LogEntry) → Follows n a b → Follows n b c → Follows n a c
-follows_on n a b c f g = (f.0 ++ g.0, g.1 ∙ (ap (λ (l : List LogEntry). l ++ g.0) f.1 ∙ append_assoc a f.0 g.0), others_both n f.0 g.0 f.2 g.2)
-
 pub follows_length : (n : ℕ) (a b : List LogEntry) → Follows n a b → length a ≤ length b
 follows_length n a b f = let e : length b ≡ length a + length f.0 = ap length f.1 ∙ length-append a f.0 in omega arith
-
-pub follows_itself : (n : ℕ) (a : List LogEntry) → Follows n a a
-follows_itself n a = ([], sym (append-nil a), tt)
 
 -- nothing is taken away from the state of a log that goes on
 pub goes_later : (desk : DeskId) (n : ℕ) (a b : List LogEntry) → Follows n a b → IsLater (state_of desk a) (state_of desk b)

@@ -4,6 +4,7 @@ use Rattle.sha2.specs.Sha256.{sha256}
 use Rattle.cat_core.specs.Drafts.{NotOpened, may_open}
 use Rattle.cat_core.specs.Stored.{IsUp, Stored}
 use Rattle.cat_desk.specs.Log.{Follows}
+use Rattle.cat_desk.specs.LogLaws.{follows_itself}
 use Rattle.cat_desk.specs.Pass.{DeskId, known, left_by, mark_of, number_of, seen}
 use Rattle.cat_desk.specs.declared.pass.Pass.{Pass}
 use Rattle.cat_model.specs.declared.command.Command.{Command}
@@ -27,7 +28,6 @@ use Rattle.cat_work.proofs.Openings as openings
 use Rattle.cat_work.proofs.Openings.{HasNone, is_early, may_not}
 use Rattle.cat_work.proofs.Steps.{step_first}
 use Rattle.cat_work.proofs.Telling.{Found, Left, at_state, book_found, comes_at, faults_same, follows_same, grew_in, left_by_turn, state_same}
-use Rattle.cat_work.proofs.Trails.{follows_itself}
 
 -- what the first turn of a call finds
 pub found_first : {K : Type 0} (desk : DeskId) (p q : Pass) (s s' : Stored K) → Turned desk p q s s' → Found desk (number_of p) p s

@@ -1,6 +1,8 @@
 -- Laws of what a call on a pass answers.
-use Rattle.std.proofs.Common.{◌≡◌, ◌⊎◌, inl, inr, ℕ, List, Option, Some, None, Result, Ok, Err, refl, sym, ap, ◌∙◌}
+use Rattle.std.proofs.Common.{◌≡◌, ◌⊎◌, inl, inr, ℕ, List, [], ◌∷◌, Option, Some, None, Result, Ok, Err, refl, sym, ap, ◌∙◌}
 use Rattle.std.proofs.lemmas.Option.{same_Some}
+use Rattle.cat_desk.specs.Log.{BeginsWith}
+use Rattle.cat_desk.specs.LogLaws.{begins_on}
 use Rattle.cat_desk.specs.Pass.{DeskId}
 use Rattle.cat_model.specs.declared.command.Command.{Command}
 use Rattle.cat_model.specs.declared.limits.Quantity.{Quantity}
@@ -42,3 +44,9 @@ pub down_stays : (desk : DeskId) (n : ℕ) (c : Command) (moment attempts k : �
 down_stays desk n c moment attempts k before after l m (Ok told) x grows (inl accepts) stood = fault_stands after x (grows.fault x stood) accepts.up
 down_stays desk n c moment attempts k before after l m (Ok told) x grows (inr tells) stood = fault_stands after x (grows.fault x stood) tells.up
 down_stays desk n c moment attempts k before after l m (Err refused) x grows answers stood = by_cause desk n moment attempts k c before after m refused.place refused.why x stood (grows.fault x stood) answers.1
+
+-- what was seen at first begins what has then been seen
+pub answers_begin : (desk : DeskId) (n : ℕ) (c : Command) (moment attempts k : ℕ) (before after : Mark) (l m : List LogEntry) (result : Result Told Refused) → Answers desk n c moment attempts k before after l m result → BeginsWith l m
+answers_begin desk n c moment attempts k before after l m (Ok told) (inl accepts) = begins_on l accepts.earlier m (accepts.follows.0, accepts.follows.1) (accepts.entry ∷ [], accepts.log)
+answers_begin desk n c moment attempts k before after l m (Ok told) (inr tells) = (tells.follows.0, tells.follows.1)
+answers_begin desk n c moment attempts k before after l m (Err refused) answers = (answers.0.0, answers.0.1)

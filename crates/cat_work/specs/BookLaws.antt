@@ -1,6 +1,6 @@
 -- Laws of the book of a store and the book that the pass of its desk has seen.
-use Rattle.std.proofs.Common.{◌≡◌, ℕ, List, reverse, sym, ◌∙◌, ap, ap₂, subst}
-use Rattle.std.proofs.lemmas.List.{reverse-reverse}
+use Rattle.std.proofs.Common.{◌≡◌, ℕ, List, [], reverse, sym, ◌∙◌, ap, ap₂, subst}
+use Rattle.std.proofs.lemmas.List.{append-nil, reverse-reverse}
 use Rattle.cat_checks.specs.Histories.{IsLegalFrom, book_at}
 use Rattle.cat_core.specs.Stored.{Stored, log_of, opened_of}
 use Rattle.cat_desk.specs.Pass.{DeskId, IsFree, left_by, mark_of, seen}
@@ -30,9 +30,10 @@ same_book store desk pass on led draft =
     (ap (λ (m : Mark). m.draft) on.mark_is ∙ draft)
     (ap reverse on.seen_is ∙ reverse-reverse store.book.log)
 
-pub is_ready : {K : Type 0} (store : Stored K) (desk : DeskId) (pass : Pass) → IsOn store desk pass → IsFree desk pass → left_by pass ≡ nothing_open → IsLegalFrom (opened_of store) (log_of store) → IsReady desk pass
-is_ready store desk pass on free none legal = record {
+pub is_ready : {K : Type 0} (store : Stored K) (desk : DeskId) (pass : Pass) → IsOn store desk pass → desk.begun ≡ log_of store → IsFree desk pass → left_by pass ≡ nothing_open → IsLegalFrom (opened_of store) (log_of store) → IsReady desk pass
+is_ready store desk pass on begun free none legal = record {
   free = free;
   none = none;
   legal = subst (λ (x : Opened × List LogEntry). IsLegalFrom x.0 x.1) (λ i. (sym on.opened i, sym on.seen_is i)) legal;
+  starts = ([], on.seen_is ∙ sym begun ∙ sym (append-nil desk.begun));
 }

@@ -3,3 +3,4 @@ pub mod Answers
 pub mod Turns
 pub mod BookLaws
 pub mod AnswerLaws
+pub mod ReadyLaws

@@ -35,10 +35,10 @@ pub returns-in_default-new-clause-alone : goal.returns-in_default-new-clause-alo
 returns-in_default-new-clause-alone g c = not_begun c.args.desk.now c.args.pass.now _ _ _ _
 
 pub returns-in_default-clause-serves : goal.returns-in_default-clause-serves
-returns-in_default-clause-serves g c = serves c.args.desk.now c.args.settings.attempts _ ends.NoMemory _ _ _ _ (none_visited c.args.desk.now c.args.settings.attempts c.args.pass.now _ _ _ _) c.requires.ready.legal
+returns-in_default-clause-serves g c = serves c.args.desk.now c.args.settings.attempts _ ends.NoMemory _ _ _ _ (none_visited c.args.desk.now c.args.settings.attempts c.args.pass.now _ _ _ _) c.requires.ready.starts c.requires.ready.legal
 
 pub returns-in_default-new-clause-serves : goal.returns-in_default-new-clause-serves
-returns-in_default-new-clause-serves g c = serves c.args.desk.now c.args.settings.attempts _ ends.NoMemory _ _ _ _ (none_visited c.args.desk.now c.args.settings.attempts c.args.pass.now _ _ _ _) c.requires.ready.legal
+returns-in_default-new-clause-serves g c = serves c.args.desk.now c.args.settings.attempts _ ends.NoMemory _ _ _ _ (none_visited c.args.desk.now c.args.settings.attempts c.args.pass.now _ _ _ _) c.requires.ready.starts c.requires.ready.legal
 
 pub turns-init : goal.turns-init
 turns-init g c = record {
@@ -126,7 +126,7 @@ returns-in-Some-clause-serves g c =
       c = _;
       goes = at_left c.args.desk.now c.args.settings.attempts been.0 _ been.1 _ _ _ _ _ (next_left been.1 c.turns.count been.2 c.turns-test.true) been.3;
       ended = c.in-Some.ensures.last;
-    }) c.in-Some.ensures.ready.legal
+    }) c.requires.ready.starts c.in-Some.ensures.ready.legal
 
 pub returns-clause-serves : goal.returns-clause-serves
 returns-clause-serves g c =
@@ -137,4 +137,4 @@ returns-clause-serves g c =
       c = here;
       goes = been.3;
       ended = ends_without c.args.desk.now c.args.settings.attempts here ends.Capped _ (none_left been.1 c.turns.count been.2 c.turns-test.false, refl);
-    }) c.turns.invariant.ready.legal
+    }) c.requires.ready.starts c.turns.invariant.ready.legal

@@ -1,8 +1,11 @@
 use Rattle.std.proofs.Common.{refl, sym, ap, subst, ◌∙◌}
 use Rattle.sha2.specs.Sha256.{sha256}
+use Rattle.cat_desk.specs.Log.{Follows}
+use Rattle.cat_desk.specs.Pass.{number_of, seen}
 use Rattle.cat_model.specs.Book.{Book, Reads}
 use Rattle.cat_model.specs.Mark.{Mark}
 use Rattle.cat_model.specs.TurnLaws.{grows_self}
+use Rattle.cat_work.specs.ReadyLaws.{ready_on}
 use Rattle.cat_work.specs.Turns.{Turned}
 use Rattle.cat_work.proofs.Telling.{book_found, grew_in, left_by_turn}
 use Rattle.cat_work.proofs.Turning.{turned}
@@ -13,7 +16,8 @@ pub returns-clause-ready : goal.returns-clause-ready
 returns-clause-ready g c = let held = c.enter-held.result.value in let turn : Turned c.args.desk.now c.args.pass.now c.leave.new.pass held held =
     turned c.args.desk.now c.args.pass.now c.enter-held.new.pass c.leave.new.pass held held c.enter-held.ensures.turn.1 c.enter-held.ensures.legal.0 refl c.enter-held.ensures.follows.0 c.enter-held.ensures.mark.0 c.enter-held.ensures.own c.enter-held.ensures.alone
     c.history.ensures.led c.history.ensures.draft c.history.ensures.led c.history.ensures.draft c.leave.ensures.seen.0 c.leave.ensures.mark.0 (grows_self held.mark) c.leave.ensures.left in
-    record { free = c.leave.ensures.free.0; none = none_still c.args.desk.now c.args.pass.now c.leave.new.pass held held c.requires.ready.none turn refl; legal = c.leave.ensures.legal }
+    let follows = subst (Follows (number_of c.args.pass.now) (seen c.args.pass.now)) (sym turn.seen_is) turn.follows in
+    ready_on c.args.desk.now c.args.pass.now c.leave.new.pass c.requires.ready c.leave.ensures.free.0 (none_still c.args.desk.now c.args.pass.now c.leave.new.pass held held c.requires.ready.none turn refl) c.leave.ensures.legal (follows.0, follows.1)
 
 pub returns-clause-grows : goal.returns-clause-grows
 returns-clause-grows g c = let held = c.enter-held.result.value in let turn : Turned c.args.desk.now c.args.pass.now c.leave.new.pass held held =

@@ -1,9 +1,10 @@
 use Rattle.std.proofs.Common.{ℕ, subst}
 use Rattle.cat_work.specs.Turns.{Comes}
+use Rattle.cat_work.proofs.Made.{comes_ready}
 use Rattle.cat_work.proofs.referring.refer.Goals as goal
 
 pub returns-clause-ready : goal.returns-clause-ready
-returns-clause-ready g c = record { free = c.refer_at.ensures.kept.free; none = (c.refer_at.ensures.comes 0).none; legal = c.refer_at.ensures.legal }
+returns-clause-ready g c = comes_ready c.args.desk.now c.args.command.now c.args.pass.now c.refer_at.new.pass 0 _ c.refer_at.result c.requires.ready c.refer_at.ensures.kept c.refer_at.ensures.legal (c.refer_at.ensures.comes 0)
 
 pub returns-clause-grows : goal.returns-clause-grows
 returns-clause-grows g c = (c.refer_at.ensures.comes 0).grows
