@@ -10,4 +10,6 @@ pub mod Answering
 pub mod Reading
 pub mod Making
 pub mod Visiting
-pub mod Serving
+pub mod Promised
+pub mod Lending
+pub mod Workers

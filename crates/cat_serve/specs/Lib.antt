@@ -6,3 +6,5 @@ pub mod Answers
 pub mod Entries
 pub mod Passes
 pub mod Serving
+pub mod Workers
+pub mod Hiring

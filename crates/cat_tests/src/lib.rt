@@ -39,4 +39,6 @@ mod retrying;
 #[cfg(test)]
 mod rival;
 #[cfg(test)]
+mod serving;
+#[cfg(test)]
 mod streams;

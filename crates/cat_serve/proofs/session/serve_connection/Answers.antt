@@ -7,7 +7,7 @@ use Rattle.cat_serve.proofs.Clocked.{begins_first, begins_then, takes_none, take
 use Rattle.cat_serve.proofs.Points.{reaches_on}
 use Rattle.cat_serve.proofs.Reading.{not_begun, nothing_held}
 use Rattle.cat_serve.proofs.Standing.{keeps_on, keeps_self}
-use Rattle.cat_serve.proofs.Serving.{serves}
+use Rattle.cat_serve.proofs.Promised.{serves}
 use Rattle.cat_serve.proofs.Visiting.{at_first, at_left, ends_without, goes_on, none_visited}
 use Rattle.cat_serve.proofs.session.serve_connection.Goals as goal
 

@@ -1,0 +1,82 @@
+use Rattle.std.proofs.Common.{inl, ◌≡◌, ◌+◌, ◌<◌, ℕ, List, [], ◌++◌, Bool, Some, IsTrue, vec_len, rules, arith, ◌||◌, false, ap₂, refl, sym, ◌∙◌, subst}
+use Rattle.std.specs.List.{All}
+use Rattle.std.proofs.lemmas.List.{append-nil}
+use Rattle.cat_desk.specs.Pass.{seen}
+use Rattle.cat_desk.specs.declared.pass.Pass.{Pass}
+use Rattle.cat_serve.specs.Hiring.{IsBack, IsDone, IsIdle}
+use Rattle.cat_serve.specs.Workers.{ends_of}
+use Rattle.cat_serve.specs.declared.worker.Worker.{Worker}
+use Rattle.cat_desk.specs.LogLaws.{begins_on}
+use Rattle.cat_serve.proofs.Workers.{back_more, back_none, counts_on, popped}
+use Rattle.cat_serve.proofs.serving.dismiss.Goals as goal
+
+none_failed : (a b : Bool) → a ≡ false → b ≡ false → (a || b) ≡ false
+none_failed a b e f = ap₂ (λ (x y : Bool). x || y) e f
+
+pub loop-worker-init : goal.loop-worker-init
+loop-worker-init g c = record {
+  ready = c.requires.ready;
+  others = c.requires.others;
+  number = refl;
+  stand = refl;
+  spare = refl;
+  begins = ([], sym (append-nil (seen c.args.pass.now)));
+  idle = λ p one all. (one, refl, all);
+  back = λ attempts p all. (back_none (ends_of g.L.In.Source.left g.L.In.Source.faults g.L.Out.Sink.held g.L.Out.Sink.faults) c.args.desk.now attempts _ _ _ _ _, all);
+  counts = inl refl;
+  tells = refl;
+  listens = refl;
+  waiting = refl;
+  returned = refl;
+  out = refl;
+  twins = λ t. refl;
+}
+
+pub take_back-failed-requires-clause-ready : goal.take_back-failed-requires-clause-ready
+take_back-failed-requires-clause-ready g c κs within =
+    let is : c.pop.result ≡ Some c.in-Some.worker = search rules in
+    let q = popped (IsBack g.L.Listener.faults c.args.desk.now) _ _ _ c.in-Some.worker c.pop.ensures.items is c.loop-worker.invariant.others in
+    (c.loop-worker.invariant.ready, q.1.ready)
+
+pub loop-worker-preserved : goal.loop-worker-preserved
+loop-worker-preserved g c =
+    let i = c.loop-worker.invariant in
+    let t = c.take_back-failed.ensures in
+    let w : Worker g.row.L.Denot g.row.C.Denot = c.in-Some.worker in
+    let is : c.pop.result ≡ Some c.in-Some.worker = search rules in
+    let b = popped (IsBack g.L.Listener.faults c.args.desk.now) _ _ _ w c.pop.ensures.items is i.others in
+    let less : vec_len c.pop.new.self + 1 ≡ vec_len c.loop-worker.others = search rules in
+    let here : IsTrue (g.L.Listener.tells c.args.listener.now) → IsTrue (g.L.Listener.tells c.loop-worker.listener) = λ x. subst (λ (y : Bool). IsTrue y) (sym i.tells) x in
+    let some : IsTrue (g.L.Listener.tells c.args.listener.now) → 0 < g.L.Listener.twins c.loop-worker.listener = λ x. let e = i.twins x in let m = c.requires.twins x in omega arith in
+    record {
+      ready = t.ready;
+      others = b.0;
+      number = t.kept.0 ∙ i.number;
+      stand = let e = t.kept.1 in let one = b.1.one in let s = i.stand in omega arith;
+      spare = let e = t.kept.2 in let none = b.1.none in let s = i.spare in omega arith;
+      begins = begins_on _ _ _ i.begins t.begins.0;
+      idle = λ p one all.
+          let r = i.idle p one all in
+          let q = popped (IsIdle {L = g.row.L.Denot} {C = g.row.C.Denot} p) _ _ _ w c.pop.ensures.items is r.2 in
+          (t.remembers p r.0 q.1.remembers, none_failed c.loop-worker.failed c.take_back-failed.result r.1 (t.failed ∙ q.1.works), q.0);
+      back = λ attempts p all.
+          let r = i.back attempts p all in
+          let q =
+          popped
+          (IsDone (ends_of g.L.In.Source.left g.L.In.Source.faults g.L.Out.Sink.held g.L.Out.Sink.faults) c.args.desk.now attempts g.L.Listener.returned g.L.Listener.faults (g.L.Listener.tells c.args.listener.now) p)
+          _ _ _ w c.pop.ensures.items is r.1 in (
+            back_more (ends_of g.L.In.Source.left g.L.In.Source.faults g.L.Out.Sink.held g.L.Out.Sink.faults) c.args.desk.now attempts _ _ p g.L.Listener.returned g.L.Listener.faults w _ _ _ _ _
+                c.loop-worker.pass _ r.0 q.1 less (λ x. t.rejoined (here x) (some x)) t.begins.0 t.begins.1,
+            q.0,
+          );
+      counts = counts_on c.loop-worker.failed _ _ _ _ i.counts (t.counts b.1.counts);
+      tells = t.stands.tells ∙ i.tells;
+      listens = t.stands.listens ∙ i.listens;
+      waiting = t.own.waiting ∙ i.waiting;
+      returned = t.own.returned ∙ i.returned;
+      out = t.own.out ∙ i.out;
+      twins = λ x. let e = i.twins x in let m = some x in let n = t.twins (here x) in omega arith;
+    }
+
+pub returns-clause-idle : goal.returns-clause-idle
+returns-clause-idle g c p one all = let r = c.loop-worker.invariant.idle p one all in (r.0, r.1)

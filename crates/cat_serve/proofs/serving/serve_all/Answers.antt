@@ -1,0 +1,33 @@
+use Rattle.std.proofs.Common.{◌≡◌, ◌+◌, ℕ, Bool, true, false, vec_len, rules, arith, refl, sym, ◌∙◌, subst}
+use Rattle.std.specs.List.{All}
+use Rattle.cat_serve.specs.Hiring.{Counts, IsHired}
+use Rattle.cat_serve.specs.Workers.{ends_of}
+use Rattle.cat_serve.proofs.Workers.{counts_none, serves_all}
+use Rattle.cat_serve.proofs.serving.serve_all.Goals as goal
+
+pub returns-then-not-hire_all-clause-none : goal.returns-then-not-hire_all-clause-none
+returns-then-not-hire_all-clause-none g c is =
+    let idle = c.dismiss.ensures.idle c.args.pass.now c.hire_all.ensures.remembers (λ k d lt. (c.hire_all.ensures.hired k d lt).idle) in
+    (idle.0, refl, λ t. (c.dismiss.ensures.own.waiting ∙ c.hire_all.ensures.own.waiting, c.dismiss.ensures.own.returned ∙ c.hire_all.ensures.own.returned))
+
+pub returns-then-not-hire_all-clause-stays : goal.returns-then-not-hire_all-clause-stays
+returns-then-not-hire_all-clause-stays g c other small =
+    let idle = c.dismiss.ensures.idle c.args.pass.now c.hire_all.ensures.remembers (λ k d lt. (c.hire_all.ensures.hired k d lt).idle) in
+    let counts = subst (λ (b : Bool). Counts b (g.L.Listener.faults c.hire_all.new.listener) (g.L.Listener.faults c.dismiss.new.listener)) idle.1 c.dismiss.ensures.counts in
+    counts_none _ _ (subst (λ (n : ℕ). Counts false n (g.L.Listener.faults c.dismiss.new.listener)) c.hire_all.ensures.faults counts) (omega arith)
+
+pub dismiss-others_failed-requires-clause-others : goal.dismiss-others_failed-requires-clause-others
+dismiss-others_failed-requires-clause-others g c κs within k d lt = (c.work-own_failed.ensures.done _ c.args.pass.now c.hire_all.ensures.hired k d lt).back
+
+pub returns-clause-serves : goal.returns-clause-serves
+returns-clause-serves g c some =
+    let w = c.work-own_failed.ensures in
+    let d = c.dismiss-others_failed.ensures in
+    let tells : g.L.Listener.tells c.work-own_failed.new.listener ≡ g.L.Listener.tells c.args.listener.now = w.stands.tells ∙ c.hire_all.ensures.stands.tells in
+    let hired =
+    subst (λ (b : Bool). All (IsHired g.L.Listener.tells g.L.Listener.returned g.L.Listener.faults b c.args.desk.now c.args.pass.now) c.hire_all.new.others.items) (sym tells) c.hire_all.ensures.hired in
+    let all : c.hire_all.result ≡ true = search rules in
+    let count : vec_len c.work-own_failed.new.others + 1 ≡ c.args.workers = let e = c.hire_all.ensures.all all in let f = w.len in let m = c.requires.workers.0 in omega arith in
+    serves_all (ends_of g.L.In.Source.left g.L.In.Source.faults g.L.Out.Sink.held g.L.Out.Sink.faults) c.args.desk.now c.args.settings.attempts c.args.workers _ _ _ _ _ _ _ _ _ _ _ _ _ _ _ c.args.pass.now _ _ _ _ _
+    c.hire_all.ensures.remembers w.serves d.begins (d.back c.args.settings.attempts c.args.pass.now (w.done (g.L.Listener.tells c.work-own_failed.new.listener) c.args.pass.now hired)) count
+    c.hire_all.ensures.stands.tells tells c.hire_all.ensures.own.waiting d.own.waiting c.hire_all.ensures.own.returned d.own.returned (w.others.rejoined ∙ c.hire_all.ensures.rejoined)
