@@ -12,7 +12,7 @@ if [ $# -eq 0 ]; then
     [ -x "$1" ] || set -- "$top/unproved/nessie"
 fi
 exec python3 - "$1" <<'PYTHON'
-import json, os, re, shutil, subprocess, sys, tempfile
+import json, os, re, shutil, socket, subprocess, sys, tempfile
 
 FAULT = b"nessie: disk fault\n"
 NEW = b"NESSIECJ\0\0\0\x01\0\0\0\0\0"
@@ -97,7 +97,7 @@ def check_statuses():
     case("a commit and a read", run(["script", journal], commit("a") + GET), 0, [200, 200])
     tell("and its journal", entries(journal) == 1, "1 entry")
     case("no request", run(["script", journal]), 0, b"")
-    for words in ([], ["script"], ["check", journal, "x"], ["--help"], ["drill", "--seed", "-1", "--commits", "1"], [b"check", b"\xff"]):
+    for words in ([], ["script"], ["check", journal, "x"], ["--help"], ["drill", "--seed", "-1", "--commits", "1"], [b"check", b"\xff"], ["serve", journal], ["serve", journal, "127.0.0.1:0", "--workers", "65"]):
         case(f"the words {words}", run(words), 1, b"nessie: usage\n")
     held = content_of(journal)
     for what, content, line in (
@@ -117,7 +117,14 @@ def check_statuses():
     large = b"POST /api/v2/trees/main/history/commit HTTP/1.1\r\nContent-Length: 1048577\r\n\r\n"
     case("a body that is too large", run(["script", journal], large), 8, [413])
     case("1,001 requests", run(["script", journal], GET * 1001), 8, [200] * 1000)
-    leave_out("statuses 7 and 9", "no command listens or collects")
+    case("an address that is none", run(["serve", journal, "nowhere"]), 7, b"nessie: listener fault\n", said("nowhere", "invalid socket address"))
+    taken = socket.create_server(("127.0.0.1", 0))
+    address = "127.0.0.1:%d" % taken.getsockname()[1]
+    case("an address that is taken", run(["serve", "--workers", "1", journal, address]), 7, b"nessie: listener fault\n", said(address, "Address already in use (os error 98)"))
+    taken.close()
+    tell("and the journal stays as it is", content_of(journal) == held)
+    case("a journal that can't be read, and an address that is none", run(["serve", file_of("other", NEW[:16] + b"\x01"), "nowhere"]), 3, b"nessie: damaged at 16\n")
+    leave_out("status 9", "no command collects")
 
 
 def check_memory():

@@ -8,11 +8,11 @@ use Rattle.cat_state.specs.Kept.{spellings}
 use Rattle.cat_model.specs.Book.{Book}
 use Rattle.cat_cli.specs.declared.status.Status.{Status}
 use Rattle.cat_cli.specs.declared.status.Status.TheVariants as statuses
-use Rattle.cat_cli.specs.Journals.{IsJournalOf, StandsFor, told_at}
+use Rattle.cat_cli.specs.Journals.{Holds, IsJournalOf, StandsFor, told_at}
 use Rattle.cat_cli.specs.Lines.{check_line}
 use Rattle.cat_cli.specs.Opening.{Counted, CountedKnown, HoldsLog, IsStored}
 use Rattle.cat_cli.specs.Runs.{Checks, ChecksKnown, Opens, Seen}
-use Rattle.cat_cli.specs.Surviving.{IsBegun, KeepsThrough, Spared, StandsAs, images_at, images_of}
+use Rattle.cat_cli.specs.Surviving.{IsBegun, KeepsThrough, LeavesLog, Spared, StandsAs, images_at, images_of}
 use Rattle.cat_cli.proofs.Opened.{begins_at, left_at}
 use Rattle.cat_cli.proofs.Surviving.{spared_surviving, survives, survives_at, tells_of}
 use Rattle.cat_serve.proofs.Told.{some_is, not_none}
@@ -26,16 +26,18 @@ module _ {D K : Type 0} (told : D → Option (List ℕ)) (may_leave : D → List
     (since least : ℕ) (early : List ℕ → Type 0) (disk again : D) (store : Stored K)
     (stored : IsStored (told disk) store.book (down store.keeper)) (idle : in_flight store.keeper ≡ None)
     (begun : IsBegun since least early (told disk) (moment disk) (may_leave disk))
-    (holds : HoldsLog down in_flight store.keeper store.book (told again))
-    (leaves : KeepsThrough since least early (may_leave again) (left_since again) down in_flight store.keeper store.book (told again)) where
+    (holds : HoldsLog in_flight store.keeper store.book (told again))
+    (leaves : KeepsThrough since least early (may_leave again) (left_since again) in_flight store.keeper store.book (told again)) where
   pub opens : Opens (told disk) (told again) (images_of may_leave moment left_since disk again) store.book
   opens = record {
     payloads = stored.payloads;
     begins = stored.begins;
-    keeps = subst (λ (l : List (List ℕ)). IfSome (told again) (IsJournalOf l)) (sym stored.spelled) (holds None stored.up idle);
+    keeps =
+        subst (λ (l : List (List ℕ)). IfSome (told again) (IsJournalOf l)) (sym stored.spelled)
+        (subst (λ (f : Option (List ℕ)). IfSome (told again) (Holds (spellings (reverse store.book.log)) f)) idle holds);
     crash =
         survives since least early (told disk) (told again) (moment disk) (may_leave disk) (may_leave again) (left_since again) stored.payloads [] (spellings (reverse store.book.log)) None
-        begun stored.begins.recovers (sym stored.spelled ∙ sym (append-nil stored.payloads)) (leaves None stored.up idle);
+        begun stored.begins.recovers (sym stored.spelled ∙ sym (append-nil stored.payloads)) (subst (λ (f : Option (List ℕ)). IfSome (told again) (LeavesLog since least early (may_leave again) (left_since again) (spellings (reverse store.book.log)) f)) idle leaves);
   }
 
   pub stands : StandsFor (told disk) (told again)
@@ -57,6 +59,7 @@ counts fell level s book line statuses.Usage same opened is p = absurd p
 counts fell level s book line statuses.Unreadable same opened is p = absurd p
 counts fell level s book line statuses.NoMemory same opened is p = absurd p
 counts fell level s book line statuses.ReadFault same opened is p = absurd p
+counts fell level s book line statuses.ListenerFault same opened is p = absurd p
 counts fell level s book line statuses.Cut same opened is p = absurd p
 
 -- what the check says, once the disk is back at its path
@@ -65,7 +68,7 @@ module _ {D : Type 0} (told : D → Option (List ℕ)) (may_leave : D → List �
   there : place' ≡ stood again (taken place)
   there = back ∙ ap (stood again) out
 
-  opens_there : (book : Book) → Opens (told disk) (told again) (images_of may_leave moment left_since disk again) book → Opens (told_at told place) (told_at told place') (images_at may_leave moment left_since place place') book
+  pub opens_there : (book : Book) → Opens (told disk) (told again) (images_of may_leave moment left_since disk again) book → Opens (told_at told place) (told_at told place') (images_at may_leave moment left_since place place') book
   opens_there book o = subst (λ (q : Option (Option D)). Opens (told_at told place) (told_at told q) (images_at may_leave moment left_since place q) book) (sym there) (record {
     payloads = o.payloads;
     begins = begins_at told place disk o.payloads book (tells_of told may_leave moment left_since place disk is) o.begins;

@@ -5,3 +5,5 @@ pub mod Surviving
 pub mod Refused
 pub mod Ran
 pub mod Counted
+pub mod HostedStores
+pub mod ServedRuns

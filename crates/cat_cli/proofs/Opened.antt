@@ -8,7 +8,7 @@ use Rattle.cat_io.specs.Places.{IsHanded, stood, taken}
 use Rattle.cat_checks.specs.Legal.{replayed}
 use Rattle.cat_core.specs.declared.opening.StoreFault.{StoreFault}
 use Rattle.cat_core.specs.declared.opening.StoreFault.TheVariants as store_faults
-use Rattle.cat_state.specs.Kept.{spelling, spellings}
+use Rattle.cat_state.specs.Kept.{spellings}
 use Rattle.cat_core.specs.Opening.{IsIllegalAt, IsLedTo}
 use Rattle.cat_journal.specs.declared.fault.OpenFault.{OpenFault}
 use Rattle.cat_journal.specs.declared.fault.OpenFault.TheVariants as faults
@@ -26,7 +26,6 @@ use Rattle.cat_cli.specs.declared.unopened.Unopened.TheVariants as whys
 use Rattle.cat_cli.specs.Journals.{Begins, DisksFell, Holds, IsBack, IsJournalOf, RoseBy, StandsFor, TellsAs, told_at}
 use Rattle.cat_cli.specs.Opening.{FaultKnown, FaultTold, IsReason, IsStored, Refused, RefusedKnown, by_journal, by_store, is_unreadable}
 use Rattle.cat_cli.specs.Runs.{CountedBy, Refuses, RefusesSo, Seen, spares_disks}
-use Rattle.cat_serve.specs.Sessions.{Fallen}
 use Rattle.cat_cli.specs.Surviving.{Images, Spared}
 use Rattle.cat_serve.proofs.Told.{some_is, not_none}
 
@@ -147,6 +146,7 @@ refused_fault w h statuses.Usage before now p = absurd p
 refused_fault w h statuses.Unreadable before now p = absurd p
 refused_fault w h statuses.NoMemory before now p = absurd p
 refused_fault w h statuses.ReadFault before now p = absurd p
+refused_fault w h statuses.ListenerFault before now p = absurd p
 refused_fault w h statuses.Cut before now p = absurd p
 
 pub refused_known : (held after : Option (List ℕ)) (status : Status) (before now : ℕ) → FaultKnown held status after before now → RefusedKnown whys.Fault held status after before now
@@ -156,7 +156,7 @@ refused_known held after status before now told w e = let x = told w e in (x.0, 
 abbrev pub EndsAtFault : Unopened → Status → Type 0
 EndsAtFault why status = why ≡ whys.Fault → (status ≡ statuses.DiskFault) ⊎ (status ≡ statuses.WriteFault)
 
-no_fault : (why : Unopened) → is_unreadable why ≡ true → why ≡ whys.Fault → ⊥
+pub no_fault : (why : Unopened) → is_unreadable why ≡ true → why ≡ whys.Fault → ⊥
 no_fault whys.Fault is fault = cc
 no_fault whys.NoMemory is fault = cc
 no_fault (whys.Version n) is fault = cc
@@ -182,6 +182,7 @@ refuses fell level s why statuses.NoMemory reason cause spares ends p = (spares 
 refuses fell level s why statuses.Done reason cause spares ends p = absurd p
 refuses fell level s why statuses.Usage reason cause spares ends p = absurd p
 refuses fell level s why statuses.ReadFault reason cause spares ends p = absurd p
+refuses fell level s why statuses.ListenerFault reason cause spares ends p = absurd p
 refuses fell level s why statuses.Cut reason cause spares ends p = absurd p
 
 pub refuses_known : (fell level : Type 0) (why : Unopened) (status : Status) (held after journal left : Option (List ℕ)) (images : Images) (before now : ℕ) (w : List ℕ)
@@ -238,15 +239,20 @@ is_journal : (told : Option (List ℕ)) (payloads : List (List ℕ)) → IfSome 
 is_journal None payloads headed is = tt
 is_journal (Some bytes) payloads headed is = (is, headed)
 
+-- no append failed where nothing is in flight
+pub none_down : {A B : Type 0} (p : B) (down : Option A) → option_map (λ (c : A). p) down ≡ None → down ≡ None
+none_down p None idle = refl
+none_down {A} {B} p (Some c) idle = let no : ◌≡◌ {A = Option B} (Some p) None = idle in cc
+
 pub holds_log : (ps : Option (List (List ℕ))) (told : Option (List ℕ)) (book : Book) (down : Option ℕ) (in_flight : Option (List ℕ))
     → IfSome told (λ bytes. 16 < length bytes)
     → IfSome ps (λ l. l ≡ spellings (reverse book.log))
     → (down ≡ None → Told ps told (λ l bytes. recovered bytes ≡ Ok l))
     → ((p : List ℕ) → in_flight ≡ Some p → Told ps told (λ l bytes. WithOrWithout l p (outcome bytes)))
-    → (fallen : Option Fallen) → down ≡ option_map (λ (f : Fallen). f.count) fallen → in_flight ≡ option_map (λ (f : Fallen). spelling f.entry) fallen
-    → IfSome told (Holds (spellings (reverse book.log)) fallen)
-holds_log ps told book down in_flight headed are at_rest flies None is_up idle = is_journal told (spellings (reverse book.log)) headed (recovers_back ps told (spellings (reverse book.log)) (at_rest is_up) are)
-holds_log ps told book down in_flight headed are at_rest flies (Some f) is_down fly = torn ps told (spellings (reverse book.log)) (spelling f.entry) headed (flies (spelling f.entry) fly) are
+    → (in_flight ≡ None → down ≡ None)
+    → IfSome told (Holds (spellings (reverse book.log)) in_flight)
+holds_log ps told book down None headed are at_rest flies up = is_journal told (spellings (reverse book.log)) headed (recovers_back ps told (spellings (reverse book.log)) (at_rest (up refl)) are)
+holds_log ps told book down (Some p) headed are at_rest flies up = torn ps told (spellings (reverse book.log)) p headed (flies p refl) are
 
 -- ---- the place of the disk
 

@@ -16,7 +16,7 @@ use Rattle.cat_cli.specs.Runs.{Answers, CountedBy, Ran, RanKnown, RanWell, SaysK
 use Rattle.cat_serve.specs.Sessions.{Readings, ReadsOn, Fallen}
 use Rattle.cat_serve.specs.SessionLaws.{log_grows}
 use Rattle.cat_cli.specs.Stores.{RunsKnown}
-use Rattle.cat_cli.specs.Surviving.{IsBegun, KeepsThrough, StandsAs, Survives, images_at, images_of}
+use Rattle.cat_cli.specs.Surviving.{IsBegun, KeepsThrough, LeavesLog, StandsAs, Survives, images_at, images_of}
 use Rattle.cat_cli.proofs.Opened.{begins_at, left_at}
 use Rattle.cat_cli.proofs.Surviving.{survives, survives_at, tells_of}
 
@@ -115,6 +115,19 @@ not_usage ends.BadHead false e = cc
 not_usage ends.TooLarge true e = cc
 not_usage ends.TooLarge false e = cc
 
+pub not_heard : (end : End) (rose : Bool) → status_of end rose ≡ statuses.ListenerFault → ⊥
+not_heard ends.NoMemory rose e = cc
+not_heard ends.WriteFault rose e = cc
+not_heard ends.ReadFault rose e = cc
+not_heard ends.Closed true e = cc
+not_heard ends.Closed false e = cc
+not_heard ends.Capped true e = cc
+not_heard ends.Capped false e = cc
+not_heard ends.BadHead true e = cc
+not_heard ends.BadHead false e = cc
+not_heard ends.TooLarge true e = cc
+not_heard ends.TooLarge false e = cc
+
 -- no append failed where the disk didn't
 none_fell : (down : Option ℕ) (fallen : Option Fallen) → down ≡ option_map (λ (f : Fallen). f.count) fallen → ((c : ℕ) → down ≡ Some c → ⊥) → fallen ≡ None
 none_fell down None is up = refl
@@ -143,8 +156,8 @@ module _ {D K : Type 0} (told : D → Option (List ℕ)) (may_leave : D → List
     (stored : IsStored (told disk) old.book (down old.keeper))
     (session : RunsKnown down in_flight old ahead bytes unread held end new ahead' after)
     (begun : IsBegun since least early (told disk) (moment disk) (may_leave disk))
-    (holds : HoldsLog down in_flight new.keeper new.book (told again))
-    (leaves : KeepsThrough since least early (may_leave again) (left_since again) down in_flight new.keeper new.book (told again)) where
+    (holds : HoldsLog in_flight new.keeper new.book (told again))
+    (leaves : KeepsThrough since least early (may_leave again) (left_since again) in_flight new.keeper new.book (told again)) where
   -- how it went, where to is so of the count at which an append failed
   pub ran : (to : ℕ → Type 0) → ((c : ℕ) → down new.keeper ≡ Some c → to c) → RanKnown to ahead ahead' bytes unread held after before now (told disk) (told again) (images_of may_leave moment left_since disk again) end
   ran to raised b w e f =
@@ -166,10 +179,12 @@ module _ {D K : Type 0} (told : D → Option (List ℕ)) (may_leave : D → List
           ends = x.5;
           added = reverse grew.0;
           grows = grew.1 ∙ ap (λ (l : List LogEntry). l ++ old.book.log) (sym (reverse-reverse grew.0));
-          keeps = subst (λ (l : List (List ℕ)). IfSome (told again) (Holds l last.fallen)) log (holds last.fallen left.down_is left.flies);
+          keeps =
+              subst (λ (l : List (List ℕ)). IfSome (told again) (Holds l (option_map (λ (f : Fallen). spelling f.entry) last.fallen))) log
+              (subst (λ (f : Option (List ℕ)). IfSome (told again) (Holds (spellings (reverse new.book.log)) f)) left.flies holds);
           crash =
               survives since least early (told disk) (told again) (moment disk) (may_leave disk) (may_leave again) (left_since again) stored.payloads (spellings (reverse grew.0)) (spellings (reverse new.book.log)) (option_map (λ (f : Fallen). spelling f.entry) last.fallen)
-              begun stored.begins.recovers log (leaves last.fallen left.down_is left.flies);
+              begun stored.begins.recovers log (subst (λ (f : Option (List ℕ)). IfSome (told again) (LeavesLog since least early (may_leave again) (left_since again) (spellings (reverse new.book.log)) f)) left.flies leaves);
           cause = one_fell to (down new.keeper) last.fallen left.down_is raised;
           reads_on = x.7;
         },
@@ -198,8 +213,8 @@ module _ {D : Type 0} (told : D → Option (List ℕ)) (may_leave : D → List �
     added = r.added;
     grows = r.grows;
     keeps =
-        subst (λ (q : Option (Option D)). IfSome (told_at told q) (Holds (r.payloads ++ spellings r.added) r.last.fallen)) (sym there)
-        (left_at told place again (Holds (r.payloads ++ spellings r.added) r.last.fallen) r.keeps);
+        subst (λ (q : Option (Option D)). IfSome (told_at told q) (Holds (r.payloads ++ spellings r.added) (option_map (λ (f : Fallen). spelling f.entry) r.last.fallen))) (sym there)
+        (left_at told place again (Holds (r.payloads ++ spellings r.added) (option_map (λ (f : Fallen). spelling f.entry) r.last.fallen)) r.keeps);
     crash =
         subst (λ (q : Option (Option D)). Survives (told_at told place) (told_at told q) (images_at may_leave moment left_since place q) r.payloads (spellings r.added) (option_map (λ (f : Fallen). spelling f.entry) r.last.fallen)) (sym there)
         (survives_at told may_leave moment left_since place disk again r.payloads (spellings r.added) (option_map (λ (f : Fallen). spelling f.entry) r.last.fallen) is r.crash);

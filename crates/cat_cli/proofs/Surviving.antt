@@ -11,9 +11,7 @@ use Rattle.cat_journal.specs.Held.{outcome, outcome_of}
 use Rattle.cat_journal.specs.Reading.{OpensOnly}
 use Rattle.cat_keeper.specs.Keeping.{WithOrWithout}
 use Rattle.cat_keeper.specs.Watching.{IsFrontOf, IsWatchedSo, with_flying}
-use Rattle.cat_state.specs.Kept.{spelling}
 use Rattle.cat_cli.specs.Journals.{TellsAs, told_at}
-use Rattle.cat_serve.specs.Sessions.{Fallen}
 use Rattle.cat_cli.specs.Surviving.{EndsAt, Images, IsBegun, IsEarlier, IsOnTheWay, LeavesLog, Spared, StandsAs, Survives, images_at, images_of}
 
 take_past : {A : Type 0} (xs ys : List A) (m : ℕ) → take (length xs + m) (xs ++ ys) ≡ xs ++ take m ys
@@ -85,23 +83,23 @@ survives since least early (Some bytes) (Some now) moment before after left_sinc
 -- ---- where the keeper is let go
 
 module _ (since least : ℕ) (early may_leave : List ℕ → Type 0) (left_since : ℕ → List ℕ → Type 0) (log : List (List ℕ)) (moment : ℕ) where
-  at_rest : (ps : Option (List (List ℕ))) (told : Option (List ℕ)) (in_flight : Option (List ℕ)) → IfSome ps (λ l. l ≡ log) → Told ps told (λ l bytes. recovered bytes ≡ Ok l) → Only told may_leave → in_flight ≡ None
-      → IfSome ps (IsWatchedSo outcome since least early in_flight moment left_since) → IfSome told (LeavesLog since least early may_leave left_since log None)
-  at_rest ps None in_flight are t only none w = tt
-  at_rest None (Some bytes) in_flight are t only none w = absurd t
-  at_rest (Some l) (Some bytes) in_flight are t only none w = record {
+  at_rest : (ps : Option (List (List ℕ))) (told : Option (List ℕ)) → IfSome ps (λ l. l ≡ log) → Told ps told (λ l bytes. recovered bytes ≡ Ok l) → Only told may_leave
+      → IfSome ps (IsWatchedSo outcome since least early None moment left_since) → IfSome told (LeavesLog since least early may_leave left_since log None)
+  at_rest ps None are t only w = tt
+  at_rest None (Some bytes) are t only w = absurd t
+  at_rest (Some l) (Some bytes) are t only w = record {
     last = only;
-    each = λ c left. subst (λ f. early c ⊎ IsFrontOf least (with_flying log f) (outcome c)) none (subst (λ x. early c ⊎ IsFrontOf least (with_flying x in_flight) (outcome c)) are (w.each c left));
+    each = λ c left. subst (λ x. early c ⊎ IsFrontOf least (with_flying x None) (outcome c)) are (w.each c left);
   }
 
-  torn : (ps : Option (List (List ℕ))) (told : Option (List ℕ)) (in_flight : Option (List ℕ)) (p : List ℕ) (P : List (List ℕ) → List ℕ → Type 0) → IfSome ps (λ l. l ≡ log) → Told ps told P
-      → IfSome ps (λ l. (c : List ℕ) → may_leave c → WithOrWithout l p (outcome c)) → in_flight ≡ Some p
-      → IfSome ps (IsWatchedSo outcome since least early in_flight moment left_since) → IfSome told (LeavesLog since least early may_leave left_since log (Some p))
-  torn ps None in_flight p P are t each flies w = tt
-  torn None (Some bytes) in_flight p P are t each flies w = absurd t
-  torn (Some l) (Some bytes) in_flight p P are t each flies w = record {
+  torn : (ps : Option (List (List ℕ))) (told : Option (List ℕ)) (p : List ℕ) (P : List (List ℕ) → List ℕ → Type 0) → IfSome ps (λ l. l ≡ log) → Told ps told P
+      → IfSome ps (λ l. (c : List ℕ) → may_leave c → WithOrWithout l p (outcome c))
+      → IfSome ps (IsWatchedSo outcome since least early (Some p) moment left_since) → IfSome told (LeavesLog since least early may_leave left_since log (Some p))
+  torn ps None p P are t each w = tt
+  torn None (Some bytes) p P are t each w = absurd t
+  torn (Some l) (Some bytes) p P are t each w = record {
     last = λ c left. subst (λ x. WithOrWithout x p (outcome c)) are (each c left);
-    each = λ c left. subst (λ f. early c ⊎ IsFrontOf least (with_flying log f) (outcome c)) flies (subst (λ x. early c ⊎ IsFrontOf least (with_flying x in_flight) (outcome c)) are (w.each c left));
+    each = λ c left. subst (λ x. early c ⊎ IsFrontOf least (with_flying x (Some p)) (outcome c)) are (w.each c left);
   }
 
   -- the disk of a keeper, whether its appends succeeded or one failed
@@ -109,11 +107,11 @@ module _ (since least : ℕ) (early may_leave : List ℕ → Type 0) (left_since
       → (down ≡ None → Told ps told (λ l bytes. recovered bytes ≡ Ok l)) → (down ≡ None → Only told may_leave)
       → ((p : List ℕ) → in_flight ≡ Some p → Told ps told (λ l bytes. WithOrWithout l p (outcome bytes)))
       → ((p : List ℕ) → in_flight ≡ Some p → IfSome ps (λ l. (c : List ℕ) → may_leave c → WithOrWithout l p (outcome c)))
+      → (in_flight ≡ None → down ≡ None)
       → IfSome ps (IsWatchedSo outcome since least early in_flight moment left_since)
-      → (fallen : Option Fallen) → down ≡ option_map (λ (f : Fallen). f.count) fallen → in_flight ≡ option_map (λ (f : Fallen). spelling f.entry) fallen
-      → IfSome told (LeavesLog since least early may_leave left_since log (option_map (λ (f : Fallen). spelling f.entry) fallen))
-  leaves_log ps told down in_flight are rests only flies each w None is_up idle = at_rest ps told in_flight are (rests is_up) (only is_up) idle w
-  leaves_log ps told down in_flight are rests only flies each w (Some f) is_down fly = torn ps told in_flight (spelling f.entry) _ are (flies (spelling f.entry) fly) (each (spelling f.entry) fly) fly w
+      → IfSome told (LeavesLog since least early may_leave left_since log in_flight)
+  leaves_log ps told down None are rests only flies each up w = at_rest ps told are (rests (up refl)) (only (up refl)) w
+  leaves_log ps told down (Some p) are rests only flies each up w = torn ps told p _ are (flies p refl) (each p refl) w
 
 -- a keeper on a disk is let go
 module _ {D J : Type 0} (told : D → Option (List ℕ)) (may_leave : D → List ℕ → Type 0) (moment : D → ℕ) (left_since : D → ℕ → List ℕ → Type 0) (disk_of : J → D) (kept : J → Option (List (List ℕ))) (flying : J → Option (List ℕ))
@@ -125,11 +123,11 @@ module _ {D J : Type 0} (told : D → Option (List ℕ)) (may_leave : D → List
       → (down j ≡ None → Told (kept j) (told again) (λ l bytes. recovered bytes ≡ Ok l)) → (down j ≡ None → Only (told again) (may_leave again))
       → ((p : List ℕ) → flying j ≡ Some p → Told (kept j) (told again) (λ l bytes. WithOrWithout l p (outcome bytes)))
       → ((p : List ℕ) → flying j ≡ Some p → IfSome (kept j) (λ l. (c : List ℕ) → may_leave again c → WithOrWithout l p (outcome c)))
+      → (flying j ≡ None → down j ≡ None)
       → WatchedOn j (disk_of j)
-      → (fallen : Option Fallen) → down j ≡ option_map (λ (f : Fallen). f.count) fallen → flying j ≡ option_map (λ (f : Fallen). spelling f.entry) fallen
-      → IfSome (told again) (LeavesLog since least early (may_leave again) (left_since again) log (option_map (λ (f : Fallen). spelling f.entry) fallen))
-  leaves_of log down again j is are rests only flies each w =
-      leaves_log since least early (may_leave again) (left_since again) log (moment again) (kept j) (told again) (down j) (flying j) are rests only flies each (subst (WatchedOn j) (sym is) w)
+      → IfSome (told again) (LeavesLog since least early (may_leave again) (left_since again) log (flying j))
+  leaves_of log down again j is are rests only flies each up w =
+      leaves_log since least early (may_leave again) (left_since again) log (moment again) (kept j) (told again) (down j) (flying j) are rests only flies each up (subst (WatchedOn j) (sym is) w)
 
 -- ---- where no session was held
 

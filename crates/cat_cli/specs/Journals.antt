@@ -3,14 +3,12 @@ use Rattle.std.specs.Prelude.{ℕ, ◌<◌, ◌≤◌, ◌≡◌, ◌⊎◌, Lis
 use Rattle.sha2.specs.Sha256.{sha256}
 use Rattle.cat_io.specs.Causes.{Rose, raised_by}
 use Rattle.cat_checks.specs.Legal.{replayed}
-use Rattle.cat_state.specs.Kept.{spelling}
 use Rattle.cat_journal.specs.declared.fault.OpenFault.TheVariants as faults
 use Rattle.cat_journal.specs.Frames.{new_journal, recovered}
 use Rattle.cat_model.specs.Book.{Book, first_book}
 use Rattle.cat_model.specs.Limits.{program_limits}
 use Rattle.cat_cli.specs.declared.unopened.Unopened.{Unopened}
 use Rattle.cat_cli.specs.declared.unopened.Unopened.TheVariants as whys
-use Rattle.cat_serve.specs.Sessions.{Fallen}
 
 -- ---- disks at paths
 
@@ -81,7 +79,7 @@ StandsFor told after =
 abbrev pub IsJournalOf : List (List ℕ) → List ℕ → Type 0
 IsJournalOf payloads bytes = (recovered bytes ≡ Ok payloads) × (16 < length bytes)
 
--- the bytes are a journal of the payloads, or where an append failed, maybe of these and its entry
-abbrev pub Holds : List (List ℕ) → Option Fallen → List ℕ → Type 0
+-- the bytes are a journal of the payloads, or where an append failed, maybe of these and its own
+abbrev pub Holds : List (List ℕ) → Option (List ℕ) → List ℕ → Type 0
 Holds payloads None bytes = IsJournalOf payloads bytes
-Holds payloads (Some fallen) bytes = IsJournalOf payloads bytes ⊎ IsJournalOf (payloads ++ spelling fallen.entry ∷ []) bytes
+Holds payloads (Some flying) bytes = IsJournalOf payloads bytes ⊎ IsJournalOf (payloads ++ flying ∷ []) bytes

@@ -4,3 +4,6 @@ pub mod Surviving
 pub mod Runs
 pub mod Opening
 pub mod Stores
+pub mod Hosting
+pub mod HostingLaws
+pub mod Serving

@@ -16,6 +16,9 @@ no_memory_line = codes "nessie: no memory\n"
 abbrev pub disk_fault_line : List ℕ
 disk_fault_line = codes "nessie: disk fault\n"
 
+abbrev pub listener_fault_line : List ℕ
+listener_fault_line = codes "nessie: listener fault\n"
+
 -- why a journal isn't opened
 unfoldable pub unopened_line : Unopened → List ℕ
 unopened_line (whys.Version number) = codes "nessie: version " ++ (decimal number ++ codes "\n")

@@ -1,9 +1,8 @@
 -- What opening a store over a journal does, and what is told where none is opened.
-use Rattle.std.specs.Prelude.{ℕ, ◌≡◌, List, ◌++◌, Option, Some, None, IfSome, Bool, true, false, reverse, if◌then◌else◌}
-use Rattle.std.specs.Option.{option_map}
+use Rattle.std.specs.Prelude.{ℕ, ◌≡◌, ◌≢◌, List, ◌++◌, Option, Some, None, IfSome, Bool, true, false, reverse, if◌then◌else◌}
 use Rattle.cat_core.specs.declared.opening.StoreFault.{StoreFault}
 use Rattle.cat_core.specs.declared.opening.StoreFault.TheVariants as store_faults
-use Rattle.cat_state.specs.Kept.{spelling, spellings}
+use Rattle.cat_state.specs.Kept.{spellings}
 use Rattle.cat_journal.specs.declared.fault.OpenFault.{OpenFault}
 use Rattle.cat_journal.specs.declared.fault.OpenFault.TheVariants as faults
 use Rattle.cat_model.specs.Book.{Book}
@@ -16,7 +15,6 @@ use Rattle.cat_cli.specs.declared.unopened.Unopened.TheVariants as whys
 use Rattle.cat_cli.specs.Journals.{Begins, Holds, unopened_of}
 use Rattle.cat_cli.specs.Lines.{disk_fault_line, no_memory_line, unopened_line}
 use Rattle.cat_cli.specs.Runs.{IsFront, IsTold}
-use Rattle.cat_serve.specs.Sessions.{Fallen}
 
 -- ---- why none is opened
 
@@ -53,6 +51,14 @@ Refused why written _ held before now = ⊥
 abbrev pub RefusedKnown : Unopened → Option (List ℕ) → Status → Option (List ℕ) → ℕ → ℕ → Type 0
 RefusedKnown why held status after before now =
     (w : List ℕ) → held ≡ Some w → (h : List ℕ) × (after ≡ Some h) × Refused why w status h before now
+
+-- how a run ends where no journal is opened for this reason
+abbrev pub EndsFor : Unopened → Status → Type 0
+EndsFor why statuses.DiskFault = why ≡ whys.Fault
+EndsFor why statuses.WriteFault = why ≡ whys.Fault
+EndsFor why statuses.Unreadable = is_unreadable why ≡ true
+EndsFor why statuses.NoMemory = why ≢ whys.Fault
+EndsFor why _ = ⊥
 
 -- what is told of a disk's fault, by the run's status
 abbrev pub FaultTold : List ℕ → Status → List ℕ → ℕ → ℕ → Type 0
@@ -94,7 +100,5 @@ pub record IsStored (told : Option (List ℕ)) (book : Book) (down : Option ℕ)
   pub up : down ≡ None
 
 -- what the disk of a store holds: the entries of the log, and where an append failed, maybe the one that it was to keep
-abbrev pub HoldsLog : {K : Type 0} → (K → Option ℕ) → (K → Option (List ℕ)) → K → Book → Option (List ℕ) → Type 0
-HoldsLog down in_flight keeper book told =
-    (fallen : Option Fallen) → down keeper ≡ option_map (λ (f : Fallen). f.count) fallen → in_flight keeper ≡ option_map (λ (f : Fallen). spelling f.entry) fallen
-    → IfSome told (Holds (spellings (reverse book.log)) fallen)
+abbrev pub HoldsLog : {K : Type 0} → (K → Option (List ℕ)) → K → Book → Option (List ℕ) → Type 0
+HoldsLog in_flight keeper book told = IfSome told (Holds (spellings (reverse book.log)) (in_flight keeper))

@@ -5,7 +5,7 @@ use Rattle.cat_model.specs.declared.log_entry.LogEntry.{LogEntry}
 use Rattle.cat_model.specs.Book.{Book}
 use Rattle.std.specs.Option.{option_map}
 use Rattle.cat_state.specs.Kept.{spelling, spellings}
-use Rattle.cat_words.specs.Asked.{Task, script, check, drill}
+use Rattle.cat_words.specs.Asked.{Task, script, check, drill, serve}
 use Rattle.cat_serve.specs.declared.ending.Session.{Session as End}
 use Rattle.cat_serve.specs.declared.ending.Session.TheVariants as ends
 use Rattle.cat_cli.specs.declared.unopened.Unopened.{Unopened}
@@ -25,6 +25,7 @@ code_of statuses.Unreadable = 3
 code_of statuses.NoMemory = 4
 code_of statuses.ReadFault = 5
 code_of statuses.WriteFault = 6
+code_of statuses.ListenerFault = 7
 code_of statuses.Cut = 8
 
 -- the sink took all that was to be written
@@ -33,6 +34,7 @@ tells_all statuses.Done = true
 tells_all statuses.Cut = true
 tells_all statuses.ReadFault = true
 tells_all statuses.DiskFault = true
+tells_all statuses.ListenerFault = true
 tells_all _ = false
 
 -- no fault of the disks is to be told
@@ -41,13 +43,22 @@ spares_disks statuses.Done = true
 spares_disks statuses.Usage = true
 spares_disks statuses.Unreadable = true
 spares_disks statuses.Cut = true
+spares_disks statuses.ListenerFault = true
 spares_disks _ = false
+
+-- the listener's count of faults is as it was
+abbrev pub spares_listener : Status → Bool
+spares_listener statuses.DiskFault = false
+spares_listener statuses.WriteFault = false
+spares_listener statuses.ListenerFault = false
+spares_listener _ = true
 
 -- the journal of a command
 abbrev pub journal_of : Task → Option (List ℕ)
 journal_of (script journal) = Some journal
 journal_of (check journal) = Some journal
 journal_of (drill seed commits) = None
+journal_of (serve journal address workers attempts connections) = Some journal
 
 -- ---- what is seen of a run
 
@@ -101,7 +112,7 @@ pub record Ran (to : ℕ → Type 0) (clock : Readings) (to_come : ℕ → Type 
   pub ends : Ends clock (start book bytes s.written) end s.held last unread
   pub added : List LogEntry
   pub grows : last.book.log ≡ reverse added ++ book.log
-  pub keeps : IfSome s.left (Holds (payloads ++ spellings added) last.fallen)
+  pub keeps : IfSome s.left (Holds (payloads ++ spellings added) (option_map (λ (f : Fallen). spelling f.entry) last.fallen))
   pub crash : Survives s.journal s.left s.images payloads (spellings added) (option_map (λ (f : Fallen). spelling f.entry) last.fallen)
   pub cause : IfSome last.fallen (λ f. to f.count)
   pub reads_on : to_come last.readings

@@ -1,14 +1,12 @@
 -- What a crash leaves of the journal of a run.
 use Rattle.std.specs.Prelude.{◌≡◌, ◌⊎◌, ℕ, ◌≤◌, List, [], ◌++◌, length, take, reverse, Option, Some, None, IfSome}
-use Rattle.std.specs.Option.{option_map}
 use Rattle.cat_io.specs.Crashes.{none_known}
 use Rattle.cat_journal.specs.Frames.{payloads, recovered}
 use Rattle.cat_journal.specs.Held.{outcome}
 use Rattle.cat_keeper.specs.Keeping.{WithOrWithout}
 use Rattle.cat_keeper.specs.Watching.{IsFrontOf, with_flying}
-use Rattle.cat_state.specs.Kept.{spelling, spellings}
+use Rattle.cat_state.specs.Kept.{spellings}
 use Rattle.cat_model.specs.Book.{Book}
-use Rattle.cat_serve.specs.Sessions.{Fallen}
 
 -- ---- what is known of the disk
 
@@ -87,7 +85,6 @@ pub record LeavesLog (since least : ℕ) (early may_leave : List ℕ → Type 0)
   pub each : (c : List ℕ) → left_since since c → early c ⊎ IsFrontOf least (with_flying log flying) (outcome c)
 
 -- so it is of the disk of a store, by how its keeper stands
-abbrev pub KeepsThrough : {K : Type 0} → ℕ → ℕ → (List ℕ → Type 0) → (List ℕ → Type 0) → (ℕ → List ℕ → Type 0) → (K → Option ℕ) → (K → Option (List ℕ)) → K → Book → Option (List ℕ) → Type 0
-KeepsThrough since least early may_leave left_since down in_flight keeper book told =
-    (fallen : Option Fallen) → down keeper ≡ option_map (λ (f : Fallen). f.count) fallen → in_flight keeper ≡ option_map (λ (f : Fallen). spelling f.entry) fallen
-    → IfSome told (LeavesLog since least early may_leave left_since (spellings (reverse book.log)) (option_map (λ (f : Fallen). spelling f.entry) fallen))
+abbrev pub KeepsThrough : {K : Type 0} → ℕ → ℕ → (List ℕ → Type 0) → (List ℕ → Type 0) → (ℕ → List ℕ → Type 0) → (K → Option (List ℕ)) → K → Book → Option (List ℕ) → Type 0
+KeepsThrough since least early may_leave left_since in_flight keeper book told =
+    IfSome told (LeavesLog since least early may_leave left_since (spellings (reverse book.log)) (in_flight keeper))

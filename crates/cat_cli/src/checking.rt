@@ -54,6 +54,7 @@ fn tell_counts<K: Sink>(line: &str, sink: &mut K) -> Status
     ensures stays { IsTrue (tells_all result) → K.faults sink.new ≡ K.faults sink.old }
     ensures taken { result ≢ Status.Usage }
     ensures unread { result ≢ Status.ReadFault }
+    ensures unheard { result ≢ Status.ListenerFault }
 {
     match write_all(sink, line.as_bytes()) {
         Ok(()) => Status::Done,
@@ -99,6 +100,7 @@ pub(crate) fn check<O: Disks, K: Sink>(
         (images_at O.D.may_leave O.D.moment O.D.left_since (O.at_path disks.old path.now) (O.at_path disks.new path.now)) }
     ensures taken { result ≢ Status.Usage }
     ensures unread { result ≢ Status.ReadFault }
+    ensures unheard { result ≢ Status.ListenerFault }
     ensures write { result ≡ Status.WriteFault → Rose (K.faults sink.old) (K.faults sink.new) }
     ensures sink_stays { IsTrue (tells_all result) → K.faults sink.new ≡ K.faults sink.old }
     ensures disks_stay { IsTrue (spares_disks result) → O.faults disks.new ≡ O.faults disks.old }

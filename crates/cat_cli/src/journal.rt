@@ -47,8 +47,8 @@ pub(crate) fn store_on<B: Since + Send, D: Disk + Send>(
 
 /// The disk of a store. It has the log, and so has what a crash leaves of it.
 pub(crate) fn disk_of<B: Since + Send, D: Disk + Send>(store: Store<Watched<B, Journal<D>>>) -> D
-    ensures holds { HoldsLog ⟦<Journal<D> as Keeper>⟧.down ⟦<Journal<D> as Keeper>⟧.in_flight store.keeper store.book (D.told result) }
-    ensures leaves { KeepsThrough B.since B.least B.before (D.may_leave result) (D.left_since result) ⟦<Journal<D> as Keeper>⟧.down ⟦<Journal<D> as Keeper>⟧.in_flight store.keeper store.book (D.told result) }
+    ensures holds { HoldsLog ⟦<Journal<D> as Keeper>⟧.in_flight store.keeper store.book (D.told result) }
+    ensures leaves { KeepsThrough B.since B.least B.before (D.may_leave result) (D.left_since result) ⟦<Journal<D> as Keeper>⟧.in_flight store.keeper store.book (D.told result) }
     ensures faults { D.faults result ≡ ⟦<Journal<D> as Keeper>⟧.faults store.keeper }
 {
     store.log_is_kept();

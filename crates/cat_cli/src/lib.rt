@@ -2,19 +2,22 @@
 //! listener. `script` answers the requests of the source one after another on the catalogue of a
 //! journal: what it writes is the rendered replies of the catalogue to the requests in the bytes that
 //! it reads, and the journal has the entries of what they changed, of which a crash at any moment
-//! leaves a front. `check` writes the line of that catalogue, and `drill` the line of the catalogue
-//! that a seed makes.
+//! leaves a front. `serve` answers the requests of a listener's connections, by several workers at
+//! once, on passes of one desk: at the end the journal has one legal log, of which each session's pass
+//! had seen a beginning. `check` writes the line of the catalogue, and `drill` the line of the
+//! catalogue that a seed makes.
 #![tactic(auto)]
 
 mod checking;
 mod journal;
 mod program;
 mod scripting;
+mod serving;
 mod status;
 mod telling;
 mod unopened;
 
-pub use cat_words::words_of;
+pub use cat_words::{address_of, words_of};
 pub use program::run;
 pub use status::Status;
 pub use telling::tell_no_memory;

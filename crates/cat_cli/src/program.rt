@@ -4,15 +4,19 @@ ghost use Rattle.std.specs.Prelude.{◌≡◌, ◌≢◌, ◌≤◌, ◌⊎◌, 
 ghost use Rattle.std.specs.Option.{option_and_then};
 ghost use Rattle.cat_io.specs.Causes.{Rose};
 ghost use Rattle.cat_io.specs.Places.{OthersStay};
-ghost use Rattle.cat_words.specs.Asked.{asked, check, drill, script};
+ghost use Rattle.cat_words.specs.Asked.{IsFew, asked, check, drill, script, serve};
 ghost use Rattle.cat_drill.specs.Drill.{drill_line};
+ghost use Rattle.cat_serve.specs.Workers.{ends_of};
+ghost use Rattle.cat_cli.specs.Hosting.{CountStays, heard_of};
 ghost use Rattle.cat_cli.specs.Journals.{DisksFell, IsBack, RoseBy, told_at};
 ghost use Rattle.cat_cli.specs.Lines.{no_memory_line, usage_line};
-ghost use Rattle.cat_cli.specs.Runs.{ChecksKnown, DrillsKnown, SaysKnown, TellsKnown, ends_drill, journal_of, spares_disks, tells_all};
+ghost use Rattle.cat_cli.specs.Runs.{ChecksKnown, DrillsKnown, SaysKnown, TellsKnown, ends_drill, journal_of, spares_disks, spares_listener, tells_all};
+ghost use Rattle.cat_cli.specs.Serving.{ServesKnown};
 ghost use Rattle.cat_cli.specs.Surviving.{images_at};
 
 use crate::checking::check;
 use crate::scripting::script;
+use crate::serving::{ServeOptions, serve};
 use crate::status::Status;
 use crate::telling::{tell, tell_no_memory};
 use cat_http::write_all;
@@ -26,10 +30,12 @@ use std::thread::Threads;
 /// answers the requests of the source, one after another, on the catalogue of the journal, which
 /// keeps each change before it is told: the replies alone go to the sink. `check` opens the journal
 /// and writes one line on what it holds. An empty file becomes a journal. `drill` makes commits from
-/// a seed in memory, without disks, source or clock, and writes one line. The listener is not used
-/// yet.
+/// a seed in memory, without disks, source or clock, and writes one line. `serve` opens the journal,
+/// and then listens: so many workers answer the requests of so many connections at once, and nothing
+/// goes to the sink, unless the listener fails or memory runs out before. What goes wrong on a
+/// connection ends that one alone.
 #[allow(clippy::too_many_arguments)]
-pub fn run<R: Threads + Wait + Sync, O: Disks, S: Source, K: Sink, C: Clock, L: Listener>(
+pub fn run<R: Threads + Wait + Sync, O: Disks, S: Source, K: Sink, C: Clock + Drop, L: Listener>(
     rt: &R,
     alloc: Global,
     words: &[&str],
@@ -37,7 +43,7 @@ pub fn run<R: Threads + Wait + Sync, O: Disks, S: Source, K: Sink, C: Clock, L: 
     source: &mut S,
     sink: &mut K,
     clock: &mut C,
-    _listener: &mut L,
+    listener: &mut L,
 ) -> Status
     // The status for usage comes exactly where the words aren't a command's, want of memory aside.
     ensures usage { result ≡ Status.Usage → asked (map (λ word. word.now) words.now) ≡ None }
@@ -62,27 +68,57 @@ pub fn run<R: Threads + Wait + Sync, O: Disks, S: Source, K: Sink, C: Clock, L: 
     ensures drilled { (seed commits : ℕ) → asked (map (λ word. word.now) words.now) ≡ Some (drill seed commits)
         → DrillsKnown (drill_line seed commits) (K.held sink.old) result (K.held sink.new) (K.faults sink.old) (K.faults sink.new) }
     ensures drill_ends { (seed commits : ℕ) → asked (map (λ word. word.now) words.now) ≡ Some (drill seed commits) → IsTrue (ends_drill result) }
+    // On the catalogue of the journal so many workers serve the connections of the address: each session on a pass of one desk, and what its pass had seen is a beginning of the one legal log that the journal has at the end, which begins with the log that was opened. A crash at any moment leaves a journal with the old entries and a front of what was added, or what one might have left before. Where no call of the listener failed its own connections were all given, and stand served.
+    ensures served { (journal address : List ℕ) (workers attempts connections : ℕ) → asked (map (λ word. word.now) words.now) ≡ Some (serve journal address workers attempts connections)
+        → ServesKnown (ends_of L.In.left L.In.faults L.Out.held L.Out.faults) (DisksFell (O.refuses disks.old journal) O.D.faults (O.at_path disks.new journal) (O.faults disks.old) (O.faults disks.new))
+        (RoseBy (O.faults disks.old) (O.faults disks.new)) (O.faults disks.new ≡ O.faults disks.old) ((listener.new ≡ listener.old) × (clock.new ≡ clock.old)) (clock.new ≡ clock.old)
+        (record { address = address; connections = connections; workers = workers; attempts = attempts })
+        (heard_of L.tells L.listens L.waiting L.returned L.rejoined L.out L.twins L.faults listener.old) (heard_of L.tells L.listens L.waiting L.returned L.rejoined L.out L.twins L.faults listener.new)
+        (record { held = K.held sink.old; after = K.held sink.new; before = K.faults sink.old; now = K.faults sink.new })
+        (told_at O.D.told (O.at_path disks.old journal)) (told_at O.D.told (O.at_path disks.new journal))
+        (images_at O.D.may_leave O.D.moment O.D.left_since (O.at_path disks.old journal) (O.at_path disks.new journal)) result }
     // A fault comes only where the count of faults rose; the disks' only at the journal's path, by an open that they refuse or by a failed call of its disk.
     ensures read { result ≡ Status.ReadFault → Rose (S.faults source.old) (S.faults source.new) }
     ensures write { result ≡ Status.WriteFault → Rose (K.faults sink.old) (K.faults sink.new) }
     ensures disk { result ≡ Status.DiskFault → (journal : List ℕ) × (option_and_then journal_of (asked (map (λ word. word.now) words.now)) ≡ Some journal)
         × DisksFell (O.refuses disks.old journal) O.D.faults (O.at_path disks.new journal) (O.faults disks.old) (O.faults disks.new) }
+    ensures listener_fault { result ≡ Status.ListenerFault → Rose (L.faults listener.old) (L.faults listener.new) }
     // The source's count stays unless a read failed, the sink's where it took all that was written, and the disks' where no fault of theirs was to be told.
     ensures source_stays { result ≢ Status.ReadFault → S.faults source.new ≡ S.faults source.old }
     ensures sink_stays { IsTrue (tells_all result) → K.faults sink.new ≡ K.faults sink.old }
     ensures disks_stay { IsTrue (spares_disks result) → O.faults disks.new ≡ O.faults disks.old }
+    ensures listener_stays { IsTrue (spares_listener result) → CountStays (L.faults listener.old) (L.faults listener.new) }
     // The journal's disk goes back where it stood, and no other is touched.
     ensures back { (journal : List ℕ) → option_and_then journal_of (asked (map (λ word. word.now) words.now)) ≡ Some journal
         → IsBack (O.at_path disks.old journal) (O.at_path disks.new journal) × OthersStay journal (O.at_path disks.old) (O.at_path disks.new) }
     ensures untouched { option_and_then journal_of (asked (map (λ word. word.now) words.now)) ≡ None → disks.new ≡ disks.old }
-    // Only a script reads the source or the clock, and the listener is left alone.
-    ensures still { ((journal : List ℕ) → asked (map (λ word. word.now) words.now) ≡ Some (script journal) → ⊥) → (source.new ≡ source.old) × (clock.new ≡ clock.old) }
-    ensures listener { _listener.new ≡ _listener.old }
+    // Only a script reads the source, only a script or serving the clock, and only serving listens.
+    ensures still { ((journal : List ℕ) → asked (map (λ word. word.now) words.now) ≡ Some (script journal) → ⊥) → source.new ≡ source.old }
+    ensures clock { ((journal : List ℕ) → asked (map (λ word. word.now) words.now) ≡ Some (script journal) → ⊥)
+        → ((journal address : List ℕ) (workers attempts connections : ℕ) → asked (map (λ word. word.now) words.now) ≡ Some (serve journal address workers attempts connections) → ⊥) → clock.new ≡ clock.old }
+    ensures listener { ((journal address : List ℕ) (workers attempts connections : ℕ) → asked (map (λ word. word.now) words.now) ≡ Some (serve journal address workers attempts connections) → ⊥) → listener.new ≡ listener.old }
 {
     match asked_of(alloc, words) {
         Ok(Asked::Script(journal)) => script(rt, alloc, journal, disks, source, sink, clock),
         Ok(Asked::Check(journal)) => check(alloc, journal, disks, sink),
         Ok(Asked::Drill { seed, commits }) => drilled(rt, alloc, seed, commits, sink),
+        Ok(
+            Asked::Serve {
+                journal,
+                address,
+                workers,
+                attempts,
+                connections,
+            },
+        ) => {
+            let options = ServeOptions {
+                address,
+                connections,
+                workers,
+                attempts,
+            };
+            serve(rt, alloc, journal, options, disks, sink, clock, listener)
+        }
         Err(WordsFault::Usage) => {
             tell(sink, b"nessie: usage\n");
             Status::Usage

@@ -131,6 +131,7 @@ pub(crate) fn script<R: Wait, O: Disks, S: Source, K: Sink, C: Clock>(
         (told_at O.D.told (O.at_path disks.old path.now)) (told_at O.D.told (O.at_path disks.new path.now))
         (images_at O.D.may_leave O.D.moment O.D.left_since (O.at_path disks.old path.now) (O.at_path disks.new path.now)) }
     ensures taken { result ≢ Status.Usage }
+    ensures unheard { result ≢ Status.ListenerFault }
     ensures read { result ≡ Status.ReadFault → Rose (S.faults source.old) (S.faults source.new) }
     ensures write { result ≡ Status.WriteFault → Rose (K.faults sink.old) (K.faults sink.new) }
     ensures source_stays { result ≢ Status.ReadFault → S.faults source.new ≡ S.faults source.old }

@@ -6,7 +6,7 @@ ghost use Rattle.cat_cli.specs.Runs.{code_of};
 /// How a run ended.
 #[derive(Clone, Copy, Debug, PartialEq, Eq, Drop)]
 pub enum Status {
-    /// The input was read to its end, or to a request that closes.
+    /// The input was read to its end, or to a request that closes; or the listener's connections ended.
     Done,
     /// The words aren't the command's.
     Usage,
@@ -19,6 +19,8 @@ pub enum Status {
     ReadFault,
     /// The sink failed.
     WriteFault,
+    /// The listener failed, as it was told to listen or as it accepted.
+    ListenerFault,
     /// The session ended before its input: after its last request, or at bytes that are no request.
     Cut,
 }
@@ -36,6 +38,7 @@ impl Status {
             Status::NoMemory => 4,
             Status::ReadFault => 5,
             Status::WriteFault => 6,
+            Status::ListenerFault => 7,
             Status::Cut => 8,
         }
     }

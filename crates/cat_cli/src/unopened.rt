@@ -3,7 +3,7 @@
 ghost use Rattle.std.specs.Prelude.{◌≡◌, ◌≢◌, ◌⊎◌, IfOk, IsTrue, string_bytes, false, true};
 ghost use Rattle.cat_io.specs.Causes.{Rose};
 ghost use Rattle.cat_cli.specs.Lines.{unopened_line};
-ghost use Rattle.cat_cli.specs.Opening.{RefusedKnown, is_unreadable};
+ghost use Rattle.cat_cli.specs.Opening.{EndsFor, RefusedKnown, is_unreadable};
 ghost use Rattle.cat_cli.specs.Runs.{tells_all};
 
 use crate::status::Status;
@@ -81,11 +81,13 @@ fn line(alloc: Global, why: Unopened) -> Result<String, AllocError>
 fn tell_unreadable<K: Sink>(alloc: Global, why: Unopened, sink: &mut K) -> Status
     requires { is_unreadable why ≡ true }
     ensures told { RefusedKnown why (K.held sink.old) result (K.held sink.new) (K.faults sink.old) (K.faults sink.new) }
+    ensures reason { EndsFor why result }
     ensures fault { result ≢ Status.DiskFault }
     ensures write { result ≢ Status.WriteFault }
     ensures silent { tells_all result ≡ false }
     ensures taken { result ≢ Status.Usage }
     ensures unread { result ≢ Status.ReadFault }
+    ensures unheard { result ≢ Status.ListenerFault }
 {
     match line(alloc, why) {
         Ok(line) => {
@@ -99,12 +101,14 @@ fn tell_unreadable<K: Sink>(alloc: Global, why: Unopened, sink: &mut K) -> Statu
 /// Tells why no journal is opened.
 pub(crate) fn refuse<K: Sink>(alloc: Global, why: Unopened, sink: &mut K) -> Status
     ensures told { RefusedKnown why (K.held sink.old) result (K.held sink.new) (K.faults sink.old) (K.faults sink.new) }
+    ensures reason { EndsFor why result }
     ensures fault { result ≡ Status.DiskFault → why ≡ Unopened.Fault }
     ensures write { result ≡ Status.WriteFault → Rose (K.faults sink.old) (K.faults sink.new) }
     ensures ends { why ≡ Unopened.Fault → (result ≡ Status.DiskFault) ⊎ (result ≡ Status.WriteFault) }
     ensures stays { IsTrue (tells_all result) → K.faults sink.new ≡ K.faults sink.old }
     ensures taken { result ≢ Status.Usage }
     ensures unread { result ≢ Status.ReadFault }
+    ensures unheard { result ≢ Status.ListenerFault }
 {
     match why {
         Unopened::Fault => tell_disk_fault(sink),

@@ -1,28 +1,49 @@
 -- What the words of a command line ask for.
-use Rattle.std.specs.Prelude.{ℕ, List, [], ◌∷◌, Bool, true, false, Option, Some, None, option_map, option_and_then, if◌then◌else◌, codes, bytes_eq}
+use Rattle.std.specs.Prelude.{ℕ, ◌≤◌, List, [], ◌∷◌, Bool, true, false, Option, Some, None, option_map, option_and_then, if◌then◌else◌, codes, bytes_eq}
 use Rattle.clap.specs.Words.{Kinds, Row, fault_of, first_of, subcommand_of}
 use Rattle.cat_words.specs.declared.asked.Asked.{Asked}
 use Rattle.cat_words.specs.declared.asked.Asked.TheVariants as asks
 use Rattle.cat_words.specs.Line.{line}
-use Rattle.cat_words.specs.Numbers.{number_of}
+use Rattle.cat_words.specs.Numbers.{number_between, number_of}
 
--- a command: a script or a check with its journal, or a drill with its seed and how many commits it makes
+-- a command: a script or a check with its journal, a drill with its seed and how many commits it makes, or serving with its journal, its address, how many workers serve, how often each tries, and how many connections are served, where 0 is no end
 pub data Task : Type 0 where
   script : List ℕ → Task
   check : List ℕ → Task
   drill : ℕ → ℕ → Task
+  serve : List ℕ → List ℕ → ℕ → ℕ → ℕ → Task
 
 -- the command that was read
 abbrev pub task : Asked → Task
 task (asks.Script journal) = script journal.now
 task (asks.Check journal) = check journal.now
 task (asks.Drill seed commits) = drill seed commits
+task (asks.Serve journal address workers attempts connections) = serve journal.now address.now workers attempts connections
 
 -- how many commits a command makes by itself
 abbrev pub commits_of : Asked → ℕ
 commits_of (asks.Script journal) = 0
 commits_of (asks.Check journal) = 0
 commits_of (asks.Drill seed commits) = commits
+commits_of (asks.Serve journal address workers attempts connections) = 0
+
+-- where a command listens
+abbrev pub address_in : Task → Option (List ℕ)
+address_in (script journal) = None
+address_in (check journal) = None
+address_in (drill seed commits) = None
+address_in (serve journal address workers attempts connections) = Some address
+
+-- a number from 1 to 64
+abbrev pub IsFew : ℕ → Type 0
+IsFew number = (1 ≤ number) × (number ≤ 64)
+
+-- workers and attempts are so many
+abbrev pub IsSet : Asked → Type 0
+IsSet (asks.Script journal) = Unit {0}
+IsSet (asks.Check journal) = Unit {0}
+IsSet (asks.Drill seed commits) = Unit {0}
+IsSet (asks.Serve journal address workers attempts connections) = IsFew workers × IsFew attempts
 
 -- the text of an argument
 abbrev pub text : List ℕ → List Row → Option (List ℕ)
@@ -34,6 +55,21 @@ drill_of rows =
     option_and_then (λ seed. option_map (λ commits. drill seed commits) (option_and_then (number_of 1000000) (text (codes "commits") rows)))
     (option_and_then (number_of 18446744073709551615) (text (codes "seed") rows))
 
+-- the number of an option of so many workers or attempts
+abbrev pub few_of : List ℕ → List Row → Option ℕ
+few_of id rows = option_and_then (number_between 1 64) (text id rows)
+
+-- the number of connections
+abbrev pub connections_of : List Row → Option ℕ
+connections_of rows = option_and_then (number_of 18446744073709551615) (text (codes "connections") rows)
+
+-- serving by its words and options; none where a number has no reading
+abbrev pub serve_of : List Row → Option Task
+serve_of rows =
+    option_and_then (λ journal. option_and_then (λ address. option_and_then (λ workers. option_and_then (λ attempts.
+    option_map (λ connections. serve journal address workers attempts connections) (connections_of rows))
+    (few_of (codes "attempts") rows)) (few_of (codes "workers") rows)) (text (codes "address") rows)) (text (codes "journal") rows)
+
 -- the command of a subcommand and its arguments
 abbrev pub task_of : Option (List ℕ × List Row) → Option Task
 task_of None = None
@@ -41,6 +77,7 @@ task_of (Some p) =
     if bytes_eq p.0 (codes "script") then option_map script (text (codes "journal") p.1)
     else if bytes_eq p.0 (codes "check") then option_map check (text (codes "journal") p.1)
     else if bytes_eq p.0 (codes "drill") then drill_of p.1
+    else if bytes_eq p.0 (codes "serve") then serve_of p.1
     else None
 
 -- no kind of error comes

@@ -12,6 +12,10 @@ word_rule id = record (new_rule id) { required = true; action = Some Set }
 abbrev pub option_rule : List ℕ → Rule
 option_rule id = record (new_rule id) { long = Some id; required = true; action = Some Set }
 
+-- an option of one value, which is this where it isn't given
+abbrev pub default_rule : List ℕ → List ℕ → Rule
+default_rule id value = record (new_rule id) { long = Some id; action = Some Set; defaults = value ∷ [] }
+
 abbrev pub shape : List ℕ → List Rule → Shape
 shape name rules = record (new_shape name) { rules = rules }
 
@@ -27,9 +31,34 @@ check_shape = shape (codes "check") (word_rule (codes "journal") ∷ [])
 abbrev pub drill_shape : Shape
 drill_shape = shape (codes "drill") (option_rule (codes "seed") ∷ option_rule (codes "commits") ∷ [])
 
+-- `serve JOURNAL ADDRESS`
+abbrev pub serve_at_shape : Shape
+serve_at_shape = shape (codes "serve") (word_rule (codes "journal") ∷ word_rule (codes "address") ∷ [])
+
+-- `serve JOURNAL ADDRESS [--workers 4] [--attempts 8]`
+abbrev pub serve_by_shape : Shape
+serve_by_shape =
+    shape (codes "serve")
+    (word_rule (codes "journal") ∷ word_rule (codes "address") ∷ default_rule (codes "workers") (codes "4") ∷ default_rule (codes "attempts") (codes "8") ∷ [])
+
+-- `serve JOURNAL ADDRESS [--workers 4] [--attempts 8] [--connections 0]`
+abbrev pub serve_shape : Shape
+serve_shape =
+    shape (codes "serve")
+    (word_rule (codes "journal")
+    ∷ word_rule (codes "address")
+    ∷ default_rule (codes "workers") (codes "4")
+    ∷ default_rule (codes "attempts") (codes "8")
+    ∷ default_rule (codes "connections") (codes "0")
+    ∷ [])
+
 -- the program's name, which asks for a command
 abbrev pub bare_line : App
 bare_line = record { top = record (new_shape (codes "nessie")) { subcommand_required = true }; subs = [] }
 
+-- the commands that serve no connections
+abbrev pub offline_line : App
+offline_line = with_subcommand (with_subcommand (with_subcommand bare_line script_shape) check_shape) drill_shape
+
 abbrev pub line : App
-line = with_subcommand (with_subcommand (with_subcommand bare_line script_shape) check_shape) drill_shape
+line = with_subcommand offline_line serve_shape

@@ -1,11 +1,12 @@
 //! What the words ask for.
 
 ghost use Rattle.std.specs.Prelude.{◌≡◌, ◌≤◌, IfOk, IfSome, IsErrOf, None, Some, map, option_map};
+ghost use Rattle.std.specs.Option.{option_and_then};
 ghost use Rattle.clap.specs.Words.{found_of, first_of, rows_of, subcommand_rows_of};
-ghost use Rattle.cat_words.specs.Asked.{asked, commits_of, drill_of, task, task_of};
+ghost use Rattle.cat_words.specs.Asked.{IsFew, IsSet, address_in, asked, commits_of, connections_of, drill_of, few_of, serve_of, task, task_of};
 
 use crate::line::{WordsFault, matches_of};
-use crate::number::number;
+use crate::number::{number, number_between};
 use clap::ArgMatches;
 use std::alloc::Global;
 
@@ -20,7 +21,19 @@ pub enum Asked<'a> {
     /// How much the journal of this path holds.
     Check(&'a str),
     /// So many commits, made from a seed.
-    Drill { seed: u64, commits: u64 },
+    Drill {
+        seed: u64,
+        commits: u64,
+    },
+    /// The connections of this address, so many of them or without an end where that is 0, over the
+    /// journal of this path, by so many workers, each of which tries a call so often.
+    Serve {
+        journal: &'a str,
+        address: &'a str,
+        workers: u32,
+        attempts: u32,
+        connections: u64,
+    },
 }
 
 // The subcommand that was entered, and what was found of it.
@@ -40,21 +53,57 @@ fn text<'a>(found: &ArgMatches<'a>, id: &str) -> Option<&'a str>
 fn drill<'a>(found: &ArgMatches<'_>) -> Option<Asked<'a>>
     ensures read { option_map task result ≡ drill_of (rows_of (found_of found.now)) }
     ensures few { IfSome result (λ what. commits_of what ≤ 1000000) }
+    ensures set { IfSome result IsSet }
 {
     let seed = number(text(found, "seed")?, u64::MAX)?;
     let commits = number(text(found, "commits")?, MOST_COMMITS)?;
     Some(Asked::Drill { seed, commits })
 }
 
+// A number of workers or attempts.
+fn few(found: &ArgMatches<'_>, id: &str) -> Option<u32>
+    ensures number { result ≡ few_of id.now (rows_of (found_of found.now)) }
+    ensures few { IfSome result IsFew }
+{
+    number_between(text(found, id)?, 1, 64)
+}
+
+fn connections(found: &ArgMatches<'_>) -> Option<u64>
+    ensures { result ≡ connections_of (rows_of (found_of found.now)) }
+{
+    number(text(found, "connections")?, u64::MAX)
+}
+
+fn serve<'a>(found: &ArgMatches<'a>) -> Option<Asked<'a>>
+    ensures read { option_map task result ≡ serve_of (rows_of (found_of found.now)) }
+    ensures few { IfSome result (λ what. commits_of what ≤ 1000000) }
+    ensures set { IfSome result IsSet }
+{
+    let journal = text(found, "journal")?;
+    let address = text(found, "address")?;
+    let workers = few(found, "workers")?;
+    let attempts = few(found, "attempts")?;
+    let connections = connections(found)?;
+    Some(Asked::Serve {
+        journal,
+        address,
+        workers,
+        attempts,
+        connections,
+    })
+}
+
 fn asked_in<'a>(matches: &ArgMatches<'a>) -> Option<Asked<'a>>
     ensures read { option_map task result ≡ task_of (subcommand_rows_of matches.now) }
     ensures few { IfSome result (λ what. commits_of what ≤ 1000000) }
+    ensures set { IfSome result IsSet }
 {
     let (name, found) = entered(matches)?;
     match name {
         "script" => Some(Asked::Script(text(found, "journal")?)),
         "check" => Some(Asked::Check(text(found, "journal")?)),
         "drill" => drill(found),
+        "serve" => serve(found),
         _ => None,
     }
 }
@@ -65,6 +114,7 @@ pub fn asked_of<'a>(alloc: Global, words: &'a [&'a str]) -> Result<Asked<'a>, Wo
     ensures ok { IfOk result (λ what. asked (map (λ word. word.now) words.now) ≡ Some (task what)) }
     ensures usage { IsErrOf result WordsFault.Usage → asked (map (λ word. word.now) words.now) ≡ None }
     ensures few { IfOk result (λ what. commits_of what ≤ 1000000) }
+    ensures set { IfOk result IsSet }
 {
     match matches_of(alloc, words) {
         Ok(matches) => match asked_in(&matches) {
@@ -72,5 +122,15 @@ pub fn asked_of<'a>(alloc: Global, words: &'a [&'a str]) -> Result<Asked<'a>, Wo
             None => Err(WordsFault::Usage),
         },
         Err(fault) => Err(fault),
+    }
+}
+
+/// The address at which the words ask to listen, want of memory aside.
+pub fn address_of<'a>(alloc: Global, words: &'a [&'a str]) -> Option<&'a str>
+    ensures { IfSome result (λ address. option_and_then address_in (asked (map (λ word. word.now) words.now)) ≡ Some address.now) }
+{
+    match asked_of(alloc, words) {
+        Ok(Asked::Serve { address, .. }) => Some(address),
+        _ => None,
     }
 }

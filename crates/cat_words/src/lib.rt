@@ -8,6 +8,6 @@ mod handed;
 mod line;
 mod number;
 
-pub use asked::{Asked, asked_of};
+pub use asked::{Asked, address_of, asked_of};
 pub use handed::words_of;
 pub use line::WordsFault;

@@ -4,7 +4,7 @@ ghost use Rattle.std.specs.Prelude.{◌≡◌, [], IfErr, IfOk, IsErrOf, map, fa
 ghost use Rattle.clap.specs.Words.{app_of, fault_of, kind_of, rule_of, shape_of, subcommand_of, subcommand_rows_of};
 ghost use Rattle.clap.specs.declared.builder.command.Command.TheViews.{out-Command};
 ghost use Rattle.cat_words.specs.Asked.{is_free};
-ghost use Rattle.cat_words.specs.Line.{bare_line, check_shape, drill_shape, line, option_rule, script_shape, word_rule};
+ghost use Rattle.cat_words.specs.Line.{bare_line, check_shape, default_rule, drill_shape, line, offline_line, option_rule, script_shape, serve_at_shape, serve_by_shape, serve_shape, word_rule};
 
 use clap::error::ErrorKind;
 use clap::{Arg, ArgAction, ArgMatches, Command, Error};
@@ -37,6 +37,16 @@ fn option<'a>(alloc: Global, id: &'a str) -> Arg<'a>
         .action(ArgAction::Set)
 }
 
+fn option_or<'a>(alloc: Global, id: &'a str, value: &'a str) -> Arg<'a>
+    ensures rule { rule_of result ≡ default_rule id.entry.now value.entry.now }
+    ensures local { result.global ≡ false }
+{
+    Arg::new(alloc, id)
+        .long(id)
+        .action(ArgAction::Set)
+        .default_value(value)
+}
+
 fn script<'a>(alloc: Global) -> Result<Command<'a>, AllocError>
     ensures shape { IfOk result (λ c. shape_of c ≡ script_shape) }
     ensures local { IfOk result (λ c. (out-Command c).has_globals ≡ false) }
@@ -60,14 +70,40 @@ fn drill<'a>(alloc: Global) -> Result<Command<'a>, AllocError>
         .arg(option(alloc, "commits"))
 }
 
+fn serve_at<'a>(alloc: Global) -> Result<Command<'a>, AllocError>
+    ensures shape { IfOk result (λ c. shape_of c ≡ serve_at_shape) }
+    ensures local { IfOk result (λ c. (out-Command c).has_globals ≡ false) }
+{
+    Command::new(alloc, "serve")
+        .arg(word(alloc, "journal"))?
+        .arg(word(alloc, "address"))
+}
+
+fn serve_by<'a>(alloc: Global) -> Result<Command<'a>, AllocError>
+    ensures shape { IfOk result (λ c. shape_of c ≡ serve_by_shape) }
+    ensures local { IfOk result (λ c. (out-Command c).has_globals ≡ false) }
+{
+    serve_at(alloc)?
+        .arg(option_or(alloc, "workers", "4"))?
+        .arg(option_or(alloc, "attempts", "8"))
+}
+
+fn serve<'a>(alloc: Global) -> Result<Command<'a>, AllocError>
+    ensures shape { IfOk result (λ c. shape_of c ≡ serve_shape) }
+    ensures local { IfOk result (λ c. (out-Command c).has_globals ≡ false) }
+{
+    serve_by(alloc)?.arg(option_or(alloc, "connections", "0"))
+}
+
 fn bare<'a>(alloc: Global) -> Command<'a>
     ensures { app_of result ≡ bare_line }
 {
     Command::new(alloc, "nessie").subcommand_required(true)
 }
 
-fn command<'a>(alloc: Global) -> Result<Command<'a>, AllocError>
-    ensures { IfOk result (λ c. app_of c ≡ line) }
+// The commands that serve no connections.
+fn offline<'a>(alloc: Global) -> Result<Command<'a>, AllocError>
+    ensures { IfOk result (λ c. app_of c ≡ offline_line) }
 {
     let script = script(alloc)?;
     let check = check(alloc)?;
@@ -76,6 +112,13 @@ fn command<'a>(alloc: Global) -> Result<Command<'a>, AllocError>
         .subcommand(script)?
         .subcommand(check)?
         .subcommand(drill)
+}
+
+fn command<'a>(alloc: Global) -> Result<Command<'a>, AllocError>
+    ensures { IfOk result (λ c. app_of c ≡ line) }
+{
+    let serve = serve(alloc)?;
+    offline(alloc)?.subcommand(serve)
 }
 
 fn parse<'a>(alloc: Global, words: &'a [&'a str]) -> Result<ArgMatches<'a>, Error>

@@ -4,7 +4,7 @@ ghost use Rattle.std.specs.Prelude.{◌≡◌, ◌<◌, ◌≤◌, ◌^◌, IfSo
 ghost use Rattle.std.specs.Result.{OkIff};
 ghost use Rattle.std.specs.Str.{all_ascii_digits};
 ghost use Rattle.std.specs.Str.Parse.{digits_value};
-ghost use Rattle.cat_words.specs.Numbers.{number_of};
+ghost use Rattle.cat_words.specs.Numbers.{number_between, number_of};
 
 use std::num::ParseIntError;
 
@@ -39,4 +39,13 @@ pub(crate) fn number(text: &str, most: u64) -> Option<u64>
         return None;
     };
     if number <= most { Some(number) } else { None }
+}
+
+/// A number of 1 to 20 digits, at least `least` and at most `most`.
+pub(crate) fn number_between(text: &str, least: u32, most: u32) -> Option<u32>
+    ensures number { result ≡ number_between least most text.now }
+    ensures bound { IfSome result (λ number. (least ≤ number) × (number ≤ most)) }
+{
+    let number = number(text, u64::from(most))? as u32;
+    if least <= number { Some(number) } else { None }
 }

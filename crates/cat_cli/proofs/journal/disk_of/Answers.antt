@@ -5,14 +5,14 @@ use Rattle.cat_journal.specs.Frames.{payload_of}
 use Rattle.cat_journal.specs.Held.{first_payloads}
 use Rattle.cat_journal.specs.Journals.{journal_disk}
 use Rattle.cat_state.specs.Kept.{spellings}
-use Rattle.cat_cli.proofs.Opened.{holds_log}
+use Rattle.cat_cli.proofs.Opened.{holds_log, none_down}
 use Rattle.cat_cli.proofs.Surviving.{leaves_of}
 use Rattle.cat_cli.proofs.journal.disk_of.Goals as goal
 
 pub returns-clause-holds : goal.returns-clause-holds
 returns-clause-holds g c =
     let same = c.into_inner.ensures.keeper ∙ c.into_keeper.ensures in
-    holds_log _ _ c.args.store.book _ _ c.into_disk.ensures.headed c.log_is_kept.ensures.payloads (rw same at c.into_disk.ensures.payloads) (rw same at c.into_disk.ensures.in_flight)
+    holds_log _ _ c.args.store.book _ _ c.into_disk.ensures.headed c.log_is_kept.ensures.payloads (rw same at c.into_disk.ensures.payloads) (rw same at c.into_disk.ensures.in_flight) (none_down _ _)
 
 pub returns-clause-leaves : goal.returns-clause-leaves
 returns-clause-leaves g c =
@@ -21,4 +21,4 @@ returns-clause-leaves g c =
     let flying_of : Journal g.row.D.Denot g.D.Disk → Option (List ℕ) = λ j. option_map (λ _. payload_of j.frame.items) j.down in
     leaves_of {J = Journal g.row.D.Denot g.D.Disk} g.D.Disk.told g.D.Disk.may_leave g.D.Disk.moment g.D.Disk.left_since journal_disk kept_of flying_of g.B.Since.since g.B.Since.least g.B.Since.before
     (spellings (reverse c.args.store.book.log)) (λ j. j.down) c.into_disk.result c.args.store.keeper (c.into_disk.ensures.disk ∙ ap journal_disk same) c.log_is_kept.ensures.payloads
-    (rw same at c.into_disk.ensures.payloads) (rw same at c.into_disk.ensures.durable) (rw same at c.into_disk.ensures.in_flight) (rw same at c.into_disk.ensures.torn) (rw c.into_keeper.ensures at c.into_inner.ensures.watched)
+    (rw same at c.into_disk.ensures.payloads) (rw same at c.into_disk.ensures.durable) (rw same at c.into_disk.ensures.in_flight) (rw same at c.into_disk.ensures.torn) (none_down _ _) (rw c.into_keeper.ensures at c.into_inner.ensures.watched)

@@ -1,7 +1,8 @@
 use Rattle.std.proofs.Common.{◌≡◌, ℕ, List, [], Option, Some, inr, refl, sym, ◌∙◌, ap}
-use Rattle.cat_words.specs.Asked.{Task, check, script, task}
+use Rattle.cat_words.specs.Asked.{Task, check, script, serve, task}
 use Rattle.cat_serve.specs.ReadingLaws.{some_readings}
 use Rattle.cat_cli.proofs.Opened.{stands_untouched}
+use Rattle.cat_cli.proofs.ServedRuns.{out_of_memory}
 use Rattle.cat_cli.proofs.Surviving.{spared_untouched}
 use Rattle.cat_cli.proofs.program.run.Goals as goal
 
@@ -10,6 +11,22 @@ same_journal a b e = cc
 
 same_checked : (a b : List ℕ) → ◌≡◌ {A = Option Task} (Some (check a)) (Some (check b)) → a ≡ b
 same_checked a b e = cc
+
+module _ (j j' a a' : List ℕ) (w w' t t' n n' : ℕ) (e : ◌≡◌ {A = Option Task} (Some (serve j a w t n)) (Some (serve j' a' w' t' n'))) where
+  same_served : j ≡ j'
+  same_served = cc
+
+  same_address : a ≡ a'
+  same_address = cc
+
+  same_workers : w ≡ w'
+  same_workers = cc
+
+  same_attempts : t ≡ t'
+  same_attempts = cc
+
+  same_connections : n ≡ n'
+  same_connections = cc
 
 pub returns-in-Ok-Script-clause-replies : goal.returns-in-Ok-Script-clause-replies
 returns-in-Ok-Script-clause-replies g c journal asks =
@@ -22,7 +39,34 @@ returns-in-Ok-Check-clause-checked g c journal asks =
 pub returns-in-Ok-Script-clause-still : goal.returns-in-Ok-Script-clause-still
 returns-in-Ok-Script-clause-still g c none = absurd (none c.in-Ok-Script.journal.now (c.in-Ok-Script.ensures.ok ∙ ap (λ what. Some (task what)) c.in-Ok-Script.field-0-is))
 
+pub returns-in-Ok-Script-clause-clock : goal.returns-in-Ok-Script-clause-clock
+returns-in-Ok-Script-clause-clock g c none other = absurd (none c.in-Ok-Script.journal.now (c.in-Ok-Script.ensures.ok ∙ ap (λ what. Some (task what)) c.in-Ok-Script.field-0-is))
+
+pub returns-in-Ok-Serve-clause-served : goal.returns-in-Ok-Serve-clause-served
+returns-in-Ok-Serve-clause-served g c journal address workers attempts connections asks =
+    let e = sym asks ∙ c.in-Ok-Serve.ensures.ok ∙ ap (λ what. Some (task what)) c.in-Ok-Serve.field-0-is in
+    rw (
+      same_served _ _ _ _ _ _ _ _ _ _ e,
+      same_address _ _ _ _ _ _ _ _ _ _ e,
+      same_workers _ _ _ _ _ _ _ _ _ _ e,
+      same_attempts _ _ _ _ _ _ _ _ _ _ e,
+      same_connections _ _ _ _ _ _ _ _ _ _ e,
+    ) c.serve.ensures.served
+
+pub returns-in-Ok-Serve-clause-clock : goal.returns-in-Ok-Serve-clause-clock
+returns-in-Ok-Serve-clause-clock g c none other =
+    absurd (other c.in-Ok-Serve.journal.now c.in-Ok-Serve.address.now c.in-Ok-Serve.workers c.in-Ok-Serve.attempts c.in-Ok-Serve.connections (c.in-Ok-Serve.ensures.ok ∙ ap (λ what. Some (task what)) c.in-Ok-Serve.field-0-is))
+
+pub returns-in-Ok-Serve-clause-listener : goal.returns-in-Ok-Serve-clause-listener
+returns-in-Ok-Serve-clause-listener g c other =
+    absurd (other c.in-Ok-Serve.journal.now c.in-Ok-Serve.address.now c.in-Ok-Serve.workers c.in-Ok-Serve.attempts c.in-Ok-Serve.connections (c.in-Ok-Serve.ensures.ok ∙ ap (λ what. Some (task what)) c.in-Ok-Serve.field-0-is))
+
 -- memory ran out before the words were known
+pub returns-in-Err-NoMemory-clause-served : goal.returns-in-Err-NoMemory-clause-served
+returns-in-Err-NoMemory-clause-served g c journal address workers attempts connections asks =
+    let laws = g.met.O.D.Disk g.world.𝓛 g.world.𝓜 g.world.𝓡 ((λ s x. x), (λ x. x), (λ x. x), λ x. x) in
+    inr (out_of_memory g.O.D.Disk.told g.O.D.Disk.may_leave g.O.D.Disk.moment g.O.D.Disk.left_since laws.only_now (g.O.Disks.at_path c.args.disks.now journal) _ _ _ _ c.tell_no_memory.result c.tell_no_memory.ensures.status refl (refl, refl) c.tell_no_memory.ensures.told)
+
 pub returns-in-Err-NoMemory-clause-replies : goal.returns-in-Err-NoMemory-clause-replies
 returns-in-Err-NoMemory-clause-replies g c journal asks b w e f =
     let k = some_readings [] (g.C.Clock.ahead c.args.clock.now) _ refl in

@@ -1,0 +1,221 @@
+-- Workers on a desk: from what its passes have seen to the store, and to the journal that the store was opened from.
+use Rattle.std.proofs.Common.{◌≡◌, ◌≢◌, ℕ, ◌+◌, ◌<◌, ◌^◌, List, [], ◌∷◌, ◌++◌, reverse, Option, Some, None, IfSome, Result, Ok, Err, Bool, true, false, if◌then◌else◌, refl, sym, ◌∙◌, ap, subst, inl, inr, arith}
+use Rattle.std.specs.Prelude.{◌⊎◌, IsTrue}
+use Rattle.std.specs.Option.{option_map}
+use Rattle.std.proofs.lemmas.List.{reverse-reverse, map-append}
+use Rattle.sha2.specs.Sha256.{sha256}
+use Rattle.cat_io.specs.Causes.{Rose}
+use Rattle.cat_checks.specs.LeadingLaws.{replayed_limits}
+use Rattle.cat_checks.specs.Legal.{is_legal, next_book, or_at, read_next, replayed, replayed_call}
+use Rattle.cat_codes.specs.declared.fault.FieldFault.{FieldFault}
+use Rattle.cat_core.specs.Stored.{Stored, opened_of}
+use Rattle.cat_desk.specs.Pass.{DeskId, Remembers, mark_of, seen}
+use Rattle.cat_desk.specs.declared.pass.Pass.{Pass}
+use Rattle.cat_model.specs.declared.limits.Limits.{Limits}
+use Rattle.cat_model.specs.declared.log_entry.LogEntry.{LogEntry}
+use Rattle.cat_model.specs.Book.{Book, after_call, first_book}
+use Rattle.cat_model.specs.Limits.{program_limits}
+use Rattle.cat_model.specs.Mark.{FailedAppend, Mark}
+use Rattle.cat_model.specs.Refusing.{◌>>=◌}
+use Rattle.cat_model.specs.State.{first_state}
+use Rattle.cat_state.specs.Kept.{spelling, spellings}
+use Rattle.cat_work.specs.Passes.{IsReady, book_of, state_of}
+use Rattle.cat_serve.specs.declared.serving.Served.{Served}
+use Rattle.cat_serve.specs.declared.serving.Served.TheVariants as serveds
+use Rattle.cat_serve.specs.Workers.{Ends as BothEnds, ServesAll}
+use Rattle.cat_cli.specs.Hosting.{Comes, CountStays, Heard, Hosts, IsAsBefore, IsListening, Service, WorksOn}
+use Rattle.cat_cli.specs.HostingLaws.{all_begin}
+use Rattle.cat_cli.specs.Journals.{Begins, Holds}
+use Rattle.cat_cli.specs.Opening.{HoldsLog, IsStored}
+use Rattle.cat_cli.specs.Runs.{CountedBy}
+use Rattle.cat_cli.specs.Serving.{Hosted, OpenedOnly, flying_at}
+use Rattle.cat_cli.specs.Surviving.{IsBegun, KeepsThrough, LeavesLog, images_of}
+use Rattle.cat_cli.proofs.Counted.{opens}
+use Rattle.cat_cli.proofs.Surviving.{survives}
+
+-- ---- by how serving ended
+
+served_all : serveds.End ≡ serveds.NoMemory → ⊥
+served_all e = cc
+
+served_some : serveds.ListenerFault ≡ serveds.NoMemory → ⊥
+served_some e = cc
+
+none_failed : serveds.End ≡ serveds.ListenerFault → ⊥
+none_failed e = cc
+
+none_began : serveds.NoMemory ≡ serveds.ListenerFault → ⊥
+none_began e = cc
+
+-- what follows from both outcomes follows from what came
+pub comes_on : {C : Type 0} (so so' none none' : Type 0) (service : Service) (a b : Heard C) (end : Served) → (so → so') → (none → none') → Comes so none service a b end → Comes so' none' service a b end
+comes_on so so' none none' service a b serveds.End f g c = (f c.0, c.1)
+comes_on so so' none none' service a b serveds.ListenerFault f g (inl c) = inl (f c.0, c.1)
+comes_on so so' none none' service a b serveds.ListenerFault f g (inr c) = inr (g c.0, c.1)
+comes_on so so' none none' service a b serveds.NoMemory f g c = (g c.0, c.1)
+
+-- ---- on a desk
+
+-- a listener that was told to listen is m, and then b
+module _ {In Out : Type 0} (ends : BothEnds In Out) (service : Service) (a m b : Heard (In × Out)) (desk : DeskId) (p q : Pass)
+    (tells : m.tells ≡ a.tells) (waiting : m.waiting ≡ a.waiting) (returned : m.returned ≡ a.returned) (rejoined : m.rejoined ≡ a.rejoined) (out : m.out ≡ a.out) (twins : m.twins ≡ a.twins) (level : m.faults ≡ a.faults)
+    (heard : IsTrue a.tells → m.listens ≡ Some (service.address, service.connections))
+    (stays : b.listens ≡ m.listens) (away : IsTrue m.tells → (b.out ≡ m.out) × (b.twins ≡ m.twins)) where
+  still_tells : IsTrue a.tells → IsTrue m.tells
+  still_tells t = subst (λ (x : Bool). IsTrue x) (sym tells) t
+
+  listening : IsListening service a b
+  listening = record { listens = λ t. stays ∙ heard t; out = λ t. (away (still_tells t)).0 ∙ out; twins = λ t. (away (still_tells t)).1 ∙ twins }
+
+  works : ServesAll ends desk service.attempts service.workers m.tells m.waiting b.waiting m.returned b.returned m.rejoined b.rejoined p q → WorksOn ends service a b desk p q
+  works s = record {
+    listening = listening;
+    serves =
+        subst (λ (z : Bool × List (In × Out) × List (In × Out) × List (List (In × Out))). ServesAll ends desk service.attempts service.workers z.0 z.1 b.waiting z.2 b.returned z.3 b.rejoined p q)
+        (λ i. (tells i, waiting i, returned i, rejoined i)) s;
+  }
+
+  count_from : CountStays m.faults b.faults → CountStays a.faults b.faults
+  count_from same small = same (subst (λ (n : ℕ). n < 2 ^ 64) (sym level) small) ∙ level
+
+  rose_from : Rose m.faults b.faults → Rose a.faults b.faults
+  rose_from rose = subst (λ (n : ℕ). Rose n b.faults) level rose
+
+  pub comes : (paused : Type 0) (end : Served)
+      → (end ≢ serveds.NoMemory → ServesAll ends desk service.attempts service.workers m.tells m.waiting b.waiting m.returned b.returned m.rejoined b.rejoined p q)
+      → (end ≡ serveds.End → IsTrue m.tells → b.waiting ≡ [])
+      → (end ≡ serveds.NoMemory → Remembers p q × paused × (IsTrue m.tells → (b.waiting ≡ m.waiting) × (b.returned ≡ m.returned)))
+      → (end ≡ serveds.ListenerFault → Rose m.faults b.faults) → (end ≢ serveds.ListenerFault → CountStays m.faults b.faults)
+      → Comes (WorksOn ends service a b desk p q) (Remembers p q × paused) service a b end
+  comes paused serveds.End serves done none cause same =
+      (works (serves served_all), record { none_waits = λ t. done refl (still_tells t); level = count_from (same none_failed) })
+  comes paused serveds.ListenerFault serves done none cause same = inl (works (serves served_some), rose_from (cause refl))
+  comes paused serveds.NoMemory serves done none cause same =
+      let n = none refl in (
+        (n.0, n.1),
+        record {
+          listening = listening;
+          waiting = λ t. (n.2 (still_tells t)).0 ∙ waiting;
+          returned = λ t. (n.2 (still_tells t)).1 ∙ returned;
+          level = count_from (same none_began);
+        },
+      )
+
+-- ---- on the store that the desk holds
+
+same_standing : (desk : DeskId) (p q : Pass) → Remembers p q → book_of desk q ≡ book_of desk p
+same_standing desk p q r = λ i. record { state = state_of desk (r.seen i); draft = (r.mark i).draft; log = reverse (r.seen i) }
+
+pub hosts : {In Out K : Type 0} (ends : BothEnds In Out) (service : Service) (a b : Heard (In × Out)) (desk : DeskId) (p q : Pass) (old new : Stored K) (paused : Type 0) (end : Served)
+    → desk.opened ≡ opened_of old → (desk.begun ≡ reverse old.book.log) × (seen p ≡ desk.begun) → book_of desk p ≡ old.book → mark_of p ≡ old.mark → IsReady desk q → new.book ≡ book_of desk q → new.mark ≡ mark_of q
+    → Comes (WorksOn ends service a b desk p q) (Remembers p q × paused) service a b end → Comes (Hosts ends service a b old new) (IsAsBefore old new × paused) service a b end
+hosts {In} {Out} {K} ends service a b desk p q old new paused end opened begun book mark ready left_book left_mark c =
+    comes_on (WorksOn ends service a b desk p q) (Hosts ends service a b old new) (Remembers p q × paused) (IsAsBefore old new × paused) service a b end served spared c
+  where
+    served : WorksOn ends service a b desk p q → Hosts ends service a b old new
+    served works = record {
+      desk = desk;
+      first = p;
+      last = q;
+      opened = opened;
+      begun = begun.0;
+      saw = begun.1;
+      works = works;
+      legal = ready.legal;
+      starts = ready.starts;
+      log_is = ap (λ (x : Book). x.log) left_book;
+      fault_is = ap (λ (x : Mark). x.fault) left_mark;
+    }
+
+    spared : Remembers p q × paused → IsAsBefore old new × paused
+    spared r = (record { book = left_book ∙ same_standing desk p q r.0 ∙ book; mark = left_mark ∙ r.0.mark ∙ mark }, r.1)
+
+-- ---- on the disk of the journal
+
+-- a book that payloads lead to has the limits of the one from which they start
+book_by : (b : Bool) (x next : Book) → (if b then Some x else None) ≡ Some next → x ≡ next
+book_by true x next is = let same : x ≡ next = cc in same
+book_by false x next is = absurd cc
+
+next_limits : (book next : Book) (reading : Result LogEntry FieldFault) → read_next sha256 book reading ≡ Some next → next.state.limits ≡ book.state.limits
+unfolding next_book
+next_limits book next (Err fault) is = absurd cc
+next_limits book next (Ok e) is =
+    ap (λ (b : Book). b.state.limits) (sym (book_by (is_legal sha256 book e) (after_call book (replayed_call sha256 book e)) next is)) ∙ replayed_limits sha256 book e
+
+limits_by : (o : Option Book) (place : ℕ) (rest : Book → Result Book ℕ) (end : Book) (limits : Limits) → ((b : Book) → o ≡ Some b → b.state.limits ≡ limits) → ((b : Book) → rest b ≡ Ok end → end.state.limits ≡ b.state.limits)
+    → (or_at place o >>= rest) ≡ Ok end → end.state.limits ≡ limits
+limits_by None place rest end limits first more e = absurd cc
+limits_by (Some b) place rest end limits first more e = more b e ∙ first b refl
+
+limits_of : (book end : Book) (place : ℕ) (ps : List (List ℕ)) → replayed sha256 book place ps ≡ Ok end → end.state.limits ≡ book.state.limits
+limits_of book end place [] e = let same : book ≡ end = cc in ap (λ (b : Book). b.state.limits) (sym same)
+limits_of book end place (p ∷ ps) e =
+    limits_by _ (place + 1) (λ next. replayed sha256 next (place + 1) ps) end book.state.limits (λ b is. next_limits book b _ is) (λ b is. limits_of b end (place + 1) ps is) e
+
+if_fault : (fault : Option FailedAppend) (P : FailedAppend → Type 0) → ((x : FailedAppend) → fault ≡ Some x → P x) → IfSome fault P
+if_fault None P so = tt
+if_fault (Some x) P so = so x refl
+
+-- the store of a journal's catalogue came back, and its disk was given back
+module _ {In Out D K : Type 0} (ends : BothEnds In Out) (service : Service) (a b : Heard (In × Out)) (told : D → Option (List ℕ)) (may_leave : D → List ℕ → Type 0) (moment : D → ℕ) (left_since : D → ℕ → List ℕ → Type 0)
+    (down : K → Option ℕ) (in_flight : K → Option (List ℕ)) (since least : ℕ) (early : List ℕ → Type 0) (disk again : D) (old new : Stored K)
+    (stored : IsStored (told disk) old.book (down old.keeper)) (began : old.began ≡ 0) (up : old.mark.fault ≡ None)
+    (begun : IsBegun since least early (told disk) (moment disk) (may_leave disk))
+    (fallen : down new.keeper ≡ option_map (λ (x : FailedAppend). x.count) new.mark.fault)
+    (flies : in_flight new.keeper ≡ option_map (λ (x : FailedAppend). x.payload) new.mark.fault)
+    (holds : HoldsLog in_flight new.keeper new.book (told again))
+    (leaves : KeepsThrough since least early (may_leave again) (left_since again) in_flight new.keeper new.book (told again)) where
+  hosted : (to : ℕ → Type 0) → ((x : FailedAppend) → new.mark.fault ≡ Some x → to x.count) → Hosts ends service a b old new → Hosted ends to service a b (told disk) (told again) (images_of may_leave moment left_since disk again)
+  hosted to counted h =
+      let added = h.starts.0 in
+      let grows : seen h.last ≡ reverse old.book.log ++ added = h.starts.1 ∙ ap (λ (l : List LogEntry). l ++ added) h.begun in
+      let log : spellings (reverse new.book.log) ≡ stored.payloads ++ spellings added =
+      ap (λ (l : List LogEntry). spellings (reverse l)) h.log_is
+      ∙ ap spellings (reverse-reverse (seen h.last) ∙ grows)
+      ∙ map-append spelling (reverse old.book.log) added
+      ∙ ap (λ (l : List (List ℕ)). l ++ spellings added) (sym stored.spelled) in
+      let flying : in_flight new.keeper ≡ flying_at h.last = flies ∙ ap (option_map (λ (x : FailedAppend). x.payload)) h.fault_is in
+      let limits : old.book.state.limits ≡ program_limits = limits_of (first_book sha256 program_limits) old.book 0 stored.payloads stored.begins.led in
+      record {
+        payloads = stored.payloads;
+        book = old.book;
+        begins = stored.begins;
+        desk = h.desk;
+        first = h.first;
+        last = h.last;
+        opened = h.opened ∙ (λ i. record { state = first_state sha256 (limits i); draft = 0; faults = began i });
+        begun = h.begun;
+        saw = h.saw;
+        works = h.works;
+        sessions = all_begin ends h.desk service.attempts service.workers a.tells a.waiting b.waiting a.returned b.returned a.rejoined b.rejoined h.first h.last h.works.serves;
+        legal = h.legal;
+        added = added;
+        grows = grows;
+        keeps =
+            subst (λ (l : List (List ℕ)). IfSome (told again) (Holds l (flying_at h.last))) log
+            (subst (λ (f : Option (List ℕ)). IfSome (told again) (Holds (spellings (reverse new.book.log)) f)) flying holds);
+        crash =
+            survives since least early (told disk) (told again) (moment disk) (may_leave disk) (may_leave again) (left_since again) stored.payloads (spellings added) (spellings (reverse new.book.log)) (flying_at h.last)
+            begun stored.begins.recovers log (subst (λ (f : Option (List ℕ)). IfSome (told again) (LeavesLog since least early (may_leave again) (left_since again) (spellings (reverse new.book.log)) f)) flying leaves);
+        cause = if_fault (mark_of h.last).fault (λ f. to f.count) (λ x is. counted x (h.fault_is ∙ is));
+      }
+
+  opened_only : (paused : Type 0) → IsAsBefore old new × paused → OpenedOnly paused (told disk) (told again) (images_of may_leave moment left_since disk again)
+  opened_only paused s =
+      let none : new.mark.fault ≡ None = ap (λ (m : Mark). m.fault) s.0.mark ∙ up in
+      let stands : IsStored (told disk) new.book (down new.keeper) = record {
+        payloads = stored.payloads;
+        begins = subst (Begins (told disk) stored.payloads) (sym s.0.book) stored.begins;
+        spelled = stored.spelled ∙ ap (λ (x : Book). spellings (reverse x.log)) (sym s.0.book);
+        up = fallen ∙ ap (option_map (λ (x : FailedAppend). x.count)) none;
+      } in (
+        new.book,
+        opens told may_leave moment left_since down in_flight since least early disk again new stands (flies ∙ ap (option_map (λ (x : FailedAppend). x.payload)) none) begun holds leaves,
+        s.1,
+      )
+
+  -- by how serving ended
+  pub comes_down : (paused : Type 0) (to : ℕ → Type 0) (end : Served) → ((x : FailedAppend) → new.mark.fault ≡ Some x → to x.count) → Comes (Hosts ends service a b old new) (IsAsBefore old new × paused) service a b end
+      → Comes (Hosted ends to service a b (told disk) (told again) (images_of may_leave moment left_since disk again)) (OpenedOnly paused (told disk) (told again) (images_of may_leave moment left_since disk again)) service a b end
+  comes_down paused to end counted c = comes_on _ _ _ _ service a b end (hosted to counted) (opened_only paused) c

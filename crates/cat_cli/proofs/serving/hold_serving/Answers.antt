@@ -1,0 +1,16 @@
+use Rattle.std.proofs.Common.{ℕ, ◌≤◌, subst}
+use Rattle.cat_io.specs.Causes.{Rose}
+use Rattle.cat_cli.proofs.HostedStores.{hosts}
+use Rattle.cat_cli.proofs.Left.{began_on}
+use Rattle.cat_cli.proofs.serving.hold_serving.Goals as goal
+
+pub returns-in-Ok-clause-comes : goal.returns-in-Ok-clause-comes
+returns-in-Ok-clause-comes g c =
+    hosts _ _ _ _ c.in-Ok.desk c.in-Ok.pass c.serve_at-end.new.pass c.args.store c.release-store.result _ c.serve_at-end.result c.in-Ok.ensures.opened c.in-Ok.ensures.begun c.in-Ok.ensures.book c.in-Ok.ensures.mark
+    c.serve_at-end.ensures.ready c.release-store.ensures.book c.release-store.ensures.mark c.serve_at-end.ensures.comes
+
+pub returns-in-Ok-clause-counted : goal.returns-in-Ok-clause-counted
+returns-in-Ok-clause-counted g c x is =
+    let store = c.release-store.result in
+    let began = began_on c.args.store store _ c.in-Ok.ensures.opened c.release-store.ensures.opened in
+    subst (λ (n : ℕ). Rose n x.count × (x.count ≤ g.K0.Keeper.faults store.keeper)) began (c.log_is_kept.ensures.counted x is)
