@@ -1,7 +1,7 @@
 #!/usr/bin/env python3
 """Compares the program's replies with the plain rules', on random sessions.
 
-    compare.py SEED SESSIONS [--program FILE] [--requests N] [--seconds N] [--record FILE]
+    compare.py SEED SESSIONS [--program FILE] [--requests N] [--seconds N] [--record FILE] [--serve]
 
 Each session starts a new journal, sends requests one by one to `nessie script`,
 and compares each reply's bytes with the rules'. The time of a commit is asked of
@@ -9,6 +9,7 @@ the program, by a history of the commit that its reply names. At times the progr
 is ended and started again on the same journal. At the end the journal's bytes and
 the line of `nessie check` are compared too, and a row of reads that is sent at once.
 The first difference of each kind is printed, with the request and both replies.
+With --serve the requests go over TCP to `nessie serve`, on one connection.
 """
 
 import argparse
@@ -29,6 +30,7 @@ import catalogue as rules
 import journal
 import random_requests
 import replies
+import served
 
 WAIT = 60
 
@@ -40,9 +42,13 @@ class Stopped(Exception):
 class Program:
     """A running `nessie script`, talked to request by request."""
 
-    def __init__(self, program, path, before=None):
-        self.child = subprocess.Popen([program, "script", path], stdin=subprocess.PIPE,
-                                      stdout=subprocess.PIPE, bufsize=0, preexec_fn=before)
+    def __init__(self, program, path, before=None, serve=False):
+        self.serve = serve
+        if serve:
+            self.child = served.Child(program, path, WAIT)
+        else:
+            self.child = subprocess.Popen([program, "script", path], stdin=subprocess.PIPE,
+                                          stdout=subprocess.PIPE, bufsize=0, preexec_fn=before)
         self.held = b""
         self.sent = 0
 
@@ -58,6 +64,8 @@ class Program:
     def send(self, request):
         self.sent += 1
         self.child.stdin.write(request)
+        if self.serve:
+            self.child.stdin.between = True
 
     def reply(self, has_body):
         while b"\r\n\r\n" not in self.held:
@@ -139,7 +147,7 @@ class Comparison:
             self.lines = [line_of(c)]
             self.recorded.append([])
             count = rng.choice([40, 120, 250, self.options.requests])
-            program = Program(self.options.program, path)
+            program = Program(self.options.program, path, serve=self.options.serve)
             alive = True
             for number in range(count):
                 if alive and program.sent >= 990 or rng.random() < 0.004:
@@ -147,7 +155,7 @@ class Comparison:
                     self.extra["restarts"] += 1
                     if rest or status:
                         self.difference("end of a session", (seed, number), None, (b"", 0), (rest, status))
-                    program = Program(self.options.program, path)
+                    program = Program(self.options.program, path, serve=self.options.serve)
                     c.opened()
                     self.note(None)
                 if not self.step(seed, number, maker, side, program):
@@ -428,6 +436,7 @@ def main():
     parser.add_argument("--requests", type=int, default=600)
     parser.add_argument("--seconds", type=int, default=10 ** 9)
     parser.add_argument("--record", help="a file that requests and replies are kept in, for sensitivity.py")
+    parser.add_argument("--serve", action="store_true")
     options = parser.parse_args()
     options.program = os.path.abspath(options.program)
     comparison = Comparison(options)
