@@ -154,7 +154,7 @@ def memory_room(cases, folder):
         if not shutil.which("prlimit") or server.memory("VmSize") > 1 << 30:
             cases.left_out("want of memory", "prlimit is missing, or the program is one with a sanitizer")
             return
-        limited(server, server.memory("VmSize") * 1024 + 3_000_000)
+        limited(server, server.memory("VmSize") * 1024 + 30_000_000)
         came = []
         while len(came) < 400 and sum(one != 200 for one in came) < 5:
             came.append(asked_alone(server, post(COMMIT, commit("more", put(f"more{len(came)}", "x" * 900_000)))))
