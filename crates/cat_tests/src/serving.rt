@@ -29,6 +29,17 @@ const CONFIG: &[u8] =
 /// The reply to a change that was accepted, as far as its place.
 const ACCEPTED: &[u8] = b"HTTP/1.1 200 OK\r\nContent-Type: application/json\r\nCatalogue-Place: ";
 
+/// A branch each at the head of `main`, and a commit of a new table to it.
+const ON_BRANCHES: [&str; 4] = [
+    "POST /api/v2/trees?name=b1&type=BRANCH HTTP/1.1\r\nContent-Length: 31\r\n\r\n{\"type\":\"BRANCH\",\"name\":\"main\"}POST /api/v2/trees/b1/history/commit HTTP/1.1\r\nContent-Length: 201\r\n\r\n{\"commitMeta\":{\"message\":\"one\"},\"operations\":[{\"type\":\"PUT\",\"key\":{\"elements\":[\"t1\"]},\"content\":{\"type\":\"ICEBERG_TABLE\",\"metadataLocation\":\"p\",\"snapshotId\":1,\"schemaId\":0,\"specId\":0,\"sortOrderId\":0}}]}",
+    "POST /api/v2/trees?name=b2&type=BRANCH HTTP/1.1\r\nContent-Length: 31\r\n\r\n{\"type\":\"BRANCH\",\"name\":\"main\"}POST /api/v2/trees/b2/history/commit HTTP/1.1\r\nContent-Length: 201\r\n\r\n{\"commitMeta\":{\"message\":\"one\"},\"operations\":[{\"type\":\"PUT\",\"key\":{\"elements\":[\"t1\"]},\"content\":{\"type\":\"ICEBERG_TABLE\",\"metadataLocation\":\"p\",\"snapshotId\":1,\"schemaId\":0,\"specId\":0,\"sortOrderId\":0}}]}",
+    "POST /api/v2/trees?name=b3&type=BRANCH HTTP/1.1\r\nContent-Length: 31\r\n\r\n{\"type\":\"BRANCH\",\"name\":\"main\"}POST /api/v2/trees/b3/history/commit HTTP/1.1\r\nContent-Length: 201\r\n\r\n{\"commitMeta\":{\"message\":\"one\"},\"operations\":[{\"type\":\"PUT\",\"key\":{\"elements\":[\"t1\"]},\"content\":{\"type\":\"ICEBERG_TABLE\",\"metadataLocation\":\"p\",\"snapshotId\":1,\"schemaId\":0,\"specId\":0,\"sortOrderId\":0}}]}",
+    "POST /api/v2/trees?name=b4&type=BRANCH HTTP/1.1\r\nContent-Length: 31\r\n\r\n{\"type\":\"BRANCH\",\"name\":\"main\"}POST /api/v2/trees/b4/history/commit HTTP/1.1\r\nContent-Length: 201\r\n\r\n{\"commitMeta\":{\"message\":\"one\"},\"operations\":[{\"type\":\"PUT\",\"key\":{\"elements\":[\"t1\"]},\"content\":{\"type\":\"ICEBERG_TABLE\",\"metadataLocation\":\"p\",\"snapshotId\":1,\"schemaId\":0,\"specId\":0,\"sortOrderId\":0}}]}",
+];
+
+/// What ends the reply to such a commit.
+const COMMITTED: &[u8] = b"\"type\":\"BRANCH\"}}";
+
 /// Connections with a request each, and the numbers of the calls that fail.
 fn list_of(
     alloc: Global,
@@ -151,6 +162,36 @@ fn commits_to_one_branch_at_once_are_all_accepted(rt: HostRuntime) -> Result<(),
         found |= places(group.as_slice());
     }
     assert!(rt; found == 0b11110);
+    Ok(())
+}
+
+/// Whether each connection was told of a branch that was made, and of a commit to it.
+fn have_committed(connections: &[(MemorySource, MemorySink)]) -> bool {
+    for (_, sink) in connections {
+        let told = sink.bytes();
+        if told.len() < 400 || !told.starts_with(ACCEPTED) || !told.ends_with(COMMITTED) {
+            return false;
+        }
+    }
+    true
+}
+
+#[test]
+fn commits_to_four_branches_at_once_are_all_accepted(rt: HostRuntime) -> Result<(), Fail> {
+    let alloc = rt.alloc();
+    let [first, second, third, fourth] = ON_BRANCHES;
+    let lists = vec![in alloc;
+        list_of(alloc, &[second], &[])?,
+        list_of(alloc, &[third], &[])?,
+        list_of(alloc, &[fourth], &[])?,
+    ]?;
+    let mut listener = MemoryListener::new(alloc, list_of(alloc, &[first], &[])?, lists)?;
+    let served = serve(&rt, alloc, &mut listener, 4);
+    assert!(rt; matches!(served, Served::End));
+    assert!(rt; listener.returned().len() == 1 && have_committed(listener.returned()));
+    for group in listener.rejoined() {
+        assert!(rt; group.len() == 1 && have_committed(group.as_slice()));
+    }
     Ok(())
 }
 
