@@ -1,5 +1,5 @@
 -- The rule holds of a desk that is made.
-use Rattle.std.proofs.Common.{◌≡◌, ℕ, zero, suc, ◌<◌, List, [], ◌∷◌, length, sym, refl, subst, arith, None, le_refl}
+use Rattle.std.proofs.Common.{◌≡◌, ℕ, zero, suc, ◌<◌, List, [], ◌∷◌, length, replicate, sym, refl, subst, arith, None, le_refl}
 use mathlib.Core.Option.{some, some-injective, some-ne-none}
 use lib.ListN.{get_elem?}
 use Rattle.atomic_table.specs.Table.{opening}
@@ -15,7 +15,7 @@ use Rattle.cat_desk.proofs.Logs.{both_itself, missed_none, since_none}
 use Rattle.cat_desk.proofs.Marks.{linked_self, given_self}
 
 module _ {V : Type 0} (log : V → List LogEntry) (opened : V → Opened) (legal : Opened → List LogEntry → Type 0) (mark : V → Mark) (left_open : V → Open) (key : V) where
-  pub opens : (c : ℕ) → legal (opened key) (log key) → left_open key ≡ nothing_open → c ≡ length (log key) → c < 4294967296 → Kept log opened legal mark left_open key (opening (c ∷ 1 ∷ 0 ∷ []) (None ∷ []) (newcomer log opened mark left_open key))
+  pub opens : (c : ℕ) → legal (opened key) (log key) → left_open key ≡ nothing_open → c ≡ length (log key) → c < 4294967296 → Kept log opened legal mark left_open key (opening (c ∷ 1 ∷ replicate 65 0) (None ∷ []) (newcomer log opened mark left_open key))
   opens c ok none_open is small = record {
     all = log key;
     tickets = 1;
@@ -27,7 +27,7 @@ module _ {V : Type 0} (log : V → List LogEntry) (opened : V → Opened) (legal
     marks = λ _. mark key;
     opens = left_open key;
     place = unborn;
-    three = refl;
+    wide = refl;
     count = is;
     small = omega arith;
     drawn = refl;
