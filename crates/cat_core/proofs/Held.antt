@@ -18,7 +18,7 @@ use Rattle.cat_model.specs.Naming.{names_of}
 use Rattle.cat_model.specs.Later.{IsLater}
 use Rattle.cat_model.specs.State.{State, first_state}
 use Rattle.cat_model.specs.Step.{opening}
-use Rattle.cat_ledger.specs.Making.{taking}
+use Rattle.cat_core.specs.Making.{taking}
 use Rattle.cat_core.specs.declared.draft.Draft.{Draft}
 use Rattle.cat_core.specs.declared.tickets.Fallen.{Fallen}
 use Rattle.cat_core.specs.declared.tickets.OpenDraft.{OpenDraft}

@@ -12,8 +12,8 @@ use Rattle.cat_model.specs.Refusing.{Outcome, Tested}
 use Rattle.cat_model.specs.State.{State}
 use Rattle.cat_model.specs.Step.{Turn, head_told, opening, step}
 use Rattle.cat_model.specs.WellMade.{is_well_made}
-use Rattle.cat_ledger.specs.HeadLaws.{TellsHead, step_tells}
-use Rattle.cat_ledger.specs.LoggedLaws.{IsDraftOf, call_is_logged}
+use Rattle.cat_core.specs.HeadLaws.{TellsHead, step_tells}
+use Rattle.cat_core.specs.LoggedLaws.{IsDraftOf, call_is_logged}
 
 -- ---- an entry that is made has a spelling
 

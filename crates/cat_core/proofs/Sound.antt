@@ -21,8 +21,8 @@ use Rattle.cat_model.specs.State.{State, first_state}
 use Rattle.cat_model.specs.Step.{Turn, opening, opens_draft, step}
 use Rattle.cat_model.specs.Turns.{Opened}
 use Rattle.cat_model.specs.WellMade.{is_well_made}
-use Rattle.cat_ledger.specs.declared.logging.Turn as ledger
-use Rattle.cat_ledger.specs.Occasions.{Occasion, left_on, made_on, opened_on}
+use Rattle.cat_core.specs.declared.ledger.logging.Turn as ledger
+use Rattle.cat_core.specs.Occasions.{Occasion, left_on, made_on, opened_on}
 use Rattle.cat_core.proofs.Waiting.{waiting_on}
 use Rattle.cat_core.specs.Stored.{AreWaiting, IsNumberOfNone, IsSound}
 
