@@ -1,6 +1,7 @@
 -- What was decided of a call that is well made may be carried out.
 use Rattle.std.proofs.Common.{◌≡◌, ◌+◌, false, true, is_some, Result, Ok, Err, IfErr, subst}
 use Rattle.sha2.specs.Sha256.{sha256}
+use Rattle.cat_checks.specs.LeadingLaws.{TellsHead, step_tells}
 use Rattle.cat_model.specs.declared.command.Command.{Command}
 use Rattle.cat_model.specs.Book.{Book}
 use Rattle.cat_model.specs.Refusing.{Outcome}
@@ -16,14 +17,13 @@ use Rattle.cat_decisions.specs.Expiring.{fails_expired}
 use Rattle.cat_state.specs.declared.failure.Failure.{Failure}
 use Rattle.cat_core.specs.declared.ledger.logging.Turn.{Turn}
 use Rattle.cat_core.specs.Deciding.{IsDecided, MayBeLogged, made_entry}
-use Rattle.cat_core.specs.HeadLaws.{TellsHead, step_tells}
 use Rattle.cat_core.specs.LoggedLaws.{IsDraftOf, call_is_logged}
 use Rattle.cat_core.specs.Occasions.{begun, turned_step}
 
 -- the entry of a change
 made_logged : (book : Book) (turn : Turn) (command : Command) (m : Making) → is_well_made sha256 command ≡ true → IsDraftOf command turn.draft → IsMaking turn.draft book.state command (turned_step book turn command) m → is_logged sha256 (made_entry book turn m) ≡ true
 made_logged book turn command m made own makes =
-    let head : is_some (head_told m.reply) ≡ true = subst (λ (o : Outcome). TellsHead o) makes.step (step_tells book.state command (begun book turn)) in
+    let head : is_some (head_told m.reply) ≡ true = subst (λ (o : Outcome). TellsHead o) makes.step (step_tells sha256 book.state command (begun book turn)) in
     rw (makes.command, makes.head) (call_is_logged (book.state.place + 1) turn.caller turn.draft turn.moment command m.reply made own head)
 
 logged : (book : Book) (turn : Turn) (command : Command) (decided : Result Decision Failure) → is_well_made sha256 command ≡ true → IsDraftOf command turn.draft → Decides turn.draft book.state command (turned_step book turn command) decided → MayBeLogged book turn decided

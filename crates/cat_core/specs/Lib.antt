@@ -4,7 +4,6 @@ pub mod Deciding
 pub mod Remaking
 pub mod PlainLaws
 pub mod UsualLaws
-pub mod HeadLaws
 pub mod LoggedLaws
 pub mod Stored
 pub mod Drafts
