@@ -1,6 +1,6 @@
 //! The calls of entries, made again.
 
-ghost use Rattle.std.specs.Prelude.{◌≡◌, false, IsTrue};
+ghost use Rattle.std.specs.Prelude.{IsTrue};
 ghost use Rattle.sha2.specs.Sha256.{sha256};
 ghost use Rattle.cat_checks.specs.Legal.{has_its_draft, replayed_call};
 ghost use Rattle.cat_model.specs.Step.{opens_draft};
