@@ -37,7 +37,7 @@ use Rattle.cat_model.specs.WellMade.{have_contents, is_well_made, may_be_asked}
 use Rattle.cat_frames.specs.Entries.{log_entry_code, of_nobody}
 use Rattle.cat_checks.specs.GivenLaws.{given_once, request_once, well_made_again}
 use Rattle.cat_checks.specs.Histories.{after_entry}
-use Rattle.cat_checks.specs.Legal.{are_spelled_alike, draft_after, draft_is_new, has_its_draft, is_just, is_legal, replayed_by, replayed_call}
+use Rattle.cat_checks.specs.Legal.{IsLegal, are_spelled_alike, draft_after, draft_is_new, has_its_draft, is_just, is_legal, replayed_by, replayed_call}
 pub use Rattle.cat_checks.specs.LeadingLaws.{logged_place}
 
 -- ---- tests in turn
@@ -267,7 +267,7 @@ pub accepted_is_legal : (caller : ℕ) (book : Book) (command : Command) (turn :
     → draft_is_new book.log turn.draft ≡ true
     → step sha256 book.state command turn ≡ Ok (after, reply)
     → nat_lt book.state.place after.place ≡ true
-    → (is_legal sha256 book (entry_made sha256 caller after command turn reply) ≡ true)
+    → IsLegal sha256 book (entry_made sha256 caller after command turn reply)
     × ((replayed_call sha256 book (entry_made sha256 caller after command turn reply)).state ≡ after)
 unfolding is_legal entry_made
 accepted_is_legal caller book command turn after reply made own new e rose =
@@ -276,9 +276,11 @@ accepted_is_legal caller book command turn after reply made own new e rose =
     let when : Turn = record turn { opened = book.state.place } in
     let brings = brought_again sha256 caller book command turn after reply made e rose in
     let drafted : has_its_draft entry ≡ true = ap (λ (opened : Bool). if opened then not (nat_eq turn.draft 0) else nat_eq turn.draft 0) (logged_opens sha256 turn.draft command) ∙ own in
-    let just : is_just sha256 entry (replayed_call sha256 book entry).logged ≡ true =
-    ap (λ (c : Called). is_just sha256 entry c.logged) brings ∙ spelled_alike sha256 (entry_made sha256 0 after logged when reply) entry (entry_again sha256 caller after command turn book.state.place reply made) in
-    (both_true _ _ (both_true _ _ (both_true _ _ (logged_is_made sha256 turn.draft command made) drafted) new) just, ap (λ (c : Called). c.state) brings)
+    let again : of_nobody (entry_made sha256 0 after logged when reply) ≡ of_nobody entry = entry_again sha256 caller after command turn book.state.place reply made in
+    let just : is_just sha256 entry (replayed_call sha256 book entry).logged ≡ true = ap (λ (c : Called). is_just sha256 entry c.logged) brings ∙ spelled_alike sha256 (entry_made sha256 0 after logged when reply) entry again in
+    let itself : (replayed_call sha256 book entry).logged ≡ of_nobody entry ∷ [] = ap (λ (c : Called). c.logged) brings ∙ ap (λ (e : LogEntry). e ∷ []) again in
+    let tests : is_legal sha256 book entry ≡ true = both_true _ _ (both_true _ _ (both_true _ _ (logged_is_made sha256 turn.draft command made) drafted) new) just in
+    (record { legal = tests; logged = itself }, ap (λ (c : Called). c.state) brings)
 
 -- the last draft number after an entry of this draft
 pub accepted_drafts : (digest : Digest) (caller : ℕ) (book : Book) (command : Command) (turn : Turn) (after : State) (reply : Reply) → (after_entry digest book (entry_made digest caller after command turn reply)).draft ≡ max book.draft turn.draft

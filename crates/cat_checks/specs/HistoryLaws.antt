@@ -1,18 +1,21 @@
 -- Laws of histories: logs that go on, what stays, what grows, and drafts that are new.
-use Rattle.std.proofs.Common.{◌≡◌, ℕ, ◌+◌, ◌<◌, ◌≤◌, max, List, [], ◌∷◌, ◌++◌, reverse, length, codes, true, false, not, nat_eq, refl, sym, ap, ◌∙◌, append_assoc, ne_eqb, arith}
+use Rattle.std.proofs.Common.{◌≡◌, ℕ, zero, suc, ◌+◌, ◌<◌, ◌≤◌, max, List, [], ◌∷◌, ◌++◌, reverse, length, codes, true, false, not, nat_eq, nat_lt, refl, sym, ap, ◌∙◌, append_assoc, ne_eqb, arith}
 use Rattle.std.specs.List.{list_any}
 use Rattle.std.proofs.Math.Nat.{le-max_left, le-max_right}
 use Rattle.std.proofs.lemmas.Bool.{or_right}
+use Rattle.std.proofs.lemmas.Bool.Decides.{nat_tests}
 use Rattle.std.proofs.lemmas.Grind.{reverse_onto}
+use Rattle.sha2.specs.Sha256.{sha256}
 use Rattle.cat_model.specs.declared.limits.Limits.{Limits}
 use Rattle.cat_model.specs.declared.log_entry.LogEntry.{LogEntry}
 use Rattle.cat_model.specs.declared.reference.Kind.TheVariants.{Branch}
 use Rattle.cat_model.specs.Book.{Book}
 use Rattle.cat_model.specs.Later.{IsLater}
 use Rattle.cat_model.specs.State.{Digest, first_state, no_ancestor}
-use Rattle.cat_checks.specs.Histories.{AreLegal, after_entry, book_after}
+use Rattle.cat_model.specs.Turns.{Opened}
+use Rattle.cat_checks.specs.Histories.{AreAbove, AreLegal, IsLegalFrom, after_entry, begun, book_after}
 use Rattle.cat_checks.specs.LeadingLaws.{legal_place, replayed_later, replayed_limits, replayed_upholds}
-use Rattle.cat_checks.specs.Legal.{draft_is_new}
+use Rattle.cat_checks.specs.Legal.{draft_is_above, draft_is_new}
 use Rattle.cat_checks.specs.Upheld.{Upholds}
 pub use Rattle.cat_checks.specs.LeadingLaws.{later_on, later_self, step_later}
 
@@ -34,6 +37,14 @@ pub legal_back : (digest : Digest) (b : Book) (xs ys : List LogEntry) → AreLeg
 legal_back digest b [] ys legal = legal
 legal_back digest b (x ∷ xs) ys legal = legal_back digest (after_entry digest b x) xs ys legal.1
 
+above_front : (last : ℕ) (xs ys : List LogEntry) → AreAbove last (xs ++ ys) → AreAbove last xs
+above_front last [] ys above = tt
+above_front last (x ∷ xs) ys above = (above.0, above_front last xs ys above.1)
+
+-- what a log began with is legal where the log is
+pub begins_legal : (o : Opened) (xs ys : List LogEntry) → IsLegalFrom o (xs ++ ys) → IsLegalFrom o xs
+begins_legal o xs ys is = record { legal = legal_front sha256 (begun o) xs ys is.legal; above = above_front o.draft xs ys is.above }
+
 -- ---- what the book after them has
 
 -- the book's log has the newest first
@@ -52,7 +63,7 @@ pub place_is : (digest : Digest) (b : Book) (xs : List LogEntry) → AreLegal di
 place_is digest b [] legal = omega arith
 place_is digest b (x ∷ xs) legal =
     let rest : (book_after digest b (x ∷ xs)).state.place ≡ (after_entry digest b x).state.place + length xs = place_is digest (after_entry digest b x) xs legal.1 in
-    let first : (after_entry digest b x).state.place ≡ b.state.place + 1 = legal_place digest b x legal.0 in
+    let first : (after_entry digest b x).state.place ≡ b.state.place + 1 = legal_place digest b x legal.0.legal in
     omega arith
 
 -- nothing is taken away, whether or not the entries are legal
@@ -118,6 +129,15 @@ new_above n draft log are above = or_right (nat_eq draft 0) _ (ap not (none_has 
 
 pub new_above_reversed : (n draft : ℕ) (log : List LogEntry) → AreAtMost n log → n < draft → draft_is_new (reverse log) draft ≡ true
 new_above_reversed n draft log are above = new_above n draft (reverse log) (at_most_reverse n log are) above
+
+above_none : (draft : ℕ) → draft_is_above 0 draft ≡ true
+above_none zero = refl
+above_none (suc n) = let above : nat_lt 0 (suc n) ≡ true = grind (arith, nat_tests) in or_right (nat_eq (suc n) 0) _ above
+
+-- where no number was taken before, each is above
+pub all_above : (entries : List LogEntry) → AreAbove 0 entries
+all_above [] = tt
+all_above (e ∷ entries) = (above_none e.draft, all_above entries)
 
 -- no draft in a book's log is above its last draft number
 abbrev pub HasItsDrafts : Book → Type 0

@@ -1,5 +1,5 @@
--- Where steps lead: to the state itself, or to the next place, where all that was there is still there, and what a state upholds is upheld.
-use Rattle.std.proofs.Common.{◌≡◌, ℕ, ◌+◌, ◌<◌, ◌⊎◌, inl, inr, ⊎_elim, List, [], ◌∷◌, ◌++◌, length, map, filter_map, Option, Some, None, Result, Ok, Err, Bool, true, false, not, ◌||◌, nat_lt, if◌then◌else◌, refl, sym, ap, ◌∙◌, subst, append_assoc, ltb-true, arith}
+-- What accepted steps tell and where they lead: to the state itself, or, with a change that is told, to the next place, where all that was there is still there, and what a state upholds is upheld.
+use Rattle.std.proofs.Common.{◌≡◌, ℕ, ◌+◌, ◌<◌, ◌⊎◌, inl, inr, ⊎_elim, List, [], ◌∷◌, ◌++◌, length, map, filter_map, Option, Some, None, Result, Ok, Err, Bool, true, false, not, ◌||◌, nat_lt, is_some, if◌then◌else◌, refl, sym, ap, ◌∙◌, subst, append_assoc, ltb-true, arith}
 use Rattle.std.specs.List.{list_any}
 use Rattle.std.specs.Str.{bytes_eq}
 use Rattle.cat_codes.specs.ListLaws.{and_true}
@@ -37,8 +37,9 @@ use Rattle.cat_model.specs.Moves.{needs_contents, needs_head, needs_log, needs_n
 use Rattle.cat_model.specs.Records.{added, commit_bytes, content_bytes, with_commit, with_content, with_contents}
 use Rattle.cat_model.specs.Refusing.{◌>>=◌, Outcome, Tested, named, needs_kind, needs_room, needs_source_kind, perhaps_named, pointed}
 use Rattle.cat_model.specs.State.{Digest, State, commit_hash, content_hash}
-use Rattle.cat_model.specs.Step.{Turn, opening, step}
+use Rattle.cat_model.specs.Step.{Turn, head_told, opening, step}
 use Rattle.cat_model.specs.Transplants.{step_transplant, transplant_opening, transplant_planned}
+use Rattle.cat_checks.specs.Changes.{tells_change}
 use Rattle.cat_checks.specs.Legal.{draft_after, is_just, is_legal, replayed_by, replayed_call, turn_of}
 use Rattle.cat_checks.specs.MainLaws.{commit_branch, main_assigned, main_moved, main_with, main_without, merge_branch, passed, transplant_branch}
 use Rattle.cat_checks.specs.Upheld.{HasMain, Upholds}
@@ -152,8 +153,13 @@ plans_grow digest moment a head (p ∷ ps) =
 
 -- ---- steps
 
+-- an accepted step tells the head of a reference; it leaves the state, or leads on and tells of a change
+pub record IsStep (digest : Digest) (a : State) (x : State × Reply) : Type 0 where
+  pub head : is_some (head_told x.1) ≡ true
+  pub leads : (x.0 ≡ a) ⊎ (Follows digest a x.0 × (tells_change x.1 ≡ true))
+
 abbrev LeadsOn : Digest → State → Outcome → Type 0
-LeadsOn digest a (Ok x) = Leads digest a x.0
+LeadsOn digest a (Ok x) = IsStep digest a x
 LeadsOn digest a (Err why) = Unit {0}
 
 leads_bind : {A : Type 0} (digest : Digest) (a : State) (r : Result A Refusal) (f : A → Outcome) → ((x : A) → LeadsOn digest a (f x)) → LeadsOn digest a (r >>= f)
@@ -173,14 +179,21 @@ made_bind : (digest : Digest) (a : State) (r : Result (Hash × State) Refusal) (
 made_bind digest a (Ok x) f g h = h x g
 made_bind digest a (Err why) f g h = tt
 
--- one entry more, and other references
-next : (digest : Digest) (a b : State) (references : List Reference) → Grows digest a b → (HasMain b.references → HasMain references) → Leads digest a (record b { place = b.place + 1; references = references })
-next digest a b references g main = inr (record {
-  place = ap (λ (n : ℕ). n + 1) g.place;
-  limits = g.limits;
-  later = record { commits = g.later.commits; present = g.later.present };
-  upholds = λ u. let v = g.upholds u in record { main = main v.main; commits = v.commits; contents = v.contents };
-})
+-- one entry more, and other references, of which the reply tells
+next : (digest : Digest) (a b : State) (references : List Reference) (reply : Reply) → is_some (head_told reply) ≡ true → tells_change reply ≡ true → Grows digest a b → (HasMain b.references → HasMain references)
+    → IsStep digest a (record b { place = b.place + 1; references = references }, reply)
+next digest a b references reply head change g main =
+    let follows : Follows digest a (record b { place = b.place + 1; references = references }) = record {
+      place = ap (λ (n : ℕ). n + 1) g.place;
+      limits = g.limits;
+      later = record { commits = g.later.commits; present = g.later.present };
+      upholds = λ u. let v = g.upholds u in record { main = main v.main; commits = v.commits; contents = v.contents };
+    } in
+    record { head = head; leads = inr (follows, change) }
+
+-- the state as it was
+stays : (digest : Digest) (a : State) (reply : Reply) → is_some (head_told reply) ≡ true → IsStep digest a (a, reply)
+stays digest a reply head = record { head = head; leads = inl refl }
 
 not_true : (b : Bool) → not b ≡ true → b ≡ false
 not_true true e = absurd cc
@@ -195,7 +208,7 @@ create_leads digest a c =
     found_bind digest a (needs_new_name a c.name) _ (λ new fresh.
     leads_bind digest a (needs_room (length a.references) a.limits.references quantities.References) _ (λ u.
     leads_bind digest a (needs_log a) _ (λ u.
-    leads_bind digest a (needs_contents a hash) _ (λ u. next digest a a _ (grows_self digest a) (main_with a.references _ (passed _ _ new fresh)))))))))
+    leads_bind digest a (needs_contents a hash) _ (λ u. next digest a a _ _ refl refl (grows_self digest a) (main_with a.references _ (passed _ _ new fresh)))))))))
 
 assign_leads : (digest : Digest) (a : State) (c : Assign) → LeadsOn digest a (step_assign digest a c)
 unfolding step_assign
@@ -207,7 +220,7 @@ assign_leads digest a c =
     leads_bind digest a (pointed digest a source c.source.hash) _ (λ hash.
     leads_bind digest a (needs_log a) _ (λ u.
     leads_bind digest a (needs_head c.expected reference.head) _ (λ u.
-    leads_bind digest a (needs_contents a hash) _ (λ u. next digest a a _ (grows_self digest a) (main_assigned a c.name reference _ is refl refl)))))))))
+    leads_bind digest a (needs_contents a hash) _ (λ u. next digest a a _ _ refl refl (grows_self digest a) (main_assigned a c.name reference _ is refl refl)))))))))
 
 delete_leads : (digest : Digest) (a : State) (c : Delete) → LeadsOn digest a (step_delete a c)
 unfolding step_delete
@@ -216,7 +229,7 @@ delete_leads digest a c =
     found_bind digest a (needs_other_than_default c.name) _ (λ other test.
     leads_bind digest a (needs_kind c.kind reference) _ (λ u.
     leads_bind digest a (needs_log a) _ (λ u.
-    leads_bind digest a (needs_head c.expected reference.head) _ (λ u. next digest a a _ (grows_self digest a) (main_without a.references c.name (not_true _ (passed _ _ other test))))))))
+    leads_bind digest a (needs_head c.expected reference.head) _ (λ u. next digest a a _ _ refl refl (grows_self digest a) (main_without a.references c.name (not_true _ (passed _ _ other test))))))))
 
 commit_leads : (digest : Digest) (a : State) (c : CommitRequest) (draft moment : ℕ) → LeadsOn digest a (step_commit digest a c draft moment)
 unfolding step_commit
@@ -228,15 +241,15 @@ commit_leads digest a c draft moment =
     leads_bind digest a (needs_commit_room a (entries a.commits branch.head) (puts ops)) _ (λ u.
     leads_bind digest a (or_conflicts (judge (entries a.commits expected) (entries a.commits branch.head) ops)) _ (λ u.
     more_bind digest a (with_contents digest a contents) _ (contents_grow digest a contents) (λ held g.
-    more_bind digest a (with_commit digest held commit) _ (grew digest a held (with_commit digest held commit) g (commit_grows digest held commit)) (λ more grown. next digest a more _ grown (main_moved more.references _ (λ same. commit_branch digest a c (branch, expected) opened)))))))
+    more_bind digest a (with_commit digest held commit) _ (grew digest a held (with_commit digest held commit) g (commit_grows digest held commit)) (λ more grown. next digest a more _ _ refl refl grown (main_moved more.references _ (λ same. commit_branch digest a c (branch, expected) opened)))))))
 
-choice_leads : (digest : Digest) (a : State) (b : Bool) (x y : State × Reply) → Leads digest a x.0 → Leads digest a y.0 → Leads digest a (if b then x else y).0
+choice_leads : (digest : Digest) (a : State) (b : Bool) (x y : State × Reply) → IsStep digest a x → IsStep digest a y → IsStep digest a (if b then x else y)
 choice_leads digest a true x y p q = p
 choice_leads digest a false x y p q = q
 
-applied_leads : (digest : Digest) (a : State) (ancestor : Option Hash) (branch : Reference) (ps : List Planned) (made : Hash × State) (tried : Bool) → branch.kind ≡ Branch → Grows digest a made.1 → Leads digest a (applied a ancestor branch ps made tried).0
+applied_leads : (digest : Digest) (a : State) (ancestor : Option Hash) (branch : Reference) (ps : List Planned) (made : Hash × State) (tried : Bool) → branch.kind ≡ Branch → Grows digest a made.1 → IsStep digest a (applied a ancestor branch ps made tried)
 applied_leads digest a ancestor branch ps made tried kind g =
-    choice_leads digest a (tried || not (list_any (λ p. has_changes p.plan.ops) ps)) _ _ (inl refl) (next digest a made.1 _ g (main_moved made.1.references _ (λ same. kind)))
+    choice_leads digest a (tried || not (list_any (λ p. has_changes p.plan.ops) ps)) _ _ (stays digest a _ refl) (next digest a made.1 _ _ refl refl g (main_moved made.1.references _ (λ same. kind)))
 
 plans_lead : (digest : Digest) (a : State) (ancestor : Option Hash) (branch : Reference) (ps : List Planned) (tried : Bool) (opened moment : ℕ) → branch.kind ≡ Branch → LeadsOn digest a (step_applied digest a ancestor branch ps tried opened moment)
 unfolding step_applied
@@ -244,13 +257,13 @@ plans_lead digest a ancestor branch ps tried opened moment kind =
     leads_bind digest a (needs_set_contents a ps opened) _ (λ u.
     made_bind digest a (with_planned digest moment a branch.head (commits_made ps)) _ (plans_grow digest moment a branch.head (commits_made ps)) (λ made g. applied_leads digest a ancestor branch ps made tried kind g))
 
-clash_leads : (digest : Digest) (a : State) (b : Bool) (reply : Reply) (why : Refusal) → LeadsOn digest a (if b then Ok (a, reply) else Err why)
-clash_leads digest a true reply why = inl refl
-clash_leads digest a false reply why = tt
+clash_leads : (digest : Digest) (a : State) (b : Bool) (reply : Reply) (why : Refusal) → is_some (head_told reply) ≡ true → LeadsOn digest a (if b then Ok (a, reply) else Err why)
+clash_leads digest a true reply why head = stays digest a reply head
+clash_leads digest a false reply why head = tt
 
 unless_leads : (digest : Digest) (a : State) (ancestor : Option Hash) (branch : Reference) (ps : List Planned) (asked : Asked) (opened moment : ℕ) (conflicts : List Conflict) → branch.kind ≡ Branch → LeadsOn digest a (step_unless_conflicts digest a ancestor branch ps asked opened moment conflicts)
 unless_leads digest a ancestor branch ps asked opened moment [] kind = plans_lead digest a ancestor branch ps asked.dry_run opened moment kind
-unless_leads digest a ancestor branch ps asked opened moment (x ∷ conflicts) kind = clash_leads digest a asked.conflicts_as_result _ (Conflicts (x ∷ conflicts))
+unless_leads digest a ancestor branch ps asked opened moment (x ∷ conflicts) kind = clash_leads digest a asked.conflicts_as_result _ (Conflicts (x ∷ conflicts)) refl
 
 planned_leads : (digest : Digest) (a : State) (ancestor : Option Hash) (branch : Reference) (ps : List Planned) (asked : Asked) (opened moment : ℕ) → branch.kind ≡ Branch → LeadsOn digest a (step_planned digest a ancestor branch ps asked opened moment)
 planned_leads digest a ancestor branch ps asked opened moment kind =
@@ -279,9 +292,27 @@ step_leads digest a (commands.Transplant t) turn = transplant_leads digest a t t
 
 -- ---- what a step comes to
 
+pub is_step : (digest : Digest) (state : State) (command : Command) (turn : Turn) (after : State) (reply : Reply) → step digest state command turn ≡ Ok (after, reply) → IsStep digest state (after, reply)
+is_step digest state command turn after reply e = subst (LeadsOn digest state) e (step_leads digest state command turn)
+
+-- an accepted step tells the head of a reference
+abbrev pub TellsHead : Outcome → Type 0
+TellsHead (Ok x) = is_some (head_told x.1) ≡ true
+TellsHead (Err why) = Unit {0}
+
+tells_by : (digest : Digest) (a : State) (outcome : Outcome) → LeadsOn digest a outcome → TellsHead outcome
+tells_by digest a (Ok x) is = is.head
+tells_by digest a (Err why) is = tt
+
+pub step_tells : (digest : Digest) (state : State) (command : Command) (turn : Turn) → TellsHead (step digest state command turn)
+step_tells digest state command turn = tells_by digest state (step digest state command turn) (step_leads digest state command turn)
+
 -- the state itself, or one that follows it
+leads_by : (digest : Digest) (a : State) (x : State × Reply) → IsStep digest a x → Leads digest a x.0
+leads_by digest a x is = ⊎_elim (λ (same : x.0 ≡ a). inl same) (λ (on : Follows digest a x.0 × (tells_change x.1 ≡ true)). inr on.0) is.leads
+
 pub led_to : (digest : Digest) (state : State) (command : Command) (turn : Turn) (after : State) (reply : Reply) → step digest state command turn ≡ Ok (after, reply) → Leads digest state after
-led_to digest state command turn after reply e = subst (LeadsOn digest state) e (step_leads digest state command turn)
+led_to digest state command turn after reply e = leads_by digest state (after, reply) (is_step digest state command turn after reply e)
 
 lead_later : (digest : Digest) (a b : State) → Leads digest a b → IsLater a b
 lead_later digest a b leads = ⊎_elim (λ (same : b ≡ a). subst (IsLater a) (sym same) (later_self a)) (λ (follows : Follows digest a b). follows.later) leads
@@ -322,7 +353,8 @@ choice_comes digest a entry false x y p q = q
 outcome_comes : (digest : Digest) (a : State) (entry : LogEntry) (draft : ℕ) (command : Command) (turn : Turn) (outcome : Outcome) → LeadsOn digest a outcome → Comes digest a entry (stepped digest 0 a draft command turn outcome)
 outcome_comes digest a entry draft command turn (Err why) leads = nothing_comes digest a entry _ refl refl
 outcome_comes digest a entry draft command turn (Ok (after, reply)) leads =
-    choice_comes digest a entry (nat_lt a.place after.place) _ _ (λ rose. record { leads = leads; follows = λ _. risen digest a after leads rose }) (nothing_comes digest a entry _ refl refl)
+    let led : Leads digest a after = leads_by digest a (after, reply) leads in
+    choice_comes digest a entry (nat_lt a.place after.place) _ _ (λ rose. record { leads = led; follows = λ _. risen digest a after led rose }) (nothing_comes digest a entry _ refl refl)
 
 tested_comes : (digest : Digest) (book : Book) (entry : LogEntry) (tested : Tested) → Comes digest book.state entry (replayed_by digest book entry tested)
 tested_comes digest book entry (Err why) = nothing_comes digest book.state entry _ refl refl

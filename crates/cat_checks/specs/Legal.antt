@@ -1,5 +1,5 @@
 -- Entries that a book may be led on by, and the book that a log of them leads to.
-use Rattle.std.specs.Prelude.{ℕ, ◌+◌, max, List, [], ◌∷◌, Option, Some, None, Result, Ok, Err, Bool, false, ◌&&◌, ◌||◌, not, nat_eq, if◌then◌else◌}
+use Rattle.std.specs.Prelude.{◌≡◌, ℕ, ◌+◌, max, List, [], ◌∷◌, Option, Some, None, Result, Ok, Err, Bool, true, false, ◌&&◌, ◌||◌, not, nat_eq, nat_lt, if◌then◌else◌}
 use Rattle.std.specs.List.{list_any}
 use Rattle.std.specs.Str.{bytes_eq}
 use Rattle.cat_codes.specs.declared.fault.FieldFault.{FieldFault}
@@ -11,7 +11,7 @@ use Rattle.cat_model.specs.Refusing.{◌>>=◌, Tested}
 use Rattle.cat_model.specs.State.{Digest}
 use Rattle.cat_model.specs.Step.{Turn, opens_draft, opening, step}
 use Rattle.cat_model.specs.WellMade.{is_well_made}
-use Rattle.cat_frames.specs.Entries.{log_entry_code}
+use Rattle.cat_frames.specs.Entries.{log_entry_code, of_nobody}
 
 -- ---- an entry's call
 
@@ -40,6 +40,10 @@ replayed_call digest book entry = replayed_by digest book entry (opening digest 
 abbrev pub draft_is_new : List LogEntry → ℕ → Bool
 draft_is_new log draft = nat_eq draft 0 || not (list_any (λ entry. nat_eq draft entry.draft) log)
 
+-- the number is 0, or above this one
+abbrev pub draft_is_above : ℕ → ℕ → Bool
+draft_is_above last draft = nat_eq draft 0 || nat_lt last draft
+
 -- the draft is 0 exactly where the call opens none
 abbrev pub has_its_draft : LogEntry → Bool
 has_its_draft entry = if opens_draft entry.command then not (nat_eq entry.draft 0) else nat_eq entry.draft 0
@@ -61,6 +65,11 @@ is_legal digest book entry =
     && has_its_draft entry
     && draft_is_new book.log entry.draft
     && is_just digest entry (replayed_call digest book entry).logged
+
+-- the entry is legal, and is what its call logs, but for who called: its place, its draft, its moment, its command in the form in which commands are logged, and the head that was left
+pub record IsLegal (digest : Digest) (book : Book) (entry : LogEntry) : Type 0 where
+  pub legal : is_legal digest book entry ≡ true
+  pub logged : (replayed_call digest book entry).logged ≡ of_nobody entry ∷ []
 
 -- the book that a legal entry leads to
 unfoldable pub next_book : Digest → Book → LogEntry → Option Book

@@ -1,3 +1,4 @@
+pub mod Changes
 pub mod Legal
 pub mod LegalLaws
 pub mod Histories

@@ -17,7 +17,7 @@ use Rattle.cat_model.specs.Mark.{FailedAppend, Later, Mark}
 use Rattle.cat_model.specs.State.{State, first_state}
 use Rattle.cat_model.specs.Step.{opens_draft}
 use Rattle.cat_model.specs.WellMade.{is_well_made}
-use Rattle.cat_ledger.specs.LoggedLaws.{call_opens}
+use Rattle.cat_core.specs.LoggedLaws.{call_opens}
 use Rattle.cat_model.specs.TurnLaws.{adds_none, later_self, leaves_self}
 use Rattle.cat_model.specs.Turns.{Acts, Adds, Own}
 use Rattle.cat_decisions.specs.declared.building.Built.{Built}

@@ -17,9 +17,9 @@ use Rattle.cat_model.specs.State.{State}
 use Rattle.cat_model.specs.Step.{opening, opens_draft}
 use Rattle.cat_model.specs.Transplants.{transplant_opening}
 use Rattle.cat_decisions.specs.ExpiringLaws.{IsUnexpired, unexpired_bind, unexpired_merge_opening, unexpired_named, unexpired_needs, unexpired_pointed, unexpired_transplant_opening}
-use Rattle.cat_ledger.specs.Occasions.{Occasion, left_on, made_on, tests_on}
-use Rattle.cat_ledger.specs.PlainLaws.{IsOther, IsPlain, plain_bind, plain_needs, plain_of}
-use Rattle.cat_ledger.specs.UsualLaws.{usual_opening}
+use Rattle.cat_core.specs.Occasions.{Occasion, left_on, made_on, tests_on}
+use Rattle.cat_core.specs.PlainLaws.{IsOther, IsPlain, plain_bind, plain_needs, plain_of}
+use Rattle.cat_core.specs.UsualLaws.{usual_opening}
 
 -- ---- no test refuses for want of memory or a fault
 

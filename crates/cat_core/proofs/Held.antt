@@ -18,7 +18,7 @@ use Rattle.cat_model.specs.Naming.{names_of}
 use Rattle.cat_model.specs.Later.{IsLater}
 use Rattle.cat_model.specs.State.{State, first_state}
 use Rattle.cat_model.specs.Step.{opening}
-use Rattle.cat_ledger.specs.Making.{taking}
+use Rattle.cat_core.specs.Making.{taking}
 use Rattle.cat_core.specs.declared.draft.Draft.{Draft}
 use Rattle.cat_core.specs.declared.tickets.Fallen.{Fallen}
 use Rattle.cat_core.specs.declared.tickets.OpenDraft.{OpenDraft}
@@ -127,7 +127,7 @@ fault_seen {K} s x same = sym (ap (λ (z : Stored K). z.mark.fault) same)
 pub place_length : (book : Book) (faults : ℕ) (held : List drafts.OpenDraft) → IsSound book faults held → book.state.place ≡ length (reverse book.log)
 place_length book faults held sound =
     let from : Book = begun (record { state = first_state sha256 book.state.limits; draft = 0; faults = faults }) in
-    let n : (book_after sha256 from (reverse book.log)).state.place ≡ from.state.place + length (reverse book.log) = place_is sha256 from (reverse book.log) sound.legal in
+    let n : (book_after sha256 from (reverse book.log)).state.place ≡ from.state.place + length (reverse book.log) = place_is sha256 from (reverse book.log) sound.legal.legal in
     let same : (book_after sha256 from (reverse book.log)).state.place ≡ book.state.place = ap (λ (s : State). s.place) sound.led in
     let zero : from.state.place ≡ 0 = refl in
     omega arith

@@ -17,9 +17,9 @@ use Rattle.cat_state.specs.declared.failure.Failure.TheVariants as failures
 use Rattle.cat_state.specs.declared.unmade.Unmade.TheVariants.{Failed, NotKept}
 use Rattle.cat_state.specs.declared.unmade.Unmade.{Unmade}
 use Rattle.cat_state.specs.Kept.{Keeps, Stayed, spelling, spellings}
-use Rattle.cat_ledger.specs.declared.logging.Turn as ledger
-use Rattle.cat_ledger.specs.Making.{Runs}
-use Rattle.cat_ledger.specs.Occasions.{Occasion, begun, left_on, made_on, opened_on, turn_on, turned_step}
+use Rattle.cat_core.specs.declared.ledger.logging.Turn as ledger
+use Rattle.cat_core.specs.Making.{Runs}
+use Rattle.cat_core.specs.Occasions.{Occasion, begun, left_on, made_on, opened_on, turn_on, turned_step}
 use Rattle.cat_core.specs.Made.{fallen_by}
 use Rattle.cat_core.specs.Stored.{IsInStep}
 

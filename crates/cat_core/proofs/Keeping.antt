@@ -10,8 +10,8 @@ use Rattle.cat_state.specs.declared.failure.Failure.TheVariants as failures
 use Rattle.cat_state.specs.declared.unmade.Unmade.{Unmade}
 use Rattle.cat_state.specs.declared.unmade.Unmade.TheVariants.{Failed, NotKept}
 use Rattle.cat_state.specs.Kept.{Keeps, Leaves}
-use Rattle.cat_ledger.specs.Making.{Runs}
-use Rattle.cat_ledger.specs.PlainLaws.{IsOther, is_other}
+use Rattle.cat_core.specs.Making.{Runs}
+use Rattle.cat_core.specs.PlainLaws.{IsOther, is_other}
 use Rattle.cat_state.proofs.Appended.{leaves_any}
 use Rattle.cat_core.specs.Kept.{KeepsTold}
 use Rattle.cat_core.specs.Made.{told_at}

@@ -17,8 +17,8 @@ use Rattle.cat_state.specs.declared.failure.Failure.TheVariants as failures
 use Rattle.cat_state.specs.declared.unmade.Unmade.{Unmade}
 use Rattle.cat_state.specs.declared.unmade.Unmade.TheVariants.{Failed, NotKept}
 use Rattle.cat_state.specs.Kept.{Keeps, spelling}
-use Rattle.cat_ledger.specs.Making.{Runs, unmade_expired}
-use Rattle.cat_ledger.specs.PlainLaws.{IsOther}
+use Rattle.cat_core.specs.Making.{Runs, unmade_expired}
+use Rattle.cat_core.specs.PlainLaws.{IsOther}
 use Rattle.cat_core.specs.declared.tickets.Fallen.{Fallen}
 use Rattle.cat_core.specs.declared.tickets.OpenDraft.{OpenDraft}
 use Rattle.cat_core.specs.declared.tickets.Ticket.{Ticket}

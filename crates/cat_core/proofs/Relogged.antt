@@ -1,6 +1,7 @@
 -- What the call of an entry brings has a spelling.
 use Rattle.std.proofs.Common.{◌≡◌, ℕ, List, [], ◌∷◌, Ok, Err, Bool, true, false, nat_lt, is_some, if◌then◌else◌, refl}
 use Rattle.sha2.specs.Sha256.{sha256}
+use Rattle.cat_checks.specs.LeadingLaws.{TellsHead, step_tells}
 use Rattle.cat_checks.specs.Legal.{draft_after, has_its_draft, replayed_by, replayed_call, turn_of}
 use Rattle.cat_frames.specs.Entries.{is_logged}
 use Rattle.cat_model.specs.declared.command.Command.{Command}
@@ -12,8 +13,7 @@ use Rattle.cat_model.specs.Refusing.{Outcome, Tested}
 use Rattle.cat_model.specs.State.{State}
 use Rattle.cat_model.specs.Step.{Turn, head_told, opening, step}
 use Rattle.cat_model.specs.WellMade.{is_well_made}
-use Rattle.cat_ledger.specs.HeadLaws.{TellsHead, step_tells}
-use Rattle.cat_ledger.specs.LoggedLaws.{IsDraftOf, call_is_logged}
+use Rattle.cat_core.specs.LoggedLaws.{IsDraftOf, call_is_logged}
 
 -- ---- an entry that is made has a spelling
 
@@ -45,7 +45,7 @@ step_logs state draft command turn (Ok (after, reply)) made own tells =
 tested_logs : (book : Book) (entry : LogEntry) (tested : Tested) → is_well_made sha256 entry.command ≡ true → has_its_draft entry ≡ true → IsLogOf entry.draft (replayed_by sha256 book entry tested).logged
 tested_logs book entry (Err why) made own = tt
 tested_logs book entry (Ok u) made own =
-    step_logs book.state (draft_after book entry) entry.command (turn_of book entry) (step sha256 book.state entry.command (turn_of book entry)) made own (step_tells book.state entry.command (turn_of book entry))
+    step_logs book.state (draft_after book entry) entry.command (turn_of book entry) (step sha256 book.state entry.command (turn_of book entry)) made own (step_tells sha256 book.state entry.command (turn_of book entry))
 
 pub call_logs : (book : Book) (entry : LogEntry) → is_well_made sha256 entry.command ≡ true → has_its_draft entry ≡ true → IsLogOf entry.draft (replayed_call sha256 book entry).logged
 unfolding replayed_call

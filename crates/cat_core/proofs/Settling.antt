@@ -21,10 +21,10 @@ use Rattle.cat_state.specs.Giving.{Fails}
 use Rattle.cat_decisions.specs.declared.building.Built.{Built}
 use Rattle.cat_decisions.specs.Builds.{HasHead, branch_of}
 use Rattle.cat_state.specs.Kept.{Leaves, Stayed}
-use Rattle.cat_ledger.specs.Making.{refused_at}
-use Rattle.cat_ledger.specs.LoggedLaws.{call_opens}
-use Rattle.cat_ledger.specs.Occasions.{Occasion, left_on, made_on}
-use Rattle.cat_ledger.specs.PlainLaws.{IsOther}
+use Rattle.cat_core.specs.Making.{refused_at}
+use Rattle.cat_core.specs.LoggedLaws.{call_opens}
+use Rattle.cat_core.specs.Occasions.{Occasion, left_on, made_on}
+use Rattle.cat_core.specs.PlainLaws.{IsOther}
 use Rattle.cat_state.proofs.Appended.{leaves_any, stays}
 use Rattle.cat_core.specs.declared.draft.Draft.{Draft}
 use Rattle.cat_core.specs.declared.draft.Settled.{Settled}

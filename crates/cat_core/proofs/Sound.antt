@@ -6,8 +6,8 @@ use Rattle.cat_codes.specs.ListLaws.{and_true}
 use Rattle.sha2.specs.Sha256.{sha256}
 use Rattle.cat_checks.specs.AcceptedLaws.{accepted_is_legal}
 use Rattle.cat_checks.specs.Histories.{AreLegal, IsLegalFrom, begun, book_after, book_at}
-use Rattle.cat_checks.specs.HistoryLaws.{AreAtMost, at_most_more, book_more, books_uphold, first_upholds, legal_more, limits_stay, log_is}
-use Rattle.cat_checks.specs.Legal.{draft_after, draft_is_new, has_its_draft, is_just, is_legal, replayed_by, replayed_call, turn_of}
+use Rattle.cat_checks.specs.HistoryLaws.{AreAtMost, all_above, at_most_more, book_more, books_uphold, first_upholds, legal_more, limits_stay, log_is}
+use Rattle.cat_checks.specs.Legal.{IsLegal, draft_after, draft_is_new, has_its_draft, is_just, is_legal, replayed_by, replayed_call, turn_of}
 use Rattle.cat_checks.specs.Upheld.{Upholds}
 use Rattle.cat_model.specs.declared.command.Command.{Command}
 use Rattle.cat_model.specs.declared.limits.Limits.{Limits}
@@ -21,8 +21,8 @@ use Rattle.cat_model.specs.State.{State, first_state}
 use Rattle.cat_model.specs.Step.{Turn, opening, opens_draft, step}
 use Rattle.cat_model.specs.Turns.{Opened}
 use Rattle.cat_model.specs.WellMade.{is_well_made}
-use Rattle.cat_ledger.specs.declared.logging.Turn as ledger
-use Rattle.cat_ledger.specs.Occasions.{Occasion, left_on, made_on, opened_on}
+use Rattle.cat_core.specs.declared.ledger.logging.Turn as ledger
+use Rattle.cat_core.specs.Occasions.{Occasion, left_on, made_on, opened_on}
 use Rattle.cat_core.proofs.Waiting.{waiting_on}
 use Rattle.cat_core.specs.Stored.{AreWaiting, IsNumberOfNone, IsSound}
 
@@ -50,13 +50,13 @@ unfolding replayed_call
 same_replayed state a b log e = same_tested state a b log e (opening sha256 state e.command)
 
 abbrev SameLegal : Book → Book → LogEntry → Type 0
-SameLegal x y e = (is_legal sha256 x e ≡ is_legal sha256 y e) × ((replayed_call sha256 x e).state ≡ (replayed_call sha256 y e).state)
+SameLegal x y e = (is_legal sha256 x e ≡ is_legal sha256 y e) × SameLogged (replayed_call sha256 x e) (replayed_call sha256 y e)
 
 same_legal : (state : State) (a b : ℕ) (log : List LogEntry) (e : LogEntry) → SameLegal (record { state = state; draft = a; log = log }) (record { state = state; draft = b; log = log }) e
 unfolding is_legal
 same_legal state a b log e =
     let same = same_replayed state a b log e in
-    (ap (λ (l : List LogEntry). is_well_made sha256 e.command && (if opens_draft e.command then not (nat_eq e.draft 0) else nat_eq e.draft 0) && draft_is_new log e.draft && is_just sha256 e l) same.0, same.1)
+    (ap (λ (l : List LogEntry). is_well_made sha256 e.command && (if opens_draft e.command then not (nat_eq e.draft 0) else nat_eq e.draft 0) && draft_is_new log e.draft && is_just sha256 e l) same.0, same)
 
 legal_alike : (x y : Book) (e : LogEntry) → x.state ≡ y.state → x.log ≡ y.log → SameLegal x y e
 legal_alike x y e state log =
@@ -79,21 +79,22 @@ turned_log e log = reverse-append (e ∷ []) log
 own_log : (limits : Limits) (faults : ℕ) (log : List LogEntry) → (book_at (start limits faults) (reverse log)).log ≡ log
 own_log limits faults log = log_is sha256 (begun (start limits faults)) (reverse log) ∙ append-nil _ ∙ reverse-reverse log
 
-pub led_on : (limits : Limits) (faults : ℕ) (book : Book) (e : LogEntry) (after : State) (draft : ℕ) → IsLed limits faults book → is_legal sha256 book e ≡ true → (replayed_call sha256 book e).state ≡ after
+pub led_on : (limits : Limits) (faults : ℕ) (book : Book) (e : LogEntry) (after : State) (draft : ℕ) → IsLed limits faults book → IsLegal sha256 book e → (replayed_call sha256 book e).state ≡ after
     → IsLed limits faults (record { state = after; draft = draft; log = e ∷ book.log })
 led_on limits faults book e after draft led legal leads =
     let from = begun (start limits faults) in
     let at : Book = book_at (start limits faults) (reverse book.log) in
     let same : SameLegal at book e = legal_alike at book e led.1 (own_log limits faults book.log) in
-    let there : is_legal sha256 at e ≡ true = same.0 ∙ legal in
-    let all : AreLegal sha256 from (reverse book.log ++ e ∷ []) = legal_more sha256 from (reverse book.log) (e ∷ []) led.0 (there, tt) in
-    let state : (book_after sha256 from (reverse book.log ++ e ∷ [])).state ≡ after = ap (λ (b : Book). b.state) (book_more sha256 from (reverse book.log) (e ∷ [])) ∙ same.1 ∙ leads in
-    subst (λ (l : List LogEntry). AreLegal sha256 from l × ((book_after sha256 from l).state ≡ after)) (sym (turned_log e book.log)) (all, state)
+    let there : IsLegal sha256 at e = record { legal = same.0 ∙ legal.legal; logged = same.1.0 ∙ legal.logged } in
+    let each : AreLegal sha256 from (reverse book.log ++ e ∷ []) = legal_more sha256 from (reverse book.log) (e ∷ []) led.0.legal (there, tt) in
+    let all : IsLegalFrom (start limits faults) (reverse book.log ++ e ∷ []) = record { legal = each; above = all_above (reverse book.log ++ e ∷ []) } in
+    let state : (book_after sha256 from (reverse book.log ++ e ∷ [])).state ≡ after = ap (λ (b : Book). b.state) (book_more sha256 from (reverse book.log) (e ∷ [])) ∙ same.1.1 ∙ leads in
+    subst (λ (l : List LogEntry). IsLegalFrom (start limits faults) l × ((book_after sha256 from l).state ≡ after)) (sym (turned_log e book.log)) (all, state)
 
 limits_same : (book : Book) (e : LogEntry) (after : State) → (replayed_call sha256 book e).state ≡ after → after.limits ≡ book.state.limits
 limits_same book e after leads = sym (ap (λ (s : State). s.limits) leads) ∙ limits_stay sha256 book (e ∷ [])
 
-pub sound_on : (book : Book) (faults : ℕ) (left_open ds : List OpenDraft) (e : LogEntry) (after : State) → IsSound book faults left_open → is_legal sha256 book e ≡ true → (replayed_call sha256 book e).state ≡ after → e.draft ≤ book.draft → AreWaiting book.draft book.log ds → IsNumberOfNone e.draft ds
+pub sound_on : (book : Book) (faults : ℕ) (left_open ds : List OpenDraft) (e : LogEntry) (after : State) → IsSound book faults left_open → IsLegal sha256 book e → (replayed_call sha256 book e).state ≡ after → e.draft ≤ book.draft → AreWaiting book.draft book.log ds → IsNumberOfNone e.draft ds
     → IsSound (record { state = after; draft = book.draft; log = e ∷ book.log }) faults ds
 sound_on book faults left_open ds e after sound legal leads low waiting none =
     let led : IsLed after.limits faults (record { state = after; draft = book.draft; log = e ∷ book.log }) =
@@ -106,7 +107,7 @@ sound_on book faults left_open ds e after sound legal leads low waiting none =
 pub record BringsOne (caller number : ℕ) (book : Book) (e : LogEntry) (after : State) : Type 0 where
   pub caller_is : e.caller ≡ caller
   pub draft_is : e.draft ≡ number
-  pub legal : is_legal sha256 book e ≡ true
+  pub legal : IsLegal sha256 book e
   pub leads : (replayed_call sha256 book e).state ≡ after
 
 abbrev pub Brings : ℕ → ℕ → Book → List LogEntry → State → Type 0
@@ -221,7 +222,7 @@ pub record IsReopened (limits : Limits) (faults : ℕ) (book : Book) : Type 0 wh
   pub taken : AreAtMost book.draft book.log
 
 pub reopened_first : (limits : Limits) (faults : ℕ) → IsReopened limits faults (first_book sha256 limits)
-reopened_first limits faults = record { led = (tt, refl); limits_are = refl; taken = tt }
+reopened_first limits faults = record { led = (record { legal = tt; above = tt }, refl); limits_are = refl; taken = tt }
 
 pub sound_reopened : (limits : Limits) (faults : ℕ) (book : Book) → IsReopened limits faults book → IsSound book faults []
 sound_reopened limits faults book is =

@@ -8,7 +8,7 @@ use Rattle.cat_state.specs.declared.failure.Failure.TheVariants as failures
 use Rattle.cat_state.specs.declared.unmade.Unmade.{Unmade}
 use Rattle.cat_state.specs.declared.unmade.Unmade.TheVariants.{Failed, NotKept}
 use Rattle.cat_state.specs.Kept.{Keeps}
-use Rattle.cat_ledger.specs.Making.{Runs}
+use Rattle.cat_core.specs.Making.{Runs}
 use Rattle.cat_core.specs.declared.tickets.Fallen.{Fallen}
 use Rattle.cat_core.specs.Made.{fallen_by}
 use Rattle.cat_core.specs.Stored.{IsInStep, IsNumberOfNone, IsSound}

@@ -18,7 +18,7 @@ use Rattle.cat_model.specs.Step.{opening}
 use Rattle.cat_decisions.specs.declared.building.Built.{Built}
 use Rattle.cat_decisions.specs.Builds.{HasHead, IsGivenBy, command_of}
 use Rattle.cat_state.specs.Kept.{spelling}
-use Rattle.cat_ledger.specs.Occasions.{made_on}
+use Rattle.cat_core.specs.Occasions.{made_on}
 use Rattle.cat_core.specs.declared.draft.Draft.{Draft}
 use Rattle.cat_core.specs.declared.draft.Settled.{Settled}
 use Rattle.cat_core.specs.declared.draft.Settled.TheVariants as settled

@@ -1,3 +1,10 @@
+pub mod Making
+pub mod Occasions
+pub mod Deciding
+pub mod Remaking
+pub mod PlainLaws
+pub mod UsualLaws
+pub mod LoggedLaws
 pub mod Stored
 pub mod Drafts
 pub mod Made

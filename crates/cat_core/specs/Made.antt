@@ -4,7 +4,7 @@ use Rattle.cat_model.specs.declared.refusal.Refused.{Refused}
 use Rattle.cat_model.specs.declared.reply.Told.{Told}
 use Rattle.cat_state.specs.declared.unmade.Unmade.{Unmade}
 use Rattle.cat_state.specs.declared.unmade.Unmade.TheVariants.{Failed, NotKept}
-use Rattle.cat_ledger.specs.Making.{unmade_at}
+use Rattle.cat_core.specs.Making.{unmade_at}
 use Rattle.cat_core.specs.declared.tickets.Fallen.{Fallen}
 
 -- at the place before it

@@ -8,7 +8,7 @@ ghost use Rattle.cat_core.specs.Drafts.{IsGivenBack, IsOpen, IsOpening, NotOpene
 ghost use Rattle.cat_core.specs.Kept.{IsSettled, IsTold, KeepsSettled};
 ghost use Rattle.cat_core.specs.Stored.{IsFree, IsUp, snap};
 ghost use Rattle.cat_state.specs.Kept.{Leaves};
-ghost use Rattle.cat_ledger.specs.Occasions.{made_on};
+ghost use Rattle.cat_core.specs.Occasions.{made_on};
 ghost use Rattle.cat_model.specs.Drafts.{drafts_of};
 ghost use Rattle.cat_model.specs.Later.{IsLater};
 ghost use Rattle.cat_model.specs.State.{State};
@@ -18,6 +18,7 @@ ghost use Rattle.cat_model.specs.WellMade.{is_well_made};
 ghost use Rattle.cat_state.specs.Giving.{GivesAs};
 
 use crate::draft::{Draft, Settled, ticket_of};
+use crate::ledger::{Ledger, refused};
 use crate::store::Store;
 use crate::telling::{down_at, no_memory, tell};
 use crate::tickets::{OpenDraft, Ticket, remove};
@@ -25,7 +26,6 @@ use cat_codes::fault::NoMemory;
 use cat_decisions::building::{Built, head_of};
 use cat_decisions::call::{Call, call_of};
 use cat_keeper::Keeper;
-use cat_ledger::{Ledger, refused};
 use cat_model::command::Command;
 use cat_model::moment::Moment;
 use cat_model::refusal::Refused;

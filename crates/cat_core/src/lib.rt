@@ -10,6 +10,7 @@
 
 mod draft;
 mod drafting;
+mod ledger;
 mod opening;
 mod referring;
 mod replay;

@@ -5,10 +5,10 @@ ghost use Rattle.cat_io.specs.Causes.{Rose};
 ghost use Rattle.cat_state.specs.Kept.{Stayed};
 ghost use Rattle.cat_core.specs.Opening.{AreDrafts, IsAdded, IsIllegalAt, IsLedTo, IsPayloadAt, next_by};
 
+use crate::ledger::Ledger;
 use crate::replay::Replay;
 use cat_codes::fault::NoMemory;
 use cat_keeper::{KeepFault, Keeper};
-use cat_ledger::Ledger;
 use cat_model::limits::Limits;
 use std::alloc::Global;
 use thiserror::Error;

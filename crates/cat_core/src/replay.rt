@@ -10,11 +10,11 @@ ghost use Rattle.cat_state.specs.Kept.{spelling};
 ghost use Rattle.cat_core.specs.Opening as opening;
 ghost use Rattle.cat_core.specs.Opening.{Adds, AreDrafts, NewestIsLogged, ReadsAs, RunsAgain};
 
+use crate::ledger::Ledger;
 use cat_checks::commands::is_well_made;
 use cat_checks::drafts::has_its_draft;
 use cat_codes::fault::{FieldFault, NoMemory};
 use cat_frames::{from_bytes, to_bytes};
-use cat_ledger::Ledger;
 use cat_model::limits::Limits;
 use cat_model::log_entry::LogEntry;
 use cat_state::failure::Failure;

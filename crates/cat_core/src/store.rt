@@ -18,11 +18,11 @@ ghost use Rattle.cat_core.specs.Opening.{IsIllegalAt, IsLedTo};
 ghost use Rattle.cat_core.specs.Stored.{IsSound, MayBeDown, log_of, opened_of};
 ghost use Rattle.cat_core.specs.Whole.{HasHeads, HasVisible};
 
+use crate::ledger::Ledger;
 use crate::opening::{StoreFault, led_to};
 use crate::tickets::{Fallen, OpenDraft, Ticket};
 use cat_codes::fault::NoMemory;
 use cat_keeper::Keeper;
-use cat_ledger::Ledger;
 use cat_model::ask::Ask;
 use cat_model::entry::Entry;
 use cat_model::limits::Limits;

@@ -4,11 +4,12 @@ ghost use Rattle.std.specs.Prelude.{◌≡◌, None, Some};
 ghost use Rattle.cat_core.specs.Made.{fallen_by, told_at};
 ghost use Rattle.cat_model.specs.declared.refusal.Refusal.TheVariants as refusals;
 
+use crate::ledger::refused;
 use crate::tickets::Fallen;
 use cat_keeper::Keeper;
-use cat_ledger::{Unmade, refused};
 use cat_model::refusal::{Refusal, Refused};
 use cat_model::reply::Told;
+use cat_state::unmade::Unmade;
 
 /// The refusal for want of memory.
 pub(crate) fn no_memory() -> Refused

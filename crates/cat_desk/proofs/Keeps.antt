@@ -1,5 +1,5 @@
 -- Each step on the desk's table keeps its rule.
-use Rattle.std.proofs.Common.{◌≡◌, ◌≢◌, ℕ, ◌+◌, ◌-◌, ◌%◌, ◌^◌, ◌<◌, ◌≤◌, List, [], ◌∷◌, length, get_or, set, eqb, eq-eqb, ne_eqb, cond, sym, refl, ap, ◌∙◌, subst, arith, Option, Some, None, le_refl}
+use Rattle.std.proofs.Common.{◌≡◌, ◌≢◌, ℕ, suc, ◌+◌, ◌-◌, ◌%◌, ◌^◌, ◌<◌, ◌≤◌, List, [], ◌∷◌, length, get_or, set, eqb, eq-eqb, ne_eqb, cond, sym, refl, ap, ◌∙◌, subst, arith, Option, Some, None, le_refl, length-set}
 use mathlib.Core.Option.{some, none}
 use native.Mathlib.Nat.{mod-eq_of_lt}
 use mathlib.Core.Option.{Option as Maybe}
@@ -17,12 +17,12 @@ use Rattle.cat_model.specs.TurnLaws.{grows_self, grows_on, stays_self, stays_on}
 use Rattle.cat_desk.specs.Sight.{Origin, Stage, Idle, Making, Waiting, Called, Holding, Leaving, View}
 use Rattle.cat_desk.specs.Log.{Follows, Missed, Since}
 use Rattle.cat_desk.specs.Marks.{Linked, IsGiven, AreGiven}
-use Rattle.cat_desk.specs.Rule.{Place, home, out, IsLive, IsBusy, IsServed, IsAlone, IsMaking, IsUnborn, tickets_of, total, queue, weight, Fits, Turned, SomeoneSaw, Stands, Kept, at_stage, waiting, knowing, drew, called, served, met, unnumbered, finding, leaving, Begins, Found, TookAt, took, gave}
+use Rattle.cat_desk.specs.Rule.{Place, home, out, IsLive, IsBusy, IsServed, IsAlone, IsMaking, IsUnborn, tickets_of, total, queue, weight, Fits, Turned, SomeoneSaw, Stands, Kept, at_stage, waiting, knowing, drew, called, served, met, still, unnumbered, finding, leaving, Begins, Found, TookAt, took, gave}
 use Rattle.cat_desk.proofs.Logs.{both_itself, both_on, missed_none, missed_follows, missed_more, adds_longer, since_more, since_next}
 use Rattle.cat_desk.proofs.Marks.{linked_self, linked_more, given_more, are_given_more}
 use Rattle.cat_desk.proofs.Totals.{total_set, total_le, two_of}
 use Rattle.cat_desk.proofs.Standing.{stands_stay, stands_at, home_at, unborn_at}
-use Rattle.cat_desk.proofs.Seats.{alone_served, making_served, served_busy, busy_live, one_ticket, is_live, served_ticket, set_there, same_some, three_words, seats_stay, same_view}
+use Rattle.cat_desk.proofs.Seats.{alone_served, making_served, served_busy, busy_live, one_ticket, is_live, served_ticket, set_there, same_some, behind, three_words, seats_stay, same_view}
 
 module _ {V : Type 0} (log : V → List LogEntry) (opened : V → Opened) (legal : Opened → List LogEntry → Type 0) (mark : V → Mark) (left_open : V → Open) (key : V) where
   abbrev pub St : Type 0
@@ -67,12 +67,12 @@ module _ {V : Type 0} (log : V → List LogEntry) (opened : V → Opened) (legal
   -- a step by which the seat id comes to the view w
   step_to : (s : St) (r : Rule s) (id : ℕ) (v w : View) (ws : List ℕ) (hs : List (Maybe (Option V))) (all : List LogEntry) (tickets : ℕ) (owner : ℕ → ℕ) (place : Place V) (last : ℕ) (marks : ℕ → Mark) (opens : Open)
       → ((a b : ℕ) → a ≤ b → b ≤ last → Grows (marks a) (marks b)) → (marks 0 ≡ mark key) → IsGiven r.next (mark key) (marks last) → AreGiven r.next opens → get_elem? s.views id ≡ some v → IsLive w.stage → weight w ≡ weight v
-      → length ws ≡ 3 → get_or ws 0 0 ≡ length all → length all < 4294967296 → get_or ws 1 0 ≡ tickets % 18446744073709551616 → (total queue (set s.views id w) + get_or ws 2 0 ≡ tickets) → legal (opened key) all → Since r.next (log key) all
+      → length ws ≡ 67 → get_or ws 0 0 ≡ length all → length all < 4294967296 → get_or ws 1 0 ≡ tickets % 18446744073709551616 → (total queue (set s.views id w) + get_or ws 2 0 ≡ tickets) → legal (opened key) all → Since r.next (log key) all
       → Fits (opened key, log key) all tickets (get_or ws 2 0) r.next r.keeper owner r.named (IsUnborn place) last marks opens id w
       → ((j : ℕ) (d : View) → j ≢ id → get_elem? s.views j ≡ some d → IsLive d.stage → Fits (opened key, log key) all tickets (get_or ws 2 0) r.next r.keeper owner r.named (IsUnborn place) last marks opens j d)
       → SomeoneSaw (set s.views id w) all last → Stands log opened mark left_open (opened key) all (marks last) opens (owner (get_or ws 2 0)) hs (set s.views id w) place
       → Rule record { words = ws; homes = hs; views = set s.views id w }
-  step_to s r id v w ws hs all tickets owner place last marks opens grows first_mark mark_given opens_given here live same three count small drawn queued ok since mine others longest stands = record {
+  step_to s r id v w ws hs all tickets owner place last marks opens grows first_mark mark_given opens_given here live same wide count small drawn queued ok since mine others longest stands = record {
     all = all;
     tickets = tickets;
     next = r.next;
@@ -83,7 +83,7 @@ module _ {V : Type 0} (log : V → List LogEntry) (opened : V → Opened) (legal
     marks = marks;
     opens = opens;
     place = place;
-    three = three;
+    wide = wide;
     count = count;
     small = small;
     drawn = drawn;
@@ -104,20 +104,47 @@ module _ {V : Type 0} (log : V → List LogEntry) (opened : V → Opened) (legal
   queue_stays : (s : St) (r : Rule s) (id : ℕ) (v w : View) → get_elem? s.views id ≡ some v → tickets_of w.stage ≡ tickets_of v.stage → total queue (set s.views id w) + word_at s 2 ≡ r.tickets
   queue_stays s r id v w here same = let moved : total queue (set s.views id w) + tickets_of v.stage ≡ total queue s.views + tickets_of w.stage = total_set queue s.views id v w here in let was : total queue s.views + word_at s 2 ≡ r.tickets = r.queued in omega arith
 
-  rebuilt : (s : St) (i n : ℕ) (hs : List (Maybe (Option V))) (vs : List View) → length s.words ≡ 3
-      → Rule record { words = set (word_at s 0 ∷ word_at s 1 ∷ word_at s 2 ∷ []) i n; homes = hs; views = vs } → Rule record { words = set s.words i n; homes = hs; views = vs }
-  rebuilt s i n hs vs three k = subst (λ (ws : List ℕ). Rule record { words = set ws i n; homes = hs; views = vs }) (sym (three_words s.words three)) k
+  -- the first three words, and those behind them
+  parted : (s : St) → Rule s → s.words ≡ word_at s 0 ∷ word_at s 1 ∷ word_at s 2 ∷ behind s.words
+  parted s r = let wide : length s.words ≡ 67 = r.wide in three_words s.words (omega arith)
+
+  -- whatever the first three are, there are as many words
+  as_wide : (s : St) (r : Rule s) → length (word_at s 0 ∷ word_at s 1 ∷ word_at s 2 ∷ behind s.words) ≡ 67
+  as_wide s r = sym (ap (λ (ws : List ℕ). length ws) (parted s r)) ∙ r.wide
+
+  rebuilt : (s : St) (r : Rule s) (i n : ℕ) (hs : List (Maybe (Option V))) (vs : List View)
+      → Rule record { words = set (word_at s 0 ∷ word_at s 1 ∷ word_at s 2 ∷ behind s.words) i n; homes = hs; views = vs } → Rule record { words = set s.words i n; homes = hs; views = vs }
+  rebuilt s r i n hs vs k = subst (λ (ws : List ℕ). Rule record { words = set ws i n; homes = hs; views = vs }) (sym (parted s r)) k
 
   -- a load that moves no slot
   unmoved : (s : St) (r : Rule s) (i me : ℕ) (cs : List (ℕ × Option V)) (v w : View) → get_elem? s.views me ≡ some v → IsLive w.stage → weight w ≡ weight v → tickets_of w.stage ≡ tickets_of v.stage → w.seen ≡ v.seen → w.turn ≡ v.turn → ¬ IsAlone v.stage → Fit s r me w
       → Rule (stepped s i (word_at s i) me cs w keeps)
   unmoved s r i me cs v w here live heavy same seen turned n mine = subst (λ (ws : List ℕ). Rule record { words = ws; homes = s.homes; views = set s.views me w }) (sym (set-get_or s.words i 0))
-      (step_to s r me v w s.words s.homes r.all r.tickets r.owner r.place r.last r.marks r.opens r.grows r.first_mark r.mark_given r.opens_given here live heavy r.three r.count r.small r.drawn (queue_stays s r me v w here same) r.is_legal r.since mine (λ j d _. r.each j d)
+      (step_to s r me v w s.words s.homes r.all r.tickets r.owner r.place r.last r.marks r.opens r.grows r.first_mark r.mark_given r.opens_given here live heavy r.wide r.count r.small r.drawn (queue_stays s r me v w here same) r.is_legal r.since mine (λ j d _. r.each j d)
       (someone_stays s r me v w here live seen turned) (stands_stay log opened mark left_open key r.all (r.marks r.last) r.opens (r.owner (word_at s 2)) s.homes s.views me v w r.place here n r.stands))
 
   -- a load that moves no slot, and leaves the view as it is
   pub looked_on : (s : St) (r : Rule s) (i me : ℕ) (cs : List (ℕ × Option V)) (v : View) → get_elem? s.views me ≡ some v → IsLive v.stage → ¬ IsAlone v.stage → Rule (stepped s i (word_at s i) me cs v keeps)
   looked_on s r i me cs v here live n = unmoved s r i me cs v v here live refl refl refl refl n (r.each me v here live)
+
+  -- a bell is rung
+  rung : (s : St) (r : Rule s) (k n id : ℕ) (cs : List (ℕ × Option V)) (v : View) → get_elem? s.views id ≡ some v → IsLive v.stage → ¬ IsAlone v.stage → Rule (stepped s (suc (suc (suc k))) n id cs v keeps)
+  rung s r k n id cs v here live alone = rebuilt s r (suc (suc (suc k))) n s.homes (set s.views id v)
+      (step_to s r id v v (word_at s 0 ∷ word_at s 1 ∷ word_at s 2 ∷ set (behind s.words) k n) s.homes r.all r.tickets r.owner r.place r.last r.marks r.opens r.grows r.first_mark r.mark_given r.opens_given here live refl
+      (ap (λ (m : ℕ). suc (suc (suc m))) (length-set (behind s.words) k n) ∙ as_wide s r) r.count r.small r.drawn (queue_stays s r id v v here refl) r.is_legal r.since (r.each id v here live) (λ j d _. r.each j d)
+      (someone_stays s r id v v here live refl refl) (stands_stay log opened mark left_open key r.all (r.marks r.last) r.opens (r.owner (word_at s 2)) s.homes s.views id v v r.place here alone r.stands))
+
+  behind_three : (i : ℕ) → 3 ≤ i → suc (suc (suc (i - 3))) ≡ i
+  behind_three i three = omega arith
+
+  pub rings : (slots id i n : ℕ) (me : M) → me.0.stage ≡ Idle → 3 ≤ i → Allows Rule slots id me i (λ _. n) (λ _. still me)
+  rings slots id i n me idle three s r len here below =
+      let rang = rung s r (i - 3) n id me.1 me.0 here (subst IsLive (sym idle) tt) (λ a. subst IsAlone idle a) in
+      (me.0, keeps, tt, subst (λ (w : ℕ). Rule (stepped s w n id me.1 me.0 keeps)) (behind_three i three) rang, refl)
+
+  pub hears : (slots id i : ℕ) (me : M) → me.0.stage ≡ Waiting → Allows Rule slots id me i (λ n. n) (λ _. still me)
+  hears slots id i me waits s r len here below =
+      (me.0, keeps, tt, looked_on s r i id me.1 me.0 here (subst IsLive (sym waits) tt) (λ a. subst IsAlone waits a), refl)
 
   begins_at : (origin : Option Origin) (x : V) → origin ≡ Some (opened key, log key) → opened x ≡ opened key → legal (opened key) (log x) → Begins log opened legal mark left_open origin x
   begins_at origin x based from ok o e = let same = same_some (opened key, log key) o (sym based ∙ e) in (from ∙ ap (λ (z : Origin). z.0) same, subst (λ (z : Origin). legal z.0 (log x)) same ok)
@@ -134,7 +161,7 @@ module _ {V : Type 0} (log : V → List LogEntry) (opened : V → Opened) (legal
         w,
         keeps,
         tt,
-        rebuilt s 1 new s.homes (set s.views id w) r.three (step_to s r id v w (word_at s 0 ∷ new ∷ word_at s 2 ∷ []) s.homes r.all (t + 1) o r.place r.last r.marks r.opens r.grows r.first_mark r.mark_given r.opens_given here tt refl refl r.count r.small (omega arith) (omega arith) r.is_legal r.since
+        rebuilt s r 1 new s.homes (set s.views id w) (step_to s r id v w (word_at s 0 ∷ new ∷ word_at s 2 ∷ behind s.words) s.homes r.all (t + 1) o r.place r.last r.marks r.opens r.grows r.first_mark r.mark_given r.opens_given here tt refl (as_wide s r) r.count r.small (omega arith) (omega arith) r.is_legal r.since
             record {
               saw = record { based = f.saw.based; since = f.saw.since; missed = f.saw.missed; least = f.saw.least; most = f.saw.most; parts = f.saw.parts };
               numbered = record { own_number = f.numbered.own_number; given = f.numbered.given; stands_for = f.numbered.stands_for; may_give = f.numbered.may_give };
@@ -213,8 +240,8 @@ module _ {V : Type 0} (log : V → List LogEntry) (opened : V → Opened) (legal
   taken s r id cs v x seen k m op t here sv all least most marks opens last = let w : View = record v { seen = seen; known = k; mark = m; found = op; turn = t; stage = Holding } in
       let f = r.each id v here (busy_live v.stage (served_busy v.stage sv)) in let turn = my_turn s r id v f sv in
       let on : Follows v.number v.seen seen = subst (Follows v.number v.seen) (sym all) (missed_follows v.number r.next v.seen r.all f.saw.missed) in
-      rebuilt s 0 (word_at s 0) (set s.homes 0 none) (set s.views id w) r.three (step_to s r id v w (word_at s 0 ∷ word_at s 1 ∷ word_at s 2 ∷ []) (set s.homes 0 none) r.all r.tickets r.owner out r.last r.marks r.opens r.grows r.first_mark r.mark_given r.opens_given here tt refl
-      refl r.count r.small r.drawn (queue_stays s r id v w here (sym (served_ticket v.stage sv))) r.is_legal r.since
+      rebuilt s r 0 (word_at s 0) (set s.homes 0 none) (set s.views id w) (step_to s r id v w (word_at s 0 ∷ word_at s 1 ∷ word_at s 2 ∷ behind s.words) (set s.homes 0 none) r.all r.tickets r.owner out r.last r.marks r.opens r.grows r.first_mark r.mark_given r.opens_given here tt refl
+      (as_wide s r) r.count r.small r.drawn (queue_stays s r id v w here (sym (served_ticket v.stage sv))) r.is_legal r.since
       record {
         saw = record { based = f.saw.based; since = subst (Since r.next (log key)) (sym all) r.since; missed = subst (λ l. Missed v.number r.next l r.all) (sym all) (missed_none v.number r.next r.all); least = least; most = most; parts = both_on v.number v.parts.0 v.parts.1 v.seen seen f.saw.parts on };
         numbered = record { own_number = f.numbered.own_number; given = f.numbered.given; stands_for = f.numbered.stands_for; may_give = f.numbered.may_give };
@@ -307,10 +334,10 @@ module _ {V : Type 0} (log : V → List LogEntry) (opened : V → Opened) (legal
       (λ nd. let low : i ≤ r.last = below i (omega arith) nd in subst (λ z. Grows z (mark x)) (sym (old_at i nd)) (grows_on (r.marks i) (r.marks r.last) (mark x) (r.grows i r.last low (le_refl r.last)) moved.grows)))))
       (λ ne. let low : j ≤ r.last = below j under ne in let not_i : i ≢ t = λ e. omega arith in
       subst (λ (z : Mark × Mark). Grows z.0 z.1) (λ q. (sym (old_at i not_i) q, sym (old_at j ne) q)) (r.grows i j le low)) in
-      rebuilt s 0 n (set s.homes 0 (some (Some x))) (set s.views id w) r.three (step_to s r id v w (n ∷ word_at s 1 ∷ word_at s 2 ∷ []) (set s.homes 0 (some (Some x))) (log x) r.tickets r.owner (home x) t marks (left_open x)
+      rebuilt s r 0 n (set s.homes 0 (some (Some x))) (set s.views id w) (step_to s r id v w (n ∷ word_at s 1 ∷ word_at s 2 ∷ behind s.words) (set s.homes 0 (some (Some x))) (log x) r.tickets r.owner (home x) t marks (left_open x)
       grows (old_at 0 (λ e. omega arith) ∙ r.first_mark) (subst (IsGiven r.next (mark key)) (sym new_at) (given_more v.number r.next (mark key) (r.marks r.last) (mark x) f.numbered.given r.mark_given moved))
       (are_given_more v.number r.next r.opens (left_open x) f.numbered.given r.opens_given moved_open) here tt refl
-      refl count (omega arith) r.drawn (queue_stays s r id v w here (sym (ap tickets_of is))) ok more_since
+      (as_wide s r) count (omega arith) r.drawn (queue_stays s r id v w here (sym (ap tickets_of is))) ok more_since
       record {
         saw = record { based = f.saw.based; since = more_since; missed = missed_none v.number r.next (log x); least = le_refl (length (log x)); most = le_refl (length (log x)); parts = both_itself v.number (log x) };
         numbered = record { own_number = f.numbered.own_number; given = f.numbered.given; stands_for = f.numbered.stands_for; may_give = f.numbered.may_give };
@@ -372,8 +399,8 @@ module _ {V : Type 0} (log : V → List LogEntry) (opened : V → Opened) (legal
         w,
         keeps,
         tt,
-        rebuilt s 2 n s.homes (set s.views id w) r.three (step_to s r id v w (word_at s 0 ∷ word_at s 1 ∷ n ∷ []) s.homes r.all r.tickets r.owner (home h.0) r.last r.marks r.opens r.grows r.first_mark r.mark_given r.opens_given here tt refl
-            refl r.count r.small r.drawn (omega arith) r.is_legal r.since
+        rebuilt s r 2 n s.homes (set s.views id w) (step_to s r id v w (word_at s 0 ∷ word_at s 1 ∷ n ∷ behind s.words) s.homes r.all r.tickets r.owner (home h.0) r.last r.marks r.opens r.grows r.first_mark r.mark_given r.opens_given here tt refl
+            (as_wide s r) r.count r.small r.drawn (omega arith) r.is_legal r.since
             record {
               saw = record { based = f.saw.based; since = f.saw.since; missed = f.saw.missed; least = f.saw.least; most = f.saw.most; parts = f.saw.parts };
               numbered = record { own_number = f.numbered.own_number; given = f.numbered.given; stands_for = f.numbered.stands_for; may_give = f.numbered.may_give };

@@ -1,5 +1,5 @@
 -- The rule holds of a desk that is made.
-use Rattle.std.proofs.Common.{◌≡◌, ℕ, zero, suc, ◌<◌, List, [], ◌∷◌, length, sym, refl, subst, arith, None, le_refl}
+use Rattle.std.proofs.Common.{◌≡◌, ℕ, zero, suc, ◌<◌, List, [], ◌∷◌, length, replicate, sym, refl, subst, arith, None, le_refl}
 use mathlib.Core.Option.{some, some-injective, some-ne-none}
 use lib.ListN.{get_elem?}
 use Rattle.atomic_table.specs.Table.{opening}
@@ -15,8 +15,8 @@ use Rattle.cat_desk.proofs.Logs.{both_itself, missed_none, since_none}
 use Rattle.cat_desk.proofs.Marks.{linked_self, given_self}
 
 module _ {V : Type 0} (log : V → List LogEntry) (opened : V → Opened) (legal : Opened → List LogEntry → Type 0) (mark : V → Mark) (left_open : V → Open) (key : V) where
-  pub opens : (c : ℕ) → legal (opened key) (log key) → left_open key ≡ nothing_open → c ≡ length (log key) → c < 4294967296 → Kept log opened legal mark left_open key (opening (c ∷ 1 ∷ 0 ∷ []) (None ∷ []) (newcomer log opened mark left_open key))
-  opens c ok none_open is small = record {
+  opens_at : (c : ℕ) → legal (opened key) (log key) → left_open key ≡ nothing_open → c ≡ length (log key) → c < 4294967296 → Kept log opened legal mark left_open key (opening (c ∷ 1 ∷ replicate 65 0) (None ∷ []) (newcomer log opened mark left_open key))
+  opens_at c ok none_open is small = record {
     all = log key;
     tickets = 1;
     next = 2;
@@ -27,7 +27,7 @@ module _ {V : Type 0} (log : V → List LogEntry) (opened : V → Opened) (legal
     marks = λ _. mark key;
     opens = left_open key;
     place = unborn;
-    three = refl;
+    wide = refl;
     count = is;
     small = omega arith;
     drawn = refl;
@@ -56,3 +56,7 @@ module _ {V : Type 0} (log : V → List LogEntry) (opened : V → Opened) (legal
     first_spent : (j : ℕ) (d : View) → get_elem? (newcomer log opened mark left_open key ∷ []) j ≡ some d → ¬ IsLive d.stage → tickets_of d.stage ≡ 0
     first_spent zero d e gone = absurd (gone (subst (λ (x : View). IsLive x.stage) (some-injective (newcomer log opened mark left_open key) d e) tt))
     first_spent (suc j) d e gone = absurd (some-ne-none d (sym e))
+
+  pub opens : (c : ℕ) (words : List ℕ) → words ≡ c ∷ 1 ∷ replicate 65 0 → legal (opened key) (log key) → left_open key ≡ nothing_open → c ≡ length (log key) → c < 4294967296
+      → Kept log opened legal mark left_open key (opening words (None ∷ []) (newcomer log opened mark left_open key))
+  opens c words are ok none_open is small = subst (λ (ws : List ℕ). Kept log opened legal mark left_open key (opening ws (None ∷ []) (newcomer log opened mark left_open key))) (sym are) (opens_at c ok none_open is small)

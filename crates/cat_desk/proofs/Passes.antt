@@ -107,7 +107,7 @@ module _ {V : Type 0} (log : V → List LogEntry) (opened : V → Opened) (legal
         marks = r.marks;
         opens = r.opens;
         place = r.place;
-        three = r.three;
+        wide = r.wide;
         count = r.count;
         small = r.small;
         drawn = r.drawn;
@@ -185,7 +185,7 @@ module _ {V : Type 0} (log : V → List LogEntry) (opened : V → Opened) (legal
         marks = r.marks;
         opens = r.opens;
         place = r.place;
-        three = r.three;
+        wide = r.wide;
         count = r.count;
         small = r.small;
         drawn = r.drawn;

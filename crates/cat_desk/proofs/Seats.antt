@@ -82,12 +82,16 @@ pub same_some : {A : Type 0} (a b : A) → Some a ≡ Some b → a ≡ b
 unfolding or_else
 same_some a b e = ap (or_else a) e
 
-pub three_words : (ws : List ℕ) → length ws ≡ 3 → ws ≡ get_or ws 0 0 ∷ get_or ws 1 0 ∷ get_or ws 2 0 ∷ []
+-- what stands behind the first three
+abbrev pub behind : List ℕ → List ℕ
+behind (a ∷ b ∷ c ∷ ws) = ws
+behind _ = []
+
+pub three_words : (ws : List ℕ) → 3 ≤ length ws → ws ≡ get_or ws 0 0 ∷ get_or ws 1 0 ∷ get_or ws 2 0 ∷ behind ws
 three_words [] e = absurd (omega arith)
 three_words (a ∷ []) e = absurd (omega arith)
 three_words (a ∷ b ∷ []) e = absurd (omega arith)
-three_words (a ∷ b ∷ c ∷ []) e = refl
-three_words (a ∷ b ∷ c ∷ d ∷ ws) e = absurd (omega arith)
+three_words (a ∷ b ∷ c ∷ ws) e = refl
 
 pub seats_stay : (K : ℕ → View → Type 0) (vs : List View) (me : ℕ) (w : View) → K me w → ((j : ℕ) (d : View) → j ≢ me → get_elem? vs j ≡ some d → K j d)
     → (j : ℕ) (d : View) → get_elem? (set vs me w) j ≡ some d → K j d

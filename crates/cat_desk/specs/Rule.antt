@@ -1,5 +1,5 @@
 -- The rule of the desk, and what each step tells.
--- Word 0 is the count, the length of the log; word 1 the next ticket, less as many times 2 ^ 64 as it passed; word 2 the ticket that is served. Slot 0 is where the value is at home.
+-- Word 0 is the count, the length of the log; word 1 the next ticket, less as many times 2 ^ 64 as it passed; word 2 the ticket that is served; the 64 words behind them are bells, which callers sleep at, and nothing is said of what they hold. Slot 0 is where the value is at home.
 use Rattle.std.specs.Prelude.{◌≡◌, ◌≢◌, ℕ, ◌+◌, ◌-◌, ◌%◌, ◌<◌, ◌≤◌, List, [], ◌∷◌, length, slice_index, max, Option, Some, None}
 use mathlib.Core.Option.{some}
 use mathlib.Core.Option.{Option as Maybe}
@@ -137,7 +137,7 @@ module _ {V : Type 0} (log : V → List LogEntry) (opened : V → Opened) (legal
     pub marks : ℕ → Mark
     pub opens : Open
     pub place : Place V
-    pub three : length s.words ≡ 3
+    pub wide : length s.words ≡ 67
     pub count : slice_index s.words 0 ≡ length all
     pub small : length all < 4294967296
     pub drawn : slice_index s.words 1 ≡ tickets % 18446744073709551616
@@ -211,6 +211,10 @@ module _ {V : Type 0} where
 
   abbrev pub called : Me (Option V) View → ℕ → Me (Option V) View → Type 0
   called m r n = (n.1 ≡ m.1) × (r ≡ m.0.ticket % 18446744073709551616 → (n.0 ≡ at_stage m.0 Called) × (m.0.ticket ≡ r)) × (r ≢ m.0.ticket % 18446744073709551616 → n.0 ≡ m.0)
+
+  -- nothing was moved
+  abbrev pub still : Me (Option V) View → Me (Option V) View → Type 0
+  still m n = n ≡ m
 
   abbrev pub served : Me (Option V) View → Me (Option V) View → Type 0
   served m n = (n.1 ≡ m.1) × (n.0 ≡ at_stage m.0 Idle)

@@ -1,5 +1,5 @@
 //! The desk, and its calls.
-ghost use Rattle.std.specs.Prelude.{◌≡◌, ◌+◌, ◌-◌, ◌%◌, ◌<◌, ◌≤◌, ◌∷◌, [], max, IsOk, IfOk, IfErr, Some, None, length};
+ghost use Rattle.std.specs.Prelude.{◌≡◌, ◌+◌, ◌-◌, ◌%◌, ◌<◌, ◌≤◌, ◌∷◌, [], max, IsOk, IfOk, IfErr, Some, None, length, replicate};
 ghost use Rattle.cat_model.specs.Drafts.{nothing_open, open_of, StaysOpen};
 ghost use Rattle.cat_model.specs.Turns.{Acts, snapshot};
 ghost use Rattle.cat_desk.specs.Sight.{Waiting, Called};
@@ -9,7 +9,9 @@ ghost use Rattle.cat_desk.specs.Rule.{at_stage, finding, Found};
 ghost use Rattle.cat_desk.specs.Pass.{IsFree, IsTurn, Keeps, seen, known, number_of, spare_of, stands_for, mark_of, turn_of, left_by, Remembers, found, held_for, found_turn};
 
 use crate::pass::{Held, Pass};
-use crate::plays::{Apart, Call, Compare, Draw, Give, Look, Meet, Serve, Take, Together, Turns};
+use crate::plays::{
+    Apart, Bell, Call, Compare, Draw, Give, Look, Meet, Serve, Take, Together, Turns,
+};
 use crate::view::View;
 use atomic_table::{Badge, Seat, Table};
 use cat_codes::fault::NoMemory;
@@ -28,6 +30,27 @@ const TICKET: usize = 1;
 /// The word with the ticket that is served.
 const SERVING: usize = 2;
 
+/// How many bells there are, one a word behind these. A caller waits at its ticket's, so that passing
+/// a turn on wakes whoever has the next ticket and, with no more callers than bells, nobody else.
+const BELLS: u64 = 64;
+
+/// The words of a desk whose log has so many entries, and whose first ticket is drawn and served.
+fn words_of(count: u64) -> [u64; 67]
+    ensures { result ≡ count ∷ 1 ∷ replicate 65 0 }
+{
+    let mut words = [0; 67];
+    words[COUNT] = count;
+    words[TICKET] = 1;
+    words
+}
+
+/// The word that is a ticket's bell.
+fn bell_of(ticket: u64) -> usize
+    ensures { (3 ≤ result) × (result < 67) }
+{
+    3 + (ticket % BELLS) as usize
+}
+
 /// It holds a value, which callers take in turns, in the order of their tickets. It must be spent:
 /// closed or given up.
 pub struct Desk<V: Logged> {
@@ -42,7 +65,7 @@ impl<V: Logged> Model for Desk<V> {
 
     ghost view = { λ d. record { table = d.table.shared.table_id; opened = V.opened d.table.shared.key; begun = V.log d.table.shared.key } };
 
-    ghost invariant = { λ d. (d.table.shared.table_id.words ≡ 3) × (d.table.shared.table_id.slots ≡ 1) };
+    ghost invariant = { λ d. (d.table.shared.table_id.words ≡ 67) × (d.table.shared.table_id.slots ≡ 1) };
 }
 
 impl<V: Logged> Desk<V> {
@@ -58,7 +81,7 @@ impl<V: Logged> Desk<V> {
         let count = value.count() as u64;
         let made = Table::<Option<V>, View, V, Turns, Global>::vacant(
             alloc,
-            &[count, 1, 0],
+            &words_of(count),
             1,
             &value,
         );
@@ -127,10 +150,11 @@ impl<V: Logged> Desk<V> {
             Some(_) => unreachable!(),
         }
         self.table.shared.store::<Give>(&mut seat, COUNT, count);
-        self.table
-            .shared
-            .store::<Serve>(&mut seat, SERVING, ticket + 1);
-        self.table.shared.wake_all(SERVING);
+        let next = ticket + 1;
+        self.table.shared.store::<Serve>(&mut seat, SERVING, next);
+        let bell = bell_of(next);
+        self.table.shared.store::<Bell>(&mut seat, bell, next);
+        self.table.shared.wake_all(bell);
         pass.badge = seat.into_badge();
     }
 
@@ -233,13 +257,16 @@ impl<V: Logged> Desk<V> {
         requires { (seat.old.table_id ≡ self.now.table) × (seat.old.me.0.stage ≡ Waiting) × (ticket ≡ seat.old.me.0.ticket % 18446744073709551616) }
         ensures { (seat.new.table_id ≡ seat.old.table_id) × (seat.new.me.0 ≡ at_stage seat.old.me.0 Called) × (seat.old.me.0.ticket ≡ ticket) × (seat.new.me.1 ≡ seat.old.me.1) }
     {
+        let bell = bell_of(ticket);
         for _ in rt.forever() {
+            // The bell is read first: one that rings after the ticket was looked at ends the sleep.
+            let rung = self.table.shared.load::<Bell>(seat, bell);
             let serving = self.table.shared.load::<Call>(seat, SERVING);
             if serving == ticket {
                 return;
             }
-            let low = (serving & 0xffff_ffff) as u32;
-            self.table.shared.park(rt, SERVING, low);
+            let low = (rung & 0xffff_ffff) as u32;
+            self.table.shared.park(rt, bell, low);
         }
         unreachable!()
     }

@@ -4,7 +4,7 @@ use atomic_table::{Join, Play, Split, TableRule};
 use cat_model::logged::Logged;
 
 /// The rule of the desk's table: word 0 is the count, 1 the next ticket, 2 the ticket that is served,
-/// and the one slot is where the value is at home.
+/// the others are bells, and the one slot is where the value is at home.
 pub struct Turns;
 
 impl<V: Logged> TableRule<Option<V>, View, V> for Turns {
@@ -58,6 +58,15 @@ impl<V: Logged> Play<Option<V>, View> for Serve {
     ghost use Rattle.cat_desk.specs.Rule.{served};
 
     ghost then = { λ st m r n. served m n };
+}
+
+/// A bell is looked at, or rung.
+pub(crate) struct Bell;
+
+impl<V: Logged> Play<Option<V>, View> for Bell {
+    ghost use Rattle.cat_desk.specs.Rule.{still};
+
+    ghost then = { λ st m r n. still m n };
 }
 
 /// The count is read outside a turn.

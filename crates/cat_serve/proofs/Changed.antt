@@ -16,7 +16,7 @@ use Rattle.cat_model.specs.Book.{IsGivenUp as LeavesBook}
 use Rattle.cat_model.specs.Script.{Brought, IsGivenUp, request, brought}
 use Rattle.cat_http.specs.Message.{Message}
 use Rattle.cat_rest.specs.Wanted.{wanted}
-use Rattle.cat_ledger.specs.Making.{IsNotKept}
+use Rattle.cat_core.specs.Making.{IsNotKept}
 use Rattle.cat_serve.specs.Sessions.{Readings, Fallen, Standing, Went, MayComeTo, session_of, down_request}
 use Rattle.cat_serve.specs.Answers.{Brings, given_up}
 use Rattle.cat_serve.specs.Replies.{must_be_told}

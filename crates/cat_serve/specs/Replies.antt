@@ -1,12 +1,11 @@
 -- What a session writes in reply.
 use Rattle.std.specs.Prelude.{◌≡◌, ◌⊎◌, ℕ, List, Option, Some, None, Bool, true, false, Result, Ok, Err, codes, bytes_eq}
 use Rattle.serde_json.specs.Written.{compact_text}
-use Rattle.cat_model.specs.declared.reply.Reply.{Reply}
-use Rattle.cat_model.specs.declared.reply.Reply.TheVariants as replies
 use Rattle.cat_model.specs.declared.reply.Told.{Told}
 use Rattle.cat_model.specs.declared.refusal.Refused.{Refused}
 use Rattle.cat_model.specs.declared.refusal.Refusal.{Refusal}
 use Rattle.cat_model.specs.declared.refusal.Refusal.TheVariants as refusals
+use Rattle.cat_checks.specs.Changes.{tells_change}
 use Rattle.cat_http.specs.Message.{Message}
 use Rattle.cat_http.specs.Reply.{rendered, no_memory_text}
 use Rattle.cat_replies.specs.Replies.{reply_data}
@@ -51,13 +50,6 @@ abbrev pub is_head : Message → Bool
 is_head m = bytes_eq m.method (codes "HEAD")
 
 -- ---- where no memory is left for the text of a reply
-
--- the reply tells of a change that was made, as no reading call's does, nor that of a merge that changed nothing
-abbrev pub tells_change : Reply → Bool
-tells_change (replies.Reference reference) = true
-tells_change (replies.Committed committed) = true
-tells_change (replies.Merged merged) = merged.was_applied
-tells_change _ = false
 
 abbrev pub is_fault : Refusal → Bool
 is_fault refusals.Fault = true

@@ -4,7 +4,8 @@ ghost use Rattle.std.specs.Prelude.{◌≡◌, IfErr, IfOk, Ok, Err, false, opti
 ghost use Rattle.cat_http.specs.Reply.{render, body_bytes};
 ghost use Rattle.cat_http.specs.Writing.{Wrote};
 ghost use Rattle.cat_serve.specs.Answers.{RepliesTo, given_up};
-ghost use Rattle.cat_serve.specs.Replies.{IsRefusalOf, allow_of, methods_text, must_be_told, refusal_text, said_bytes, tells_change};
+ghost use Rattle.cat_serve.specs.Replies.{IsRefusalOf, allow_of, methods_text, must_be_told, refusal_text, said_bytes};
+ghost use Rattle.cat_checks.specs.Changes.{tells_change};
 
 use cat_codes::fault::NoMemory;
 use cat_http::{Body, Response, WriteFault, write_reply};

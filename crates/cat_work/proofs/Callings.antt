@@ -3,8 +3,8 @@ use Rattle.std.proofs.Common.{◌≡◌, ◌<◌, ◌⊎◌, inl, inr, ℕ, ◌+
 use Rattle.std.proofs.lemmas.Bool.Decides.{nat_tests}
 use Rattle.sha2.specs.Sha256.{sha256}
 use Rattle.cat_core.specs.Drafts.{may_open}
-use Rattle.cat_ledger.specs.declared.logging.Turn.{Turn}
-use Rattle.cat_ledger.specs.Occasions.{Occasion, begun, made_on, opened_on, turned_step}
+use Rattle.cat_core.specs.declared.ledger.logging.Turn.{Turn}
+use Rattle.cat_core.specs.Occasions.{Occasion, begun, made_on, opened_on, turned_step}
 use Rattle.cat_model.specs.declared.command.Command.{Command}
 use Rattle.cat_model.specs.declared.log_entry.LogEntry.{LogEntry}
 use Rattle.cat_model.specs.declared.refusal.Refusal.{Refusal}

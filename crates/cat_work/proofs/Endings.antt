@@ -14,7 +14,7 @@ use Rattle.cat_desk.specs.Log.{Follows}
 use Rattle.cat_desk.specs.LogLaws.{follows_on}
 use Rattle.cat_desk.specs.Pass.{DeskId, Keeps, known, left_by, mark_of, number_of, seen, spare_of, stands_for}
 use Rattle.cat_desk.specs.declared.pass.Pass.{Pass}
-use Rattle.cat_ledger.specs.Occasions.{made_on}
+use Rattle.cat_core.specs.Occasions.{made_on}
 use Rattle.cat_model.specs.declared.command.Command.{Command}
 use Rattle.cat_model.specs.declared.limits.Limits.{Limits}
 use Rattle.cat_model.specs.declared.log_entry.LogEntry.{LogEntry}

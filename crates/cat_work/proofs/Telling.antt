@@ -28,8 +28,8 @@ use Rattle.cat_work.specs.Answers.{Answers, AnswersAlone, Causes, ComesToIn, Had
 use Rattle.cat_work.specs.Passes.{IsAlone, book_of, state_of}
 use Rattle.cat_work.specs.Turns.{Turned}
 use Rattle.cat_work.proofs.Callings.{Brings, Entering, Telling, entry_draft_is, entry_is, refused_is, told_is}
-use Rattle.cat_ledger.specs.PlainLaws.{IsUsual, IsUsualCause}
-use Rattle.cat_ledger.specs.UsualLaws.{usual_step}
+use Rattle.cat_core.specs.PlainLaws.{IsUsual, IsUsualCause}
+use Rattle.cat_core.specs.UsualLaws.{usual_step}
 
 -- ---- what is found and left
 

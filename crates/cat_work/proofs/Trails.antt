@@ -13,7 +13,7 @@ use Rattle.cat_decisions.specs.declared.building.Work.TheVariants as works
 use Rattle.cat_decisions.specs.declared.call.Call.{Call}
 use Rattle.cat_decisions.specs.declared.call.Call.TheVariants as calls
 use Rattle.cat_checks.specs.Histories.{IsLegalFrom, begun, book_at}
-use Rattle.cat_checks.specs.HistoryLaws.{book_more, books_later, legal_front, place_is}
+use Rattle.cat_checks.specs.HistoryLaws.{begins_legal, book_more, books_later, place_is}
 use Rattle.cat_desk.specs.Log.{Follows}
 use Rattle.cat_desk.specs.Pass.{DeskId}
 use Rattle.cat_model.specs.declared.command.Command.{Command}
@@ -37,10 +37,10 @@ pub goes_later : (desk : DeskId) (n : ℕ) (a b : List LogEntry) → Follows n a
 goes_later desk n a b f = subst (λ (x : Book). IsLater (state_of desk a) x.state) (sym (ap (book_at desk.opened) f.1 ∙ book_more sha256 (begun desk.opened) a f.0)) (books_later sha256 (book_at desk.opened a) f.0)
 
 pub place_at : (desk : DeskId) (log : List LogEntry) → IsLegalFrom desk.opened log → (state_of desk log).place ≡ desk.opened.state.place + length log
-place_at desk log legal = place_is sha256 (begun desk.opened) log legal
+place_at desk log is = place_is sha256 (begun desk.opened) log is.legal
 
 legal_before : (desk : DeskId) (n : ℕ) (a b : List LogEntry) → Follows n a b → IsLegalFrom desk.opened b → IsLegalFrom desk.opened a
-legal_before desk n a b f legal = legal_front sha256 (begun desk.opened) a f.0 (subst (IsLegalFrom desk.opened) f.1 legal)
+legal_before desk n a b f is = begins_legal desk.opened a f.0 (subst (IsLegalFrom desk.opened) f.1 is)
 
 -- ---- heads
 

@@ -8,7 +8,7 @@ use Rattle.cat_io.specs.Clocks.{Ticks}
 use Rattle.cat_desk.specs.Pass.{DeskId, known, mark_of, number_of, seen}
 use Rattle.cat_desk.specs.declared.pass.Pass.{Pass}
 use Rattle.cat_state.specs.Kept.{spelling}
-use Rattle.cat_ledger.specs.Making.{IsNotKept}
+use Rattle.cat_core.specs.Making.{IsNotKept}
 use Rattle.cat_model.specs.declared.command.Command.{Command}
 use Rattle.cat_model.specs.declared.limits.Quantity.{Quantity}
 use Rattle.cat_model.specs.declared.limits.Quantity.TheVariants.{Drafts}

@@ -1,5 +1,4 @@
-use Rattle.std.proofs.Common.{inl, ◌≡◌, ◌+◌, ◌<◌, ℕ, List, [], ◌++◌, Bool, Some, IsTrue, vec_len, rules, arith, ◌||◌, false, ap₂, refl, sym, ◌∙◌, subst}
-use Rattle.std.specs.List.{All}
+use Rattle.std.proofs.Common.{inl, ◌≡◌, ◌+◌, ◌<◌, List, [], Bool, Some, IsTrue, vec_len, rules, arith, ◌||◌, false, ap₂, refl, sym, ◌∙◌, subst}
 use Rattle.std.proofs.lemmas.List.{append-nil}
 use Rattle.cat_desk.specs.Pass.{seen}
 use Rattle.cat_desk.specs.declared.pass.Pass.{Pass}

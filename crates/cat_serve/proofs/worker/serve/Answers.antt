@@ -1,4 +1,4 @@
-use Rattle.std.proofs.Common.{inl, ◌≡◌, ℕ, ◌+◌, ◌∷◌, [], ◌++◌, Bool, Option, Some, None, IsTrue, true, false, rules, arith, refl, sym, ap, ◌∙◌, subst}
+use Rattle.std.proofs.Common.{inl, ◌≡◌, ℕ, ◌+◌, ◌∷◌, [], ◌++◌, Bool, Some, None, IsTrue, true, false, rules, arith, refl, sym, ap, ◌∙◌, subst}
 use Rattle.cat_io.specs.declared.fault.Failed.{Failed}
 use Rattle.cat_io.specs.Causes.{Rose}
 use Rattle.cat_serve.specs.Workers.{ends_of}

@@ -1,5 +1,4 @@
 use Rattle.std.proofs.Common.{rules, sym, subst}
-use Rattle.cat_work.specs.Passes.{IsReady}
 use Rattle.cat_serve.specs.Hiring.{IsDone, IsHired}
 use Rattle.cat_serve.specs.Workers.{ends_of}
 use Rattle.cat_serve.specs.declared.worker.Worker.{Worker}

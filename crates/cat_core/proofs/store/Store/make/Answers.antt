@@ -1,7 +1,7 @@
 use Rattle.std.proofs.Common.{refl}
 use Rattle.cat_decisions.specs.Builds.{command_of}
-use Rattle.cat_ledger.specs.LoggedLaws.{call_opens}
-use Rattle.cat_ledger.specs.Occasions.{in_draft, made_on}
+use Rattle.cat_core.specs.LoggedLaws.{call_opens}
+use Rattle.cat_core.specs.Occasions.{in_draft, made_on}
 use Rattle.cat_core.proofs.Held.{free_inside}
 use Rattle.cat_core.proofs.InStep.{right_made}
 use Rattle.cat_core.proofs.Making.{all_told, down_none, up_inside}

@@ -5,7 +5,7 @@ use Rattle.cat_desk.specs.Pass.{DeskId}
 use Rattle.cat_model.specs.Turns.{Adds}
 use Rattle.cat_model.specs.Mark.{Later}
 use Rattle.cat_model.specs.Drafts.{LeavesOthers}
-use Rattle.cat_desk.proofs.Keeps.{gives_value, serves}
+use Rattle.cat_desk.proofs.Keeps.{gives_value, rings, serves}
 use Rattle.cat_desk.proofs.desk.Desk.leave.Goals as goal
 
 pub store-requires : goal.store-requires
@@ -29,3 +29,6 @@ store-requires-2 g c = let turn = c.requires.turn in let now = c.exchange.ensure
       search rules,
       serves _ _ _ _ _ _ _ _ _ _ (ap (λ (v : View). v.stage) gave.0) (ap (λ (n : ℕ). n + 1) (sym (ap (λ (v : View). v.ticket) gave.0 ∙ (ap (λ (v : View). v.ticket) same ∙ turn.6)))),
     )
+
+pub store-requires-3 : goal.store-requires-3
+store-requires-3 g c = (search rules, search rules, rings _ _ _ _ _ _ _ _ _ _ _ (ap (λ (v : View). v.stage) c.store-2.ensures.2.1) c.bell_of-bell.ensures.0)

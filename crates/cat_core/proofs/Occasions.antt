@@ -1,0 +1,49 @@
+-- Calls in their turns, as calls on occasions: in no draft, or in one that is given.
+use Rattle.std.proofs.Common.{◌≡◌, ◌<◌, ℕ, Ok, true, false, not, nat_eq, refl, arith}
+use Rattle.std.proofs.lemmas.Bool.Decides.{nat_tests}
+use Rattle.std.proofs.Math.Nat.{max-zero}
+use Rattle.sha2.specs.Sha256.{sha256}
+use Rattle.cat_model.specs.declared.command.Command.{Command}
+use Rattle.cat_model.specs.declared.command.Command.TheVariants as commands
+use Rattle.cat_model.specs.Book.{Book, call_on}
+use Rattle.cat_model.specs.Calls.{call}
+use Rattle.cat_model.specs.State.{State}
+use Rattle.cat_model.specs.Step.{opening, opens_draft}
+use Rattle.cat_decisions.specs.declared.call.Call.{Call}
+use Rattle.cat_decisions.specs.Builds.{command_of}
+use Rattle.cat_core.specs.declared.ledger.logging.Turn.{Turn}
+use Rattle.cat_core.specs.LoggedLaws.{IsDraftOf, call_opens}
+use Rattle.cat_core.specs.Occasions.{in_draft, made_on, turned}
+
+abbrev pub turn_of : ℕ → ℕ → ℕ → Turn
+turn_of caller moment number = record { caller = caller; draft = number; moment = moment }
+
+-- ---- in no draft
+
+pub none_opened : (command : Command) → opens_draft command ≡ false → IsDraftOf command 0
+none_opened command opens = rw opens refl
+
+-- nothing is tested before its step
+pub passes : (state : State) (command : Command) → opens_draft command ≡ false → opening sha256 state command ≡ Ok tt
+passes state (commands.Create c) opens = refl
+passes state (commands.Assign c) opens = refl
+passes state (commands.Delete c) opens = refl
+passes state (commands.Commit c) opens = absurd cc
+passes state (commands.Merge m) opens = absurd cc
+passes state (commands.Transplant t) opens = absurd cc
+
+pub undrafted : (caller moment : ℕ) (book : Book) (command : Command) → opens_draft command ≡ false → turned book (turn_of caller moment 0) command ≡ call_on sha256 caller book command moment
+unfolding call
+undrafted caller moment book command opens = rw (passes book.state command opens, opens, max-zero book.draft) (rw opens refl)
+
+-- ---- in a draft of a number
+
+some_number : (draft : ℕ) → 0 < draft → not (nat_eq draft 0) ≡ true
+some_number draft some = grind (arith, nat_tests, some)
+
+pub number_is : (call : Call) (number : ℕ) → 0 < number → IsDraftOf (command_of call) number
+number_is call number some = rw (call_opens call) (some_number number some)
+
+pub settled : (book : Book) (caller moment number : ℕ) (call : Call) → opening sha256 book.state (command_of call) ≡ Ok tt → turned book (turn_of caller moment number) (command_of call) ≡ made_on book (in_draft caller moment number) (command_of call)
+unfolding made_on
+settled book caller moment number call opened = rw (opened, call_opens call) refl

@@ -1,9 +1,0 @@
-use Rattle.std.proofs.Common.{◌≡◌, false, rules}
-use Rattle.cat_model.specs.Step.{opens_draft}
-use Rattle.cat_ledger.proofs.Replayed.{undrafted_comes}
-use Rattle.cat_ledger.proofs.ledger.Ledger.decide_again.Goals as goal
-
-pub returns-in-Create : goal.returns-in-Create
-returns-in-Create c =
-    let opens : opens_draft c.args.entry.now.command ≡ false = search rules in
-    undrafted_comes c.args.self.now _ c.args.entry.now c.decide_reference.result opens c.catalogue.ensures c.decide_reference.ensures.decides

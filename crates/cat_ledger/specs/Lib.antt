@@ -1,8 +1,0 @@
-pub mod Making
-pub mod Occasions
-pub mod Deciding
-pub mod Remaking
-pub mod PlainLaws
-pub mod UsualLaws
-pub mod HeadLaws
-pub mod LoggedLaws
