@@ -1,0 +1,13 @@
+pub mod Appends
+pub mod Changes
+pub mod Costs
+pub mod Cutting
+pub mod Found
+pub mod Lists
+pub mod LookUps
+pub mod Order
+pub mod Seats
+pub mod Splits
+pub mod Steps
+pub mod Walks
+pub mod Runs

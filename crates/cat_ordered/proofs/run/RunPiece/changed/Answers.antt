@@ -1,0 +1,21 @@
+use Rattle.std.proofs.Common.{ap, ◌∙◌}
+use Rattle.std.specs.List.{flat_map}
+use Rattle.cat_ordered.specs.Maps.{after_changes}
+use Rattle.cat_ordered.specs.Pieces.{Shape}
+use Rattle.cat_ordered.specs.Shared.{values}
+use Rattle.cat_ordered.proofs.Cutting.{cuts_make}
+use Rattle.cat_ordered.proofs.Runs.{map_inside}
+use Rattle.cat_ordered.proofs.run.RunPiece.changed.Goals as goal
+
+pub changed-requires-clause-fine : goal.changed-requires-clause-fine
+changed-requires-clause-fine g c = rw c.as_slice.ensures.value c.self.invariant.fine
+
+pub changed-requires-clause-map : goal.changed-requires-clause-map
+changed-requires-clause-map g c = rw c.as_slice.ensures.value (map_inside g.P.Piece.entries g.P.Piece.size g.P.Piece.least g.K.Ord.cmp c.self.inside.pieces.items _ c.self.view_is c.requires.map)
+
+pub returns-clause-made : goal.returns-clause-made
+returns-clause-made g c =
+    cuts_make _ _ _ _ _ _ _ c.in_ok-runs.ensures ((rw c.as_slice.ensures.value at c.in_ok-made.ensures.made.whole) ∙ ap (λ (r : Shape g.row.K.Denot g.row.V.Denot). after_changes g.K.Ord.cmp c.args.changes.now r.entries) c.self.view_is)
+
+pub returns-clause-few : goal.returns-clause-few
+returns-clause-few g c = c.in_ok-made.ensures.few

@@ -1,0 +1,5 @@
+pub mod Maps
+pub mod Pieces
+pub mod Places
+pub mod Shared
+pub mod Walks

@@ -1,0 +1,138 @@
+//! Runs of pieces.
+
+ghost use Rattle.std.specs.Prelude.{◌≡◌, ◌*◌, ◌+◌, None, IfOk, IsTrue, length};
+ghost use Rattle.std.specs.List.{flat_map};
+ghost use Rattle.cat_ordered.specs.Pieces.{AreFine, Cuts};
+ghost use Rattle.cat_ordered.specs.Shared.{values};
+
+use crate::change::Change;
+use crate::pair::Pair;
+use crate::piece::{MOST, Made, Piece};
+use crate::{growing, pieces};
+use std::alloc::{AllocError, Global};
+use std::marker::{Model, PhantomData};
+use std::sync::Arc;
+
+/// Pieces in the order of their keys, which versions of a map share, and how many pairs they have.
+#[derive(Drop)]
+pub(crate) struct Run<K: Ord, V, P: Piece<K, V>> {
+    pieces: Vec<Arc<P>>,
+    len: usize,
+    of: PhantomData<(K, V)>,
+}
+
+impl<K: Ord, V, P: Piece<K, V>> Model for Run<K, V, P> {
+    ghost use Rattle.std.specs.Prelude.{length};
+    ghost use Rattle.std.specs.List.{flat_map};
+    ghost use Rattle.cat_ordered.specs.Pieces.{Shape, IsRun};
+    ghost use Rattle.cat_ordered.specs.Shared.{values};
+
+    ghost Value = { Shape K V };
+
+    ghost view = { λ r. record { entries = flat_map P.entries (values r.pieces.items); size = length r.pieces.items } };
+
+    ghost invariant = { λ r. IsRun P.entries P.size P.least (values r.pieces.items) r.len };
+}
+
+/// A run of pieces; refused where no number can say how many pairs they have.
+fn run_of<K: Ord, V, P: Piece<K, V>>(pieces: Vec<Arc<P>>) -> Result<Run<K, V, P>, AllocError>
+    requires { AreFine P.entries P.size P.least (values pieces.items) }
+    ensures { IfOk result (λ r. r ≡ record { entries = flat_map P.entries (values pieces.items); size = length pieces.items }) }
+{
+    let Some(len) = pieces::total::<K, V, P>(pieces.as_slice()) else {
+        return Err(AllocError);
+    };
+    Ok(Run {
+        pieces,
+        len,
+        of: PhantomData,
+    })
+}
+
+/// Pieces as runs of at most 64.
+fn runs<K: Ord, V, P: Piece<K, V>>(
+    alloc: Global,
+    pieces: Vec<Arc<P>>,
+) -> Result<Vec<Arc<Run<K, V, P>>>, AllocError>
+    requires { AreFine P.entries P.size P.least (values pieces.items) }
+    ensures { IfOk result (λ v. Cuts (λ r. r.entries) (λ r. r.size) (16 * P.least) (flat_map P.entries (values pieces.items)) (length pieces.items) (values v.items)) }
+{
+    let mut out = Vec::new(alloc);
+    let mut rest = pieces;
+    while rest.len() > MOST {
+        let others = rest.split_off(MOST / 2)?;
+        let run = run_of(rest)?;
+        out.push(Arc::new(alloc, run)?)?;
+        rest = others;
+    }
+    if rest.is_empty() {
+        return Ok(out);
+    }
+    let last = run_of(rest)?;
+    out.push(Arc::new(alloc, last)?)?;
+    Ok(out)
+}
+
+impl<K: Ord, V, P: Piece<K, V>> Piece<K, V> for Run<K, V, P> {
+    ghost entries = { λ r. r.entries };
+
+    ghost size = { λ r. r.size };
+
+    ghost least = { 16 * P.least };
+
+    ghost rate = { P.rate + 128 };
+
+    fn empty(alloc: Global) -> Run<K, V, P> {
+        Run {
+            pieces: Vec::new(alloc),
+            len: 0,
+            of: PhantomData,
+        }
+    }
+
+    fn len(&self) -> usize {
+        self.len
+    }
+
+    fn parts(&self) -> usize {
+        self.pieces.len()
+    }
+
+    fn first(&self) -> &K {
+        self.pieces[0].first()
+    }
+
+    fn get(&self, key: &K) -> (Option<&V>, u32) {
+        pieces::found(self.pieces.as_slice(), key)
+    }
+
+    fn rank(&self, key: &K) -> usize {
+        pieces::rank(self.pieces.as_slice(), self.len, key)
+    }
+
+    fn rest(&self, at: usize) -> &[Pair<K, V>] {
+        pieces::rest(self.pieces.as_slice(), at)
+    }
+
+    fn changed(
+        &self,
+        alloc: Global,
+        changes: &[Change<K, V>],
+    ) -> Result<Made<Run<K, V, P>>, AllocError> {
+        let made = growing::changed(alloc, self.pieces.as_slice(), changes)?;
+        Ok(Made {
+            pieces: runs(alloc, made.pieces)?,
+            copied: made.copied,
+        })
+    }
+
+    fn joined(&self, alloc: Global, next: &Run<K, V, P>) -> Result<Made<Run<K, V, P>>, AllocError> {
+        let mut out = Vec::new(alloc);
+        growing::share_all(&mut out, self.pieces.as_slice())?;
+        let copied = growing::append_all::<K, V, P>(alloc, &mut out, next.pieces.as_slice())?;
+        Ok(Made {
+            pieces: runs(alloc, out)?,
+            copied,
+        })
+    }
+}
