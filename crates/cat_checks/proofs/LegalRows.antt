@@ -14,7 +14,7 @@ use Rattle.cat_model.specs.declared.log_entry.LogEntry.{LogEntry}
 use Rattle.cat_model.specs.declared.reference.Kind.{Kind}
 use Rattle.cat_model.specs.declared.reference.Kind.TheVariants.{Branch}
 use Rattle.cat_model.specs.Book.{Book, first_book}
-use Rattle.cat_model.specs.Calls.{entry_made}
+use Rattle.cat_model.specs.Calls.{attempt, entry_made}
 use Rattle.cat_model.specs.Chain.{entries}
 use Rattle.cat_model.specs.Formats.{moment_code}
 use Rattle.cat_model.specs.Moves.{needs_contents, step_create}
@@ -56,7 +56,7 @@ creates : (is_legal none book (create 1 0 (Some (codes "main")) []) ≡ true)
     × (is_legal none book (create 1 0 (Some (codes "main")) (9 ∷ [])) ≡ false)
     × (is_legal none book (create 1 0 (Some (codes "dev")) []) ≡ false)
     × (is_legal none book (create 1 0 None []) ≡ false)
-unfolding none entries text_code encode u8_spelling u16_spelling u32_spelling u64_spelling hash_code ref_name_code moment_code entry_made needs_contents step_create expired_keys is_well_made create_code log_entry_code pointer_code reference_code is_legal replayed_call
+unfolding none entries text_code encode u8_spelling u16_spelling u32_spelling u64_spelling hash_code ref_name_code moment_code entry_made needs_contents step_create expired_keys is_well_made create_code log_entry_code pointer_code reference_code is_legal attempt
 creates = (refl, refl, refl, refl, refl, refl)
 
 -- a draft that no entry has, and no draft
@@ -96,5 +96,5 @@ said = record (create 1 0 (Some (codes "main")) []) {
 
 -- it is spelled as the entry that its call logs, and isn't that entry
 kinds : (is_legal none book said ≡ true) × (IsLegal none book said → ⊥)
-unfolding none entries text_code encode u8_spelling u16_spelling u32_spelling u64_spelling hash_code ref_name_code moment_code entry_made needs_contents step_create expired_keys is_well_made create_code log_entry_code pointer_code reference_code is_legal replayed_call
+unfolding none entries text_code encode u8_spelling u16_spelling u32_spelling u64_spelling hash_code ref_name_code moment_code entry_made needs_contents step_create expired_keys is_well_made create_code log_entry_code pointer_code reference_code is_legal attempt
 kinds = (refl, λ is. let no : None ≡ Some Branch = ap says (legal_is_as_logged none book said is) in cc)

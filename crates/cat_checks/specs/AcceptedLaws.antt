@@ -1,5 +1,5 @@
 -- The entry of an accepted call is legal where it stands, and leads to the state that the call led to.
-use Rattle.std.proofs.Common.{◌≡◌, ℕ, ◌<◌, max, List, [], ◌∷◌, Option, Some, None, Result, Ok, Err, Bool, true, false, not, nat_eq, nat_lt, if◌then◌else◌, refl, ap, ap₂, ◌∙◌, ltb-true, arith}
+use Rattle.std.proofs.Common.{◌≡◌, ℕ, ◌<◌, max, List, [], ◌∷◌, Option, Some, None, Result, Ok, Err, Bool, true, false, not, ◌||◌, nat_eq, nat_lt, if◌then◌else◌, refl, ap, ap₂, ◌∙◌, ltb-true, arith}
 use Rattle.cat_model.specs.KeySets.{key_set}
 use Rattle.std.proofs.lemmas.Slice.Eq.{bytes_eq-Decides}
 use Rattle.sha2.specs.Sha256.{sha256}
@@ -21,18 +21,17 @@ use Rattle.cat_model.specs.declared.refusal.Refusal.{Refusal}
 use Rattle.cat_model.specs.declared.refusal.Refusal.TheVariants.{BadRequest, Conflicts}
 use Rattle.cat_model.specs.declared.refusal.Reason.TheVariants.{OtherType}
 use Rattle.cat_model.specs.declared.reply.Reply.{Reply}
-use Rattle.cat_model.specs.Base.{base}
 use Rattle.cat_model.specs.Book.{Book}
-use Rattle.cat_model.specs.Calls.{Called, entry_made, stepped, told_at}
+use Rattle.cat_model.specs.Calls.{Called, attempt, entry_made, stepped, told_at}
 use Rattle.cat_model.specs.Chain.{entries}
 use Rattle.cat_model.specs.Commits.{commit_opening, given_ops, given_request, request_commit, step_commit}
-use Rattle.cat_model.specs.Merges.{Asked, Planned, all_conflicts, all_set, applied, commits_made, merge_opening, merge_planned, needs_planned_room, step_applied, step_merge, step_planned, step_unless_conflicts, with_planned}
+use Rattle.cat_model.specs.Merges.{Plans, all_conflicts, all_set, commits_made, merge_opening, merge_planned, merge_plans, needs_planned_room, step_applied, step_merge, step_planned, step_unless_conflicts, with_planned}
 use Rattle.cat_model.specs.Moves.{step_assign, step_create}
 use Rattle.cat_model.specs.Records.{expired_keys, needs_no_expired}
 use Rattle.cat_model.specs.Refusing.{◌>>=◌, Outcome, Tested, is_of_kind, named, needs, needs_kind, needs_source_kind, perhaps_named}
 use Rattle.cat_model.specs.State.{Digest, State}
 use Rattle.cat_model.specs.Step.{Turn, head_left, logged_command, opening, opens_draft, step}
-use Rattle.cat_model.specs.Transplants.{step_transplant, transplant_opening, transplant_planned}
+use Rattle.cat_model.specs.Transplants.{step_transplant, transplant_opening, transplant_planned, transplant_plans}
 use Rattle.cat_model.specs.WellMade.{have_contents, is_well_made, may_be_asked}
 use Rattle.cat_frames.specs.Entries.{log_entry_code, of_nobody}
 use Rattle.cat_checks.specs.GivenLaws.{given_once, request_once, well_made_again}
@@ -115,46 +114,41 @@ none_missing : {B : Type 0} (keys : List Key) (opened other : ℕ) (f g : Unit {
 none_missing [] opened other f g after e h = h e
 none_missing (key ∷ keys) opened other f g after e h = absurd cc
 
-applied_again : (state : State) (ancestor : Option Hash) (branch : Reference) (ps : List Planned) (made : Hash × State) (tried : Bool) (after : State) (reply : Reply) → Rose state after
-    → as_outcome (applied state ancestor branch ps made tried) ≡ accepts after reply → as_outcome (applied state ancestor branch ps made false) ≡ accepts after reply
-applied_again state ancestor branch ps made true after reply rose e = absurd (stayed state after _ reply rose e)
-applied_again state ancestor branch ps made false after reply rose e = e
+-- the call is made, and its conflicts are a refusal, wherever it began
+abbrev made_so : Plans → ℕ → Plans
+made_so p opened = record p { asked = record { dry_run = false; conflicts_as_result = false }; opened = opened }
 
--- the call is made, and its conflicts are a refusal
-abbrev made_so : Asked
-made_so = record { dry_run = false; conflicts_as_result = false }
+chosen_again : (state : State) (tried same : Bool) (stays told reply : Reply) (made after : State) → Rose state after
+    → as_outcome (if tried || same then (state, stays) else (made, told)) ≡ accepts after reply → as_outcome (if same then (state, stays) else (made, told)) ≡ accepts after reply
+chosen_again state true same stays told reply made after rose e = absurd (stayed state after stays reply rose e)
+chosen_again state false same stays told reply made after rose e = e
 
-plans_again : (digest : Digest) (state : State) (ancestor : Option Hash) (branch : Reference) (ps : List Planned) (tried : Bool) (opened other moment : ℕ) (after : State) (reply : Reply) → Rose state after
-    → step_applied digest state ancestor branch ps tried opened moment ≡ accepts after reply → step_applied digest state ancestor branch ps false other moment ≡ accepts after reply
+applied_again : (digest : Digest) (state : State) (p : Plans) (other : ℕ) (after : State) (reply : Reply) → Rose state after → step_applied digest state p ≡ accepts after reply → step_applied digest state (made_so p other) ≡ accepts after reply
 unfolding step_applied
-plans_again digest state ancestor branch ps tried opened other moment after reply rose e =
-    none_missing (key_set (expired_keys state (all_set ps))) opened other _ _ (after, reply) e (λ held.
-    kept_by (with_planned digest moment state branch.head (commits_made ps)) _ _ (after, reply) held (λ made own. applied_again state ancestor branch ps made tried after reply rose own))
+applied_again digest state p other after reply rose e =
+    none_missing (key_set (expired_keys state (all_set p.planned))) p.opened other _ _ (after, reply) e (λ held.
+    kept_by (with_planned digest p.moment state p.branch.head (commits_made p.planned)) _ _ (after, reply) held (λ made own. chosen_again state p.asked.dry_run _ _ _ reply _ after rose own))
 
-unless_again : (digest : Digest) (state : State) (ancestor : Option Hash) (branch : Reference) (ps : List Planned) (a : Asked) (opened other moment : ℕ) (conflicts : List Conflict) (after : State) (reply : Reply) → Rose state after
-    → step_unless_conflicts digest state ancestor branch ps a opened moment conflicts ≡ accepts after reply → step_unless_conflicts digest state ancestor branch ps made_so other moment conflicts ≡ accepts after reply
-unless_again digest state ancestor branch ps a opened other moment [] after reply rose e = plans_again digest state ancestor branch ps a.dry_run opened other moment after reply rose e
-unless_again digest state ancestor branch ps a opened other moment (x ∷ conflicts) after reply rose e = absurd (no_clash a.conflicts_as_result state after _ reply (Conflicts (x ∷ conflicts)) rose e)
+unless_again : (digest : Digest) (state : State) (p : Plans) (other : ℕ) (conflicts : List Conflict) (after : State) (reply : Reply) → Rose state after
+    → step_unless_conflicts digest state p conflicts ≡ accepts after reply → step_unless_conflicts digest state (made_so p other) conflicts ≡ accepts after reply
+unless_again digest state p other [] after reply rose e = applied_again digest state p other after reply rose e
+unless_again digest state p other (x ∷ conflicts) after reply rose e = absurd (no_clash p.asked.conflicts_as_result state after _ reply (Conflicts (x ∷ conflicts)) rose e)
 
-planned_again : (digest : Digest) (state : State) (ancestor : Option Hash) (branch : Reference) (ps : List Planned) (a : Asked) (opened other moment : ℕ) (after : State) (reply : Reply) → Rose state after
-    → step_planned digest state ancestor branch ps a opened moment ≡ accepts after reply → step_planned digest state ancestor branch ps made_so other moment ≡ accepts after reply
-planned_again digest state ancestor branch ps a opened other moment after reply rose e =
-    kept_by (needs_planned_room state (entries state.commits branch.head) ps) _ _ (after, reply) e (λ u own. unless_again digest state ancestor branch ps a opened other moment (all_conflicts ps) after reply rose own)
+planned_again : (digest : Digest) (state : State) (p : Plans) (other : ℕ) (after : State) (reply : Reply) → Rose state after → step_planned digest state p ≡ accepts after reply → step_planned digest state (made_so p other) ≡ accepts after reply
+planned_again digest state p other after reply rose e =
+    kept_by (needs_planned_room state (entries state.commits p.branch.head) p.planned) _ _ (after, reply) e (λ u own. unless_again digest state p other (all_conflicts p.planned) after reply rose own)
 
 merge_again : (digest : Digest) (state : State) (m : Merge) (opened other moment : ℕ) (after : State) (reply : Reply) → Rose state after
     → step_merge digest state m opened moment ≡ accepts after reply → step_merge digest state (record m { dry_run = false; conflicts_as_result = false }) other moment ≡ accepts after reply
 unfolding step_merge merge_opening merge_planned
 merge_again digest state m opened other moment after reply rose e =
-    kept_by (merge_opening digest state m) _ _ (after, reply) e (λ (branch, source) own.
-    let ancestor = base state.commits source branch.head in
-    planned_again digest state (Some ancestor) branch (merge_planned state m ancestor source branch.head ∷ []) (record { dry_run = m.dry_run; conflicts_as_result = m.conflicts_as_result }) opened other moment after reply rose own)
+    kept_by (merge_opening digest state m) _ _ (after, reply) e (λ (branch, source) own. planned_again digest state (merge_plans state m branch source opened moment) other after reply rose own)
 
 transplant_again : (digest : Digest) (state : State) (t : Transplant) (opened other moment : ℕ) (after : State) (reply : Reply) → Rose state after
     → step_transplant digest state t opened moment ≡ accepts after reply → step_transplant digest state (record t { dry_run = false; conflicts_as_result = false }) other moment ≡ accepts after reply
 unfolding step_transplant transplant_opening transplant_planned
 transplant_again digest state t opened other moment after reply rose e =
-    kept_by (transplant_opening digest state t) _ _ (after, reply) e (λ branch own.
-    planned_again digest state None branch (transplant_planned state t branch.head) (record { dry_run = t.dry_run; conflicts_as_result = t.conflicts_as_result }) opened other moment after reply rose own)
+    kept_by (transplant_opening digest state t) _ _ (after, reply) e (λ branch own. planned_again digest state (transplant_plans state t branch opened moment) other after reply rose own)
 
 -- ---- an accepted step is that of the command as it is logged
 
@@ -251,7 +245,7 @@ pub brought_again : (digest : Digest) (caller : ℕ) (book : Book) (command : Co
       state = after;
       draft = max book.draft turn.draft;
     }
-unfolding replayed_call entry_made
+unfolding attempt entry_made
 brought_again digest caller book command turn after reply made e rose =
     let entry = entry_made digest caller after command turn reply in
     let logged = logged_command digest turn.draft command in

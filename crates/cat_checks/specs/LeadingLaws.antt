@@ -23,22 +23,21 @@ use Rattle.cat_model.specs.declared.reference.Reference.{Reference}
 use Rattle.cat_model.specs.declared.refusal.Refusal.{Refusal}
 use Rattle.cat_model.specs.declared.refusal.Refusal.TheVariants.{Collision, Conflicts}
 use Rattle.cat_model.specs.declared.reply.Reply.{Reply}
-use Rattle.cat_model.specs.Base.{base}
 use Rattle.cat_model.specs.Book.{Book}
-use Rattle.cat_model.specs.Calls.{Called, stepped}
+use Rattle.cat_model.specs.Calls.{Called, attempt, stepped}
 use Rattle.cat_model.specs.Chain.{entries}
 use Rattle.cat_model.specs.Commits.{commit_opening, given_ops, needs_commit_room, or_conflicts, puts, request_commit, step_commit}
 use Rattle.cat_model.specs.Contents.{content_code}
 use Rattle.cat_model.specs.Formats.{commit_code}
 use Rattle.cat_model.specs.Judge.{judge}
 use Rattle.cat_model.specs.Later.{Adds, IsLater}
-use Rattle.cat_model.specs.Merges.{Asked, Planned, all_conflicts, applied, commits_made, has_changes, merge_opening, merge_planned, needs_planned_room, needs_set_contents, planned_commit, step_applied, step_merge, step_planned, step_unless_conflicts, with_planned}
+use Rattle.cat_model.specs.Merges.{Planned, Plans, all_conflicts, applied, commits_made, has_changes, merge_opening, merge_plans, needs_planned_room, needs_set_contents, planned_commit, step_applied, step_merge, step_planned, step_unless_conflicts, with_planned}
 use Rattle.cat_model.specs.Moves.{needs_contents, needs_head, needs_log, needs_new_name, needs_other_than_default, step_assign, step_create, step_delete}
 use Rattle.cat_model.specs.Records.{added, commit_bytes, content_bytes, with_commit, with_content, with_contents}
 use Rattle.cat_model.specs.Refusing.{◌>>=◌, Outcome, Tested, named, needs_kind, needs_room, needs_source_kind, perhaps_named, pointed}
 use Rattle.cat_model.specs.State.{Digest, State, commit_hash, content_hash}
 use Rattle.cat_model.specs.Step.{Turn, head_told, opening, step}
-use Rattle.cat_model.specs.Transplants.{step_transplant, transplant_opening, transplant_planned}
+use Rattle.cat_model.specs.Transplants.{step_transplant, transplant_opening, transplant_plans}
 use Rattle.cat_checks.specs.Changes.{tells_change}
 use Rattle.cat_checks.specs.Legal.{draft_after, is_just, is_legal, replayed_by, replayed_call, turn_of}
 use Rattle.cat_checks.specs.MainLaws.{commit_branch, main_assigned, main_moved, main_with, main_without, merge_branch, passed, transplant_branch}
@@ -247,40 +246,37 @@ choice_leads : (digest : Digest) (a : State) (b : Bool) (x y : State × Reply) �
 choice_leads digest a true x y p q = p
 choice_leads digest a false x y p q = q
 
-applied_leads : (digest : Digest) (a : State) (ancestor : Option Hash) (branch : Reference) (ps : List Planned) (made : Hash × State) (tried : Bool) → branch.kind ≡ Branch → Grows digest a made.1 → IsStep digest a (applied a ancestor branch ps made tried)
-applied_leads digest a ancestor branch ps made tried kind g =
-    choice_leads digest a (tried || not (list_any (λ p. has_changes p.plan.ops) ps)) _ _ (stays digest a _ refl) (next digest a made.1 _ _ refl refl g (main_moved made.1.references _ (λ same. kind)))
+applied_leads : (digest : Digest) (a : State) (p : Plans) (made : Hash × State) → p.branch.kind ≡ Branch → Grows digest a made.1 → IsStep digest a (applied a p made)
+applied_leads digest a p made kind g =
+    choice_leads digest a (p.asked.dry_run || not (list_any (λ one. has_changes one.plan.ops) p.planned)) _ _ (stays digest a _ refl) (next digest a made.1 _ _ refl refl g (main_moved made.1.references _ (λ same. kind)))
 
-plans_lead : (digest : Digest) (a : State) (ancestor : Option Hash) (branch : Reference) (ps : List Planned) (tried : Bool) (opened moment : ℕ) → branch.kind ≡ Branch → LeadsOn digest a (step_applied digest a ancestor branch ps tried opened moment)
+plans_lead : (digest : Digest) (a : State) (p : Plans) → p.branch.kind ≡ Branch → LeadsOn digest a (step_applied digest a p)
 unfolding step_applied
-plans_lead digest a ancestor branch ps tried opened moment kind =
-    leads_bind digest a (needs_set_contents a ps opened) _ (λ u.
-    made_bind digest a (with_planned digest moment a branch.head (commits_made ps)) _ (plans_grow digest moment a branch.head (commits_made ps)) (λ made g. applied_leads digest a ancestor branch ps made tried kind g))
+plans_lead digest a p kind =
+    leads_bind digest a (needs_set_contents a p.planned p.opened) _ (λ u.
+    made_bind digest a (with_planned digest p.moment a p.branch.head (commits_made p.planned)) _ (plans_grow digest p.moment a p.branch.head (commits_made p.planned)) (λ made g. applied_leads digest a p made kind g))
 
 clash_leads : (digest : Digest) (a : State) (b : Bool) (reply : Reply) (why : Refusal) → is_some (head_told reply) ≡ true → LeadsOn digest a (if b then Ok (a, reply) else Err why)
 clash_leads digest a true reply why head = stays digest a reply head
 clash_leads digest a false reply why head = tt
 
-unless_leads : (digest : Digest) (a : State) (ancestor : Option Hash) (branch : Reference) (ps : List Planned) (asked : Asked) (opened moment : ℕ) (conflicts : List Conflict) → branch.kind ≡ Branch → LeadsOn digest a (step_unless_conflicts digest a ancestor branch ps asked opened moment conflicts)
-unless_leads digest a ancestor branch ps asked opened moment [] kind = plans_lead digest a ancestor branch ps asked.dry_run opened moment kind
-unless_leads digest a ancestor branch ps asked opened moment (x ∷ conflicts) kind = clash_leads digest a asked.conflicts_as_result _ (Conflicts (x ∷ conflicts)) refl
+unless_leads : (digest : Digest) (a : State) (p : Plans) (conflicts : List Conflict) → p.branch.kind ≡ Branch → LeadsOn digest a (step_unless_conflicts digest a p conflicts)
+unless_leads digest a p [] kind = plans_lead digest a p kind
+unless_leads digest a p (x ∷ conflicts) kind = clash_leads digest a p.asked.conflicts_as_result _ (Conflicts (x ∷ conflicts)) refl
 
-planned_leads : (digest : Digest) (a : State) (ancestor : Option Hash) (branch : Reference) (ps : List Planned) (asked : Asked) (opened moment : ℕ) → branch.kind ≡ Branch → LeadsOn digest a (step_planned digest a ancestor branch ps asked opened moment)
-planned_leads digest a ancestor branch ps asked opened moment kind =
-    leads_bind digest a (needs_planned_room a (entries a.commits branch.head) ps) _ (λ u. unless_leads digest a ancestor branch ps asked opened moment (all_conflicts ps) kind)
+planned_leads : (digest : Digest) (a : State) (p : Plans) → p.branch.kind ≡ Branch → LeadsOn digest a (step_planned digest a p)
+planned_leads digest a p kind =
+    leads_bind digest a (needs_planned_room a (entries a.commits p.branch.head) p.planned) _ (λ u. unless_leads digest a p (all_conflicts p.planned) kind)
 
 merge_leads : (digest : Digest) (a : State) (m : Merge) (opened moment : ℕ) → LeadsOn digest a (step_merge digest a m opened moment)
 unfolding step_merge
 merge_leads digest a m opened moment =
-    found_bind digest a (merge_opening digest a m) _ (λ (branch, source) is.
-    let ancestor = base a.commits source branch.head in
-    planned_leads digest a (Some ancestor) branch (merge_planned a m ancestor source branch.head ∷ []) (record { dry_run = m.dry_run; conflicts_as_result = m.conflicts_as_result }) opened moment (merge_branch digest a m (branch, source) is))
+    found_bind digest a (merge_opening digest a m) _ (λ (branch, source) is. planned_leads digest a (merge_plans a m branch source opened moment) (merge_branch digest a m (branch, source) is))
 
 transplant_leads : (digest : Digest) (a : State) (t : Transplant) (opened moment : ℕ) → LeadsOn digest a (step_transplant digest a t opened moment)
 unfolding step_transplant
 transplant_leads digest a t opened moment =
-    found_bind digest a (transplant_opening digest a t) _ (λ branch is.
-    planned_leads digest a None branch (transplant_planned a t branch.head) (record { dry_run = t.dry_run; conflicts_as_result = t.conflicts_as_result }) opened moment (transplant_branch digest a t branch is))
+    found_bind digest a (transplant_opening digest a t) _ (λ branch is. planned_leads digest a (transplant_plans a t branch opened moment) (transplant_branch digest a t branch is))
 
 step_leads : (digest : Digest) (a : State) (command : Command) (turn : Turn) → LeadsOn digest a (step digest a command turn)
 step_leads digest a (commands.Create c) turn = create_leads digest a c
@@ -362,7 +358,7 @@ tested_comes digest book entry (Ok u) =
     outcome_comes digest book.state entry (draft_after book entry) entry.command (turn_of book entry) (step digest book.state entry.command (turn_of book entry)) (step_leads digest book.state entry.command (turn_of book entry))
 
 call_comes : (digest : Digest) (book : Book) (entry : LogEntry) → Comes digest book.state entry (replayed_call digest book entry)
-unfolding replayed_call
+unfolding attempt
 call_comes digest book entry = tested_comes digest book entry (opening digest book.state entry.command)
 
 -- whether or not the entry is legal

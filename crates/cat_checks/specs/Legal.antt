@@ -5,11 +5,11 @@ use Rattle.std.specs.Str.{bytes_eq}
 use Rattle.cat_codes.specs.declared.fault.FieldFault.{FieldFault}
 use Rattle.cat_codes.specs.Code.{whole}
 use Rattle.cat_model.specs.declared.log_entry.LogEntry.{LogEntry}
-use Rattle.cat_model.specs.Book.{Book, after_call}
-use Rattle.cat_model.specs.Calls.{Called, unchanged_by, stepped}
+use Rattle.cat_model.specs.Book.{Book, after_call, attempt_on}
+use Rattle.cat_model.specs.Calls.{Called, in_draft, tried}
 use Rattle.cat_model.specs.Refusing.{◌>>=◌, Tested}
 use Rattle.cat_model.specs.State.{Digest}
-use Rattle.cat_model.specs.Step.{Turn, opens_draft, opening, step}
+use Rattle.cat_model.specs.Step.{Turn, opens_draft}
 use Rattle.cat_model.specs.WellMade.{is_well_made}
 use Rattle.cat_frames.specs.Entries.{log_entry_code, of_nobody}
 
@@ -25,14 +25,11 @@ draft_after book entry = max book.draft entry.draft
 
 -- what the call of an entry brings, by the outcome of the tests before its draft
 abbrev pub replayed_by : Digest → Book → LogEntry → Tested → Called
-replayed_by digest book entry (Err why) = unchanged_by book.state (draft_after book entry) (Err why)
-replayed_by digest book entry (Ok _) =
-    let turn = turn_of book entry in
-    stepped digest 0 book.state (draft_after book entry) entry.command turn (step digest book.state entry.command turn)
+replayed_by digest book entry tested = tried digest 0 book.state book.draft entry.command (turn_of book entry) tested
 
--- what the call of an entry brings on a book, by nobody: as each call, but that its draft number is given, and no limit of these is tested
-unfoldable pub replayed_call : Digest → Book → LogEntry → Called
-replayed_call digest book entry = replayed_by digest book entry (opening digest book.state entry.command)
+-- what the call of an entry brings on a book: an attempt by nobody, in the entry's draft
+abbrev pub replayed_call : Digest → Book → LogEntry → Called
+replayed_call digest book entry = attempt_on digest book (in_draft 0 entry.moment entry.draft) entry.command
 
 -- ---- legal entries
 

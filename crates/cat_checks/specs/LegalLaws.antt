@@ -6,7 +6,7 @@ use Rattle.cat_model.specs.declared.command.Command.{Command}
 use Rattle.cat_model.specs.declared.log_entry.LogEntry.{LogEntry}
 use Rattle.cat_model.specs.declared.reply.Reply.{Reply}
 use Rattle.cat_model.specs.Book.{Book}
-use Rattle.cat_model.specs.Calls.{Called, entry_made, stepped}
+use Rattle.cat_model.specs.Calls.{Called, attempt, entry_made, stepped}
 use Rattle.cat_model.specs.Refusing.{Outcome, Tested}
 use Rattle.cat_model.specs.State.{Digest, State}
 use Rattle.cat_model.specs.Step.{Turn, logged_command, opening, step}
@@ -44,7 +44,7 @@ tested_has digest book entry (Err why) = tt
 tested_has digest book entry (Ok u) = stepped_has digest book.state (draft_after book entry) entry.command (turn_of book entry) (step digest book.state entry.command (turn_of book entry))
 
 called_has : (digest : Digest) (book : Book) (entry : LogEntry) → NewestHas (logged_command digest entry.draft entry.command) (replayed_call digest book entry).logged
-unfolding replayed_call
+unfolding attempt
 called_has digest book entry = tested_has digest book entry (opening digest book.state entry.command)
 
 -- what is asked beside isn't in it, nor what is said of a source's kind, and ids and hashes are given

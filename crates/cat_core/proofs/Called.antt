@@ -19,7 +19,7 @@ use Rattle.cat_state.specs.Giving.{Fails}
 use Rattle.cat_core.specs.PlainLaws.{IsOther, IsPlain, plain_of}
 use Rattle.cat_core.specs.UsualLaws.{usual_step}
 use Rattle.cat_core.specs.declared.ledger.logging.Turn.{Turn}
-use Rattle.cat_core.specs.Occasions.{begun, turned, turned_step}
+use Rattle.cat_core.specs.Turns.{begun, turned, turned_step}
 use Rattle.cat_state.specs.declared.unmade.Unmade.TheVariants.{Failed}
 use Rattle.cat_core.specs.Making.{IsNotKept, IsSpared, Runs, entry_at, taking, with_entry}
 

@@ -21,7 +21,7 @@ use Rattle.cat_state.specs.Kept.{IsUnrefused}
 use Rattle.cat_core.specs.declared.ledger.logging.Turn.{Turn}
 use Rattle.cat_core.specs.Deciding.{IsDecided, made_book, made_entry, made_told}
 use Rattle.cat_core.specs.Making.{Runs, entry_at, taking, unmade_expired, with_entry}
-use Rattle.cat_core.specs.Occasions.{turned, turned_step}
+use Rattle.cat_core.specs.Turns.{turned, turned_step}
 use Rattle.cat_core.proofs.Called.{accepted, no_memory, none_logged, step_fails, step_not_kept, step_unchanged, turned_logs}
 
 -- no contents are gone where the rules don't refuse

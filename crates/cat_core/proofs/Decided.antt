@@ -18,7 +18,7 @@ use Rattle.cat_state.specs.declared.failure.Failure.{Failure}
 use Rattle.cat_core.specs.declared.ledger.logging.Turn.{Turn}
 use Rattle.cat_core.specs.Deciding.{IsDecided, MayBeLogged, made_entry}
 use Rattle.cat_core.specs.LoggedLaws.{IsDraftOf, call_is_logged}
-use Rattle.cat_core.specs.Occasions.{begun, turned_step}
+use Rattle.cat_core.specs.Turns.{begun, turned_step}
 
 -- the entry of a change
 made_logged : (book : Book) (turn : Turn) (command : Command) (m : Making) → is_well_made sha256 command ≡ true → IsDraftOf command turn.draft → IsMaking turn.draft book.state command (turned_step book turn command) m → is_logged sha256 (made_entry book turn m) ≡ true

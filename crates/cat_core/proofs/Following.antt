@@ -17,7 +17,7 @@ use Rattle.cat_frames.specs.Entries.{is_logged, log_entry_code}
 use Rattle.cat_model.specs.declared.command.Command.{Command}
 use Rattle.cat_model.specs.declared.log_entry.LogEntry.{LogEntry}
 use Rattle.cat_model.specs.Book.{Book, after_call}
-use Rattle.cat_model.specs.Calls.{Called, stepped}
+use Rattle.cat_model.specs.Calls.{Called, attempt, stepped}
 use Rattle.cat_model.specs.Refusing.{Outcome, Tested}
 use Rattle.cat_model.specs.State.{State}
 use Rattle.cat_model.specs.Step.{Turn, opening, step}
@@ -150,7 +150,7 @@ tested_place book entry (Ok u) = stepped_place book.state (draft_after book entr
 
 -- one more for each entry
 called_place : (book after : Book) (entry : LogEntry) → after ≡ after_call book (replayed_call sha256 book entry) → after.state.place ≡ book.state.place + length (replayed_call sha256 book entry).logged
-unfolding replayed_call
+unfolding attempt
 called_place book after entry is = ap (λ (b : Book). b.state.place) is ∙ tested_place book entry (opening sha256 book.state entry.command)
 
 -- ---- by the place that the book came to

@@ -8,18 +8,16 @@ use Rattle.cat_model.specs.declared.command.Command.{Command}
 use Rattle.cat_model.specs.declared.log_entry.LogEntry.{LogEntry}
 use Rattle.cat_model.specs.declared.refusal.Refused.{Refused}
 use Rattle.cat_model.specs.declared.reply.Told.{Told}
-use Rattle.cat_model.specs.Book.{Book, call_on}
-use Rattle.cat_model.specs.Calls.{Called, call, needs_draft, opened_call, stepped, tested_call}
-use Rattle.cat_model.specs.Refusing.{◌>>=◌, Outcome, Tested}
+use Rattle.cat_model.specs.Book.{Book, attempt_on}
+use Rattle.cat_model.specs.Calls.{Called, Occasion, attempt, stepped, tests_on, tried, turn_on}
+use Rattle.cat_model.specs.Refusing.{Outcome, Tested}
 use Rattle.cat_model.specs.State.{State}
-use Rattle.cat_model.specs.Step.{Turn, opening, opens_draft, step}
+use Rattle.cat_model.specs.Step.{Turn, opens_draft, step}
 use Rattle.cat_state.specs.declared.failure.Failure.TheVariants as failures
 use Rattle.cat_state.specs.declared.unmade.Unmade.TheVariants.{Failed, NotKept}
 use Rattle.cat_state.specs.declared.unmade.Unmade.{Unmade}
 use Rattle.cat_state.specs.Kept.{Keeps, Stayed, spelling, spellings}
-use Rattle.cat_core.specs.declared.ledger.logging.Turn as ledger
 use Rattle.cat_core.specs.Making.{Runs}
-use Rattle.cat_core.specs.Occasions.{Occasion, begun, left_on, made_on, opened_on, turn_on, turned_step}
 use Rattle.cat_core.specs.Made.{fallen_by}
 use Rattle.cat_core.specs.Stored.{IsInStep}
 
@@ -43,25 +41,13 @@ right_stepped caller state draft command turn (Err why) = record { few = tt; non
 right_stepped caller state draft command turn (Ok (after, reply)) =
     right_choice (nat_lt state.place after.place) _ _ (record { few = tt; none = λ r e. absurd cc }) (record { few = tt; none = λ r e. refl })
 
-right_opened : (caller : ℕ) (state : State) (last : ℕ) (command : Command) (moment : ℕ) (b : Bool) → LogsRight (opened_call sha256 caller state last command moment b)
-right_opened caller state last command moment true = right_stepped caller state _ command _ (step sha256 state command _)
-right_opened caller state last command moment false = right_stepped caller state _ command _ (step sha256 state command _)
+right_tried : (caller : ℕ) (state : State) (last : ℕ) (command : Command) (turn : Turn) (tested : Tested) → LogsRight (tried sha256 caller state last command turn tested)
+right_tried caller state last command turn (Err why) = record { few = tt; none = λ r e. refl }
+right_tried caller state last command turn (Ok u) = right_stepped caller state (max last turn.draft) command turn (step sha256 state command turn)
 
-right_tested : (caller : ℕ) (state : State) (last : ℕ) (command : Command) (moment : ℕ) (tested : Tested) → LogsRight (tested_call sha256 caller state last command moment tested)
-right_tested caller state last command moment (Err why) = record { few = tt; none = λ r e. refl }
-right_tested caller state last command moment (Ok u) = right_opened caller state last command moment (opens_draft command)
-
-pub right_call : (caller : ℕ) (book : Book) (command : Command) (moment : ℕ) → LogsRight (call_on sha256 caller book command moment)
-unfolding call
-right_call caller book command moment = right_tested caller book.state book.draft command moment (opening sha256 book.state command >>= λ _. needs_draft book.state book.draft (opens_draft command))
-
-right_on : (book : Book) (turn : ledger.Turn) (command : Command) (tested : Tested) → LogsRight (opened_on book turn command tested)
-right_on book turn command (Err why) = record { few = tt; none = λ r e. refl }
-right_on book turn command (Ok u) = right_stepped turn.caller book.state (max book.draft turn.draft) command (begun book turn) (turned_step book turn command)
-
-pub right_made : (book : Book) (o : Occasion) (command : Command) → LogsRight (made_on book o command)
-unfolding made_on
-right_made book o command = right_on book (turn_on book o (opens_draft command)) command (opening sha256 book.state command >>= λ _. left_on book o.draft (opens_draft command))
+pub right_attempt : (book : Book) (o : Occasion) (command : Command) → LogsRight (attempt_on sha256 book o command)
+unfolding attempt
+right_attempt book o command = right_tried o.caller book.state book.draft command (turn_on book.state book.draft o (opens_draft command)) (tests_on sha256 book.state book.draft o.draft command)
 
 -- ---- the payloads of a log
 

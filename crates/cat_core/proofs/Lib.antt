@@ -3,7 +3,7 @@ pub mod Carried
 pub mod Decided
 pub mod Growing
 pub mod Newest
-pub mod Occasions
+pub mod Turned
 pub mod Plain
 pub mod Replayed
 pub mod Waiting

@@ -8,7 +8,7 @@ use Rattle.cat_model.specs.declared.command.Command.{Command}
 use Rattle.cat_model.specs.declared.log_entry.LogEntry.{LogEntry}
 use Rattle.cat_model.specs.declared.reply.Reply.{Reply}
 use Rattle.cat_model.specs.Book.{Book}
-use Rattle.cat_model.specs.Calls.{Called, entry_made, stepped}
+use Rattle.cat_model.specs.Calls.{Called, attempt, entry_made, stepped}
 use Rattle.cat_model.specs.Refusing.{Outcome, Tested}
 use Rattle.cat_model.specs.State.{State}
 use Rattle.cat_model.specs.Step.{Turn, head_told, opening, step}
@@ -48,5 +48,5 @@ tested_logs book entry (Ok u) made own =
     step_logs book.state (draft_after book entry) entry.command (turn_of book entry) (step sha256 book.state entry.command (turn_of book entry)) made own (step_tells sha256 book.state entry.command (turn_of book entry))
 
 pub call_logs : (book : Book) (entry : LogEntry) → is_well_made sha256 entry.command ≡ true → has_its_draft entry ≡ true → IsLogOf entry.draft (replayed_call sha256 book entry).logged
-unfolding replayed_call
+unfolding attempt
 call_logs book entry made own = tested_logs book entry (opening sha256 book.state entry.command) made own

@@ -5,6 +5,7 @@ use Rattle.cat_model.specs.declared.command.Command.{Command}
 use Rattle.cat_model.specs.declared.log_entry.LogEntry.{LogEntry}
 use Rattle.cat_model.specs.declared.reply.Told.{Told}
 use Rattle.cat_model.specs.Book.{Book, IsCalled}
+use Rattle.cat_model.specs.Calls.{attempt}
 use Rattle.cat_model.specs.Refusing.{◌>>=◌, Outcome, Tested}
 use Rattle.cat_model.specs.State.{State}
 use Rattle.cat_model.specs.Step.{Turn, opening, opens_draft, step}
@@ -15,9 +16,9 @@ use Rattle.cat_decisions.specs.Decisions.{Decides}
 use Rattle.cat_state.specs.declared.failure.Failure.{Failure}
 use Rattle.cat_state.specs.declared.failure.Failure.TheVariants as failures
 use Rattle.cat_state.specs.Giving.{Fails}
-use Rattle.cat_core.specs.Occasions.{turned}
+use Rattle.cat_core.specs.Turns.{turned}
 use Rattle.cat_core.specs.Remaking.{Remakes, comes_again, own_step, own_turn}
-use Rattle.cat_core.proofs.Occasions.{passes}
+use Rattle.cat_core.proofs.Turned.{passes}
 
 -- what is decided once the tests before a draft are passed
 pub decided_past : (draft : ℕ) (state : State) (command : Command) (tests : Tested) (step : Outcome) (d : Decision) → Decides draft state command (tests >>= λ _. step) (Ok d) → (tests ≡ Ok tt) × Decides draft state command step (Ok d)
@@ -32,7 +33,7 @@ fails_by book after entry (Ok u) (failures.Refused why) fails = rw fails (refl, 
 
 -- it is refused, or memory ran out
 pub replay_fails : (book after : Book) (entry : LogEntry) (failure : Failure) → Fails failure (comes_again book entry) → Remakes (replayed_call sha256 book entry) book after (Err failure)
-unfolding replayed_call
+unfolding attempt
 replay_fails book after entry failure fails = fails_by book after entry (opening sha256 book.state entry.command) failure fails
 
 -- one that opens no draft comes to its step
@@ -44,5 +45,5 @@ undrafted_comes book state entry result opens same decides =
 
 -- it is carried out
 pub replay_done : (book after : Book) (entry : LogEntry) (told : Told) → opening sha256 book.state entry.command ≡ Ok tt → IsCalled (turned book (own_turn entry) entry.command) book after (Ok told) → IsCalled (replayed_call sha256 book entry) book after (Ok told)
-unfolding replayed_call
+unfolding attempt
 replay_done book after entry told opened done = rw opened done

@@ -9,12 +9,14 @@ use Rattle.cat_model.specs.declared.refusal.Refusal.{Refusal}
 use Rattle.cat_model.specs.declared.refusal.Refusal.TheVariants.{BadRequest, RefNotFound, RefExists, ContentNotFound, Conflicts, Expired, RetriesSpent, SweepOpen, Limit, Collision, Fault, Down, NoMemory, NoRoute, WrongMethod, TooLarge, Encoding}
 use Rattle.cat_model.specs.declared.refusal.Refused.{Refused}
 use Rattle.cat_model.specs.declared.reply.Told.{Told}
-use Rattle.cat_model.specs.Calls.{Called}
+use Rattle.cat_model.specs.Book.{attempt_on}
+use Rattle.cat_model.specs.Calls.{Called, in_draft}
 use Rattle.cat_model.specs.Drafts.{Open}
-use Rattle.cat_model.specs.Refusing.{◌>>=◌, Tested}
+use Rattle.cat_model.specs.Refusing.{Tested}
 use Rattle.cat_model.specs.State.{State, reference_of}
 use Rattle.cat_model.specs.Step.{opening, opens_draft}
-use Rattle.cat_decisions.specs.Expiring.{answers_expired, is_expired}
+use Rattle.cat_decisions.specs.Expiring.{is_expired}
+use Rattle.cat_decisions.specs.ExpiringLaws.{unexpired_fails, unexpired_opening}
 use Rattle.cat_state.specs.declared.failure.Failure.{Failure}
 use Rattle.cat_state.specs.declared.failure.Failure.TheVariants as failures
 use Rattle.cat_state.specs.Giving.{Fails}
@@ -22,8 +24,6 @@ use Rattle.cat_decisions.specs.declared.building.Built.{Built}
 use Rattle.cat_decisions.specs.Builds.{HasHead, branch_of}
 use Rattle.cat_state.specs.Kept.{Leaves, Stayed}
 use Rattle.cat_core.specs.Making.{refused_at}
-use Rattle.cat_core.specs.LoggedLaws.{call_opens}
-use Rattle.cat_core.specs.Occasions.{Occasion, left_on, made_on}
 use Rattle.cat_core.specs.PlainLaws.{IsOther}
 use Rattle.cat_state.proofs.Appended.{leaves_any, stays}
 use Rattle.cat_core.specs.declared.draft.Draft.{Draft}
@@ -32,8 +32,8 @@ use Rattle.cat_core.specs.declared.draft.Settled.TheVariants as settled
 use Rattle.cat_core.specs.Drafts.{IsGivenBack, IsOn, NotOpened, Refuses, called_in, closed, command_in, may_open}
 use Rattle.cat_core.specs.Kept.{IsSettled, IsTold}
 use Rattle.cat_core.specs.Stored.{IsDownAt, IsUp, Stored}
-use Rattle.cat_core.proofs.Before.{tests_other, tests_refuse, unexpired_tests}
-use Rattle.cat_core.proofs.InStep.{right_made}
+use Rattle.cat_core.proofs.Before.{open_other, opening_other, tests_refuse}
+use Rattle.cat_core.proofs.InStep.{right_attempt}
 use Rattle.cat_core.proofs.Keeping.{not_fault}
 use Rattle.cat_core.proofs.Making.{refuses, up_of}
 
@@ -65,7 +65,7 @@ not_opened {K} s c place r failure opens up at is fails =
 
     by : (failure : Failure) → Fails failure (may_open s.book c) → NotOpened s c (refused_at s.book.state.place failure) (refused_at s.book.state.place failure).why
     by failures.NoMemory fails = refl
-    by (failures.Refused why) fails = by_why why (tests_other s.book None c why fails) fails
+    by (failures.Refused why) fails = by_why why (open_other s.book c why fails) fails
 
 pub not_opened_down : {K : Type 0} (s : Stored K) (c : Command) (place count : ℕ) (r : Refused) → IsDownAt s count → place ≡ s.book.state.place → r ≡ record { place = Some place; why = Down count } → NotOpened s c r r.why
 not_opened_down {K} s c place count r down at is = subst (λ (x : Refused). NotOpened s c x x.why) (sym is) (ap (λ (p : ℕ). Some p) at, down)
@@ -114,17 +114,8 @@ settled_as (Err r) = settled.Refused r
 up_not_down : {K : Type 0} (s : Stored K) (count : ℕ) → IsUp s → IsDownAt s count → ⊥
 up_not_down s count up down = up_of down.0 (sym up ∙ down.1)
 
-abbrev passes : Tested
-passes = Ok tt
-
-passed_on : (t : Tested) (why : Refusal) → t ≡ Err why → (t >>= λ _. passes) ≡ Err why
-passed_on t why e = rw e refl
-
 err_not_ok : (t : Tested) (why : Refusal) → t ≡ Err why → t ≡ Ok tt → ⊥
 err_not_ok t why e o = cc
-
-unexpired_by : (t : Tested) (why : Refusal) → answers_expired t ≡ false → t ≡ Err why → is_expired why ≡ false
-unexpired_by t why un e = subst (λ (x : Tested). answers_expired x ≡ false) e un
 
 module _ {K : Type 0} (told : K → Option (List (List ℕ))) (kept : K → ℕ) (down : K → Option ℕ) (in_flight : K → Option (List ℕ)) (faults : K → ℕ) (moment : K → ℕ) (left_since : K → ℕ → Option (List (List ℕ)) → Type 0) (may_leave : K → Option (List (List ℕ)) → Type 0)
     (safe : (k : K) (ps : List (List ℕ)) (c : Option (List (List ℕ))) → down k ≡ None → told k ≡ Some ps → may_leave k c → c ≡ Some ps)
@@ -163,12 +154,10 @@ module _ {K : Type 0} (told : K → Option (List (List ℕ))) (kept : K → ℕ)
     -- the tests before a draft refuse it
     pub settled_refused : (place : ℕ) (why : Refusal) (r : Refused) → IsUp s → opening sha256 s.book.state (command_in d) ≡ Err why → place ≡ s.book.state.place → r ≡ refused_at place (failures.Refused why) → s' ≡ record s { left_open = closed s d } → It (settled.Refused r)
     settled_refused place why r up fails same_place is left =
-        let occasion : Occasion = record { caller = d.caller; moment = at; draft = Some d.number } in
-        let tests : (opening sha256 s.book.state (command_in d) >>= λ _. left_on s.book (Some d.number) true) ≡ Err why = passed_on (opening sha256 s.book.state (command_in d)) why fails in
-        let other : IsOther why = tests_other s.book (Some d.number) (command_in d) why tests in
-        let called_so = tests_refuse s.book occasion (command_in d) why (call_opens d.call) tests in
-        let there : is_expired why ≡ false = unexpired_by _ why (unexpired_tests s.book (Some d.number) (command_in d)) tests in
-        let none : called.logged ≡ [] = (right_made s.book occasion (command_in d)).none _ called_so.said in
+        let other : IsOther why = opening_other s.book.state (command_in d) why fails in
+        let called_so = tests_refuse s.book d.caller at d.number (command_in d) why fails in
+        let there : is_expired why ≡ false = unexpired_fails (failures.Refused why) (opening sha256 s.book.state (command_in d)) (unexpired_opening s.book.state (command_in d)) fails in
+        let none : called.logged ≡ [] = (right_attempt s.book (in_draft d.caller at d.number) (command_in d)).none _ called_so.said in
         let here : Refused = record { place = Some s.book.state.place; why = why } in
         let same : here ≡ r = ap (λ (p : ℕ). let x : Refused = record { place = Some p; why = why } in x) (sym same_place) ∙ sym is in
         subst (λ (x : Refused). It (settled.Refused x)) same record {
@@ -195,9 +184,9 @@ module _ {K : Type 0} (told : K → Option (List (List ℕ))) (kept : K → ℕ)
 
     -- the call is made
     pub settled_told : (shut : Stored K) (result : Result Told Refused) → IsOn s d built → shut ≡ record s { left_open = closed s d }
-        → IsTold told kept down in_flight faults moment left_since may_leave d.caller shut s' (made_on shut.book (record { caller = d.caller; moment = at; draft = Some d.number }) (command_in d)) result → It (settled_as result)
+        → IsTold told kept down in_flight faults moment left_since may_leave d.caller shut s' (attempt_on sha256 shut.book (in_draft d.caller at d.number) (command_in d)) result → It (settled_as result)
     settled_told shut result on left is =
-        by result (subst (λ (x : Stored K). IsTold told kept down in_flight faults moment left_since may_leave d.caller x s' (made_on x.book (record { caller = d.caller; moment = at; draft = Some d.number }) (command_in d)) result) left is)
+        by result (subst (λ (x : Stored K). IsTold told kept down in_flight faults moment left_since may_leave d.caller x s' (attempt_on sha256 x.book (in_draft d.caller at d.number) (command_in d)) result) left is)
       where
         by : (result : Result Told Refused) → IsTold told kept down in_flight faults moment left_since may_leave d.caller (record s { left_open = closed s d }) s' called result → It (settled_as result)
         by (Ok x) is = record { settles = (on, record { up = is.refers.up; said = is.refers.said; after = is.refers.after }); keeps = λ u. is.keeps; crash = λ u. is.crash }

@@ -1,7 +1,7 @@
 -- Books that their logs lead to: what a call brings leads them on.
-use Rattle.std.proofs.Common.{◌≡◌, ◌≤◌, ◌<◌, ℕ, max, List, [], ◌∷◌, ◌++◌, reverse, Some, Ok, Err, Bool, true, false, not, ◌&&◌, if◌then◌else◌, nat_eq, nat_lt, refl, sym, ap, ◌∙◌, subst, arith, ne_eqb}
+use Rattle.std.proofs.Common.{◌≡◌, ◌≢◌, ◌≤◌, ◌<◌, ℕ, max, List, [], ◌∷◌, ◌++◌, reverse, Ok, Err, Bool, true, false, not, ◌&&◌, if◌then◌else◌, nat_eq, nat_lt, refl, sym, ap, ◌∙◌, subst, arith, le_refl, ne_eqb}
 use Rattle.std.proofs.lemmas.List.{append-nil, reverse-append, reverse-reverse}
-use Rattle.std.proofs.Math.Nat.{le-max_left, le-max_right}
+use Rattle.std.proofs.Math.Nat.{le-max_left, le-max_right, max-zero}
 use Rattle.cat_codes.specs.ListLaws.{and_true}
 use Rattle.sha2.specs.Sha256.{sha256}
 use Rattle.cat_checks.specs.AcceptedLaws.{accepted_is_legal}
@@ -13,16 +13,14 @@ use Rattle.cat_model.specs.declared.command.Command.{Command}
 use Rattle.cat_model.specs.declared.limits.Limits.{Limits}
 use Rattle.cat_model.specs.declared.log_entry.LogEntry.{LogEntry}
 use Rattle.cat_model.specs.declared.reply.Reply.{Reply}
-use Rattle.cat_model.specs.Book.{Book, after_call, call_on, first_book}
-use Rattle.cat_model.specs.Calls.{Called, call, entry_made, needs_draft, stepped, tested_call, unchanged_by}
+use Rattle.cat_model.specs.Book.{Book, after_call, attempt_on, call_on, first_book}
+use Rattle.cat_model.specs.Calls.{Called, attempt, entry_made, in_draft, stepped, tried, unchanged_by}
 use Rattle.cat_model.specs.Drafts.{OpenDraft}
-use Rattle.cat_model.specs.Refusing.{◌>>=◌, Outcome, Tested}
+use Rattle.cat_model.specs.Refusing.{Outcome, Tested}
 use Rattle.cat_model.specs.State.{State, first_state}
 use Rattle.cat_model.specs.Step.{Turn, opening, opens_draft, step}
 use Rattle.cat_model.specs.Turns.{Opened}
 use Rattle.cat_model.specs.WellMade.{is_well_made}
-use Rattle.cat_core.specs.declared.ledger.logging.Turn as ledger
-use Rattle.cat_core.specs.Occasions.{Occasion, left_on, made_on, opened_on}
 use Rattle.cat_core.proofs.Waiting.{waiting_on}
 use Rattle.cat_core.specs.Stored.{AreWaiting, IsNumberOfNone, IsSound}
 
@@ -46,7 +44,7 @@ same_tested state a b log e (Ok u) = same_stepped state (max a e.draft) (max b e
 
 same_replayed : (state : State) (a b : ℕ) (log : List LogEntry) (e : LogEntry)
     → SameLogged (replayed_call sha256 (record { state = state; draft = a; log = log }) e) (replayed_call sha256 (record { state = state; draft = b; log = log }) e)
-unfolding replayed_call
+unfolding attempt
 same_replayed state a b log e = same_tested state a b log e (opening sha256 state e.command)
 
 abbrev SameLegal : Book → Book → LogEntry → Type 0
@@ -155,35 +153,35 @@ above_zero n h = ne_eqb n 0 (λ e. omega arith)
 
 -- a call in its draft
 module _ (caller number moment : ℕ) (book : Book) (command : Command) (made : is_well_made sha256 command ≡ true) (opens : opens_draft command ≡ true) (above : 0 < number) (below : number ≤ book.draft) (new : draft_is_new book.log number ≡ true) where
-  abbrev its_turn : ledger.Turn
-  its_turn = record { caller = caller; draft = number; moment = moment }
-
-  abbrev its_occasion : Occasion
-  its_occasion = record { caller = caller; moment = moment; draft = Some number }
+  abbrev its_turn : Turn
+  its_turn = record { draft = number; opened = book.state.place; moment = moment }
 
   numbered : (if opens_draft command then not (nat_eq number 0) else nat_eq number 0) ≡ true
   numbered = rw (opens, above_zero number above) refl
 
-  tested_brings : (t : Tested) → IsCallIn caller number book (opened_on book its_turn command t)
+  tested_brings : (t : Tested) → IsCallIn caller number book (tried sha256 caller book.state book.draft command its_turn t)
   tested_brings (Err why) = record { draft = refl; brings = refl }
-  tested_brings (Ok u) = stepped_brings caller book command _ made numbered new (max book.draft number) (greatest book.draft number below)
+  tested_brings (Ok u) = stepped_brings caller book command its_turn made numbered new (max book.draft number) (greatest book.draft number below)
 
-  pub made_brings : IsCallIn caller number book (made_on book its_occasion command)
-  unfolding made_on
-  made_brings = rw opens (tested_brings (opening sha256 book.state command >>= λ _. left_on book (Some number) true))
+  pub made_brings : IsCallIn caller number book (attempt_on sha256 book (in_draft caller moment number) command)
+  unfolding attempt
+  made_brings = tested_brings (opening sha256 book.state command)
 
 -- a call that opens none
 module _ (caller moment : ℕ) (book : Book) (command : Command) (made : is_well_made sha256 command ≡ true) (opens : opens_draft command ≡ false) where
   unnumbered : (if opens_draft command then not (nat_eq 0 0) else nat_eq 0 0) ≡ true
   unnumbered = rw opens refl
 
-  plain_brings : (t : Tested) → IsCallIn caller 0 book (tested_call sha256 caller book.state book.draft command moment t)
+  abbrev plain_turn : Turn
+  plain_turn = record { draft = 0; opened = book.state.place; moment = moment }
+
+  plain_brings : (t : Tested) → IsCallIn caller 0 book (tried sha256 caller book.state book.draft command plain_turn t)
   plain_brings (Err why) = record { draft = refl; brings = refl }
-  plain_brings (Ok u) = rw opens (stepped_brings caller book command (record { draft = 0; opened = book.state.place; moment = moment }) made unnumbered refl book.draft refl)
+  plain_brings (Ok u) = stepped_brings caller book command plain_turn made unnumbered refl (max book.draft 0) (max-zero book.draft)
 
   pub call_brings : IsCallIn caller 0 book (call_on sha256 caller book command moment)
-  unfolding call
-  call_brings = plain_brings (opening sha256 book.state command >>= λ _. needs_draft book.state book.draft (opens_draft command))
+  unfolding attempt
+  call_brings = rw opens (plain_brings _)
 
 -- ---- the book after it
 
@@ -230,7 +228,7 @@ sound_reopened limits faults book is =
     record { legal = led.0; led = led.1; taken = is.taken; waiting = tt }
 
 module _ (limits : Limits) (faults number : ℕ) (book : Book) (is : IsReopened limits faults book) where
-  reopened_by : (logged : List LogEntry) (after : State) (draft : ℕ) → book.draft ≤ draft → number ≤ draft → Brings 0 number book logged after → IsReopened limits faults (record { state = after; draft = draft; log = logged ++ book.log })
+  reopened_by : (logged : List LogEntry) (after : State) (draft : ℕ) → book.draft ≤ draft → (logged ≢ [] → number ≤ draft) → Brings 0 number book logged after → IsReopened limits faults (record { state = after; draft = draft; log = logged ++ book.log })
   reopened_by [] after draft more low brings =
       subst (λ (s : State). IsReopened limits faults (record { state = s; draft = draft; log = book.log })) (sym brings)
       record { led = is.led; limits_are = is.limits_are; taken = at_most_more book.draft draft book.log more is.taken }
@@ -239,7 +237,7 @@ module _ (limits : Limits) (faults number : ℕ) (book : Book) (is : IsReopened 
       record {
         led = led_on limits faults book e after draft is.led brings.legal brings.leads;
         limits_are = limits_same book e after brings.leads ∙ is.limits_are;
-        taken = (subst (λ (n : ℕ). n ≤ draft) (sym n) low, at_most_more book.draft draft book.log more is.taken);
+        taken = (subst (λ (n : ℕ). n ≤ draft) (sym n) (low (λ none. absurd cc)), at_most_more book.draft draft book.log more is.taken);
       }
   reopened_by (e ∷ f ∷ more_entries) after draft more low brings = absurd brings
 
@@ -253,27 +251,28 @@ legal_parts book e legal =
 
 -- what the call of a legal entry brings, by nobody
 module _ (book : Book) (e : LogEntry) (legal : is_legal sha256 book e ≡ true) where
+  -- a draft number that is taken stays so, and an entry's is taken
   abbrev Replays : Called → Type 0
-  Replays c = Brings 0 e.draft book c.logged c.state × (c.draft ≡ max book.draft e.draft)
+  Replays c = Brings 0 e.draft book c.logged c.state × (book.draft ≤ c.draft) × (c.logged ≢ [] → e.draft ≤ c.draft)
 
   replayed_at : (t : Tested) → Replays (replayed_by sha256 book e t)
-  replayed_at (Err why) = (refl, refl)
+  replayed_at (Err why) = (refl, le_refl book.draft, λ some. absurd (some refl))
   replayed_at (Ok u) =
-      let parts = legal_parts book e legal in (
+      let parts = legal_parts book e legal in
+      let taken = stepped_draft 0 book.state (draft_after book e) e.command (turn_of book e) (step sha256 book.state e.command (turn_of book e)) in (
         stepped_logs 0 book e.command (turn_of book e) parts.0 parts.1 parts.2 (draft_after book e) (step sha256 book.state e.command (turn_of book e)) refl,
-        stepped_draft 0 book.state (draft_after book e) e.command (turn_of book e) (step sha256 book.state e.command (turn_of book e)),
+        subst (λ (n : ℕ). book.draft ≤ n) (sym taken) (le-max_left book.draft e.draft),
+        λ some. subst (λ (n : ℕ). e.draft ≤ n) (sym taken) (le-max_right book.draft e.draft),
       )
 
   replays : Replays (replayed_call sha256 book e)
-  unfolding replayed_call
+  unfolding attempt
   replays = replayed_at (opening sha256 book.state e.command)
 
 pub reopened_on : (limits : Limits) (faults : ℕ) (book : Book) (e : LogEntry) → IsReopened limits faults book → is_legal sha256 book e ≡ true → IsReopened limits faults (after_call book (replayed_call sha256 book e))
 reopened_on limits faults book e is legal =
     let r = replays book e legal in
-    let n : max book.draft e.draft ≡ (replayed_call sha256 book e).draft = sym r.1 in
-    reopened_by limits faults e.draft book is (replayed_call sha256 book e).logged (replayed_call sha256 book e).state (replayed_call sha256 book e).draft
-    (subst (λ (m : ℕ). book.draft ≤ m) n (le-max_left book.draft e.draft)) (subst (λ (m : ℕ). e.draft ≤ m) n (le-max_right book.draft e.draft)) r.0
+    reopened_by limits faults e.draft book is (replayed_call sha256 book e).logged (replayed_call sha256 book e).state (replayed_call sha256 book e).draft r.1 r.2 r.0
 
 -- ---- what its state upholds
 

@@ -15,7 +15,7 @@ use Rattle.cat_state.specs.declared.failure.Failure.{Failure}
 use Rattle.cat_state.specs.Changing.{applied}
 use Rattle.cat_core.specs.declared.ledger.logging.Turn.{Turn}
 use Rattle.cat_core.specs.Making.{entry_at, with_entry}
-use Rattle.cat_core.specs.Occasions.{turned_step}
+use Rattle.cat_core.specs.Turns.{turned_step}
 
 -- ---- a change that a call comes to
 

@@ -7,8 +7,8 @@ use Rattle.cat_model.specs.declared.refusal.Refusal.{Refusal}
 use Rattle.cat_model.specs.declared.refusal.Refusal.TheVariants as refusals
 use Rattle.cat_model.specs.declared.refusal.Refused.{Refused}
 use Rattle.cat_model.specs.declared.reply.Told.{Told}
-use Rattle.cat_model.specs.Book.{Book, after_call}
-use Rattle.cat_model.specs.Calls.{Called, needs_draft}
+use Rattle.cat_model.specs.Book.{Book, after_call, attempt_on}
+use Rattle.cat_model.specs.Calls.{Called, in_draft, needs_draft}
 use Rattle.cat_model.specs.Drafts.{Open, OpenDraft, Opening}
 use Rattle.cat_model.specs.Mark.{FailedAppend}
 use Rattle.cat_model.specs.Naming.{names_of}
@@ -18,7 +18,6 @@ use Rattle.cat_model.specs.Step.{opening}
 use Rattle.cat_decisions.specs.declared.building.Built.{Built}
 use Rattle.cat_decisions.specs.Builds.{HasHead, IsGivenBy, command_of}
 use Rattle.cat_state.specs.Kept.{spelling}
-use Rattle.cat_core.specs.Occasions.{made_on}
 use Rattle.cat_core.specs.declared.draft.Draft.{Draft}
 use Rattle.cat_core.specs.declared.draft.Settled.{Settled}
 use Rattle.cat_core.specs.declared.draft.Settled.TheVariants as settled
@@ -69,7 +68,7 @@ holding s t c = record s {
 
 -- what the call brings in its draft
 abbrev pub called_in : {K : Type 0} → Stored K → Draft → ℕ → Called
-called_in s d moment = made_on s.book (record { caller = d.caller; moment = moment; draft = Some d.number }) (command_in d)
+called_in s d moment = attempt_on sha256 s.book (in_draft d.caller moment d.number) (command_in d)
 
 -- the branch has the head that was built on
 abbrev pub IsOn : {K : Type 0} → Stored K → Draft → Built → Type 0

@@ -1,5 +1,5 @@
 pub mod Making
-pub mod Occasions
+pub mod Turns
 pub mod Deciding
 pub mod Remaking
 pub mod PlainLaws

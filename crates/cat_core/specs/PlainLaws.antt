@@ -4,6 +4,7 @@ use Rattle.cat_model.specs.declared.limits.Quantity.{Quantity}
 use Rattle.cat_model.specs.declared.limits.Quantity.TheVariants.{Drafts}
 use Rattle.cat_model.specs.declared.refusal.Refusal.{Refusal}
 use Rattle.cat_model.specs.declared.refusal.Refusal.TheVariants.{BadRequest, Collision, Conflicts, ContentNotFound, Down, Encoding, Expired, Fault, Limit, NoMemory, NoRoute, RefExists, RefNotFound, RetriesSpent, SweepOpen, TooLarge, WrongMethod}
+use Rattle.cat_model.specs.CauseLaws.{Causes}
 use Rattle.cat_model.specs.Refusing.{◌>>=◌, needs}
 
 -- a refusal with another cause than want of memory, a fault of what keeps the log, or one that it had before
@@ -47,8 +48,7 @@ IsUsualCause why = is_usual why ≡ true
 
 -- what a definition gives, if it refuses, has such a cause
 abbrev pub IsUsual : {A : Type 0} → Result A Refusal → Type 0
-IsUsual (Ok x) = Unit {0}
-IsUsual (Err why) = IsUsualCause why
+IsUsual r = Causes is_usual r
 
 usual_is_other : (why : Refusal) → IsUsualCause why → IsOther why
 usual_is_other (BadRequest x) p = refl

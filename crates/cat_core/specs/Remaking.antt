@@ -10,7 +10,7 @@ use Rattle.cat_model.specs.Step.{opening}
 use Rattle.cat_state.specs.declared.failure.Failure.{Failure}
 use Rattle.cat_state.specs.declared.failure.Failure.TheVariants.{NoMemory, Refused}
 use Rattle.cat_core.specs.declared.ledger.logging.Turn.{Turn}
-use Rattle.cat_core.specs.Occasions.{turned_step}
+use Rattle.cat_core.specs.Turns.{turned_step}
 
 -- the turn of an entry, made again by nobody
 abbrev pub own_turn : LogEntry → Turn

@@ -1,6 +1,6 @@
 //! Calls that open a draft: opened in one turn, settled or dropped in a later one.
 
-ghost use Rattle.std.specs.Prelude.{◌≡◌, ◌+◌, Ok, Some, true, IfErr, IfOk, IsTrue, OnErr, OnOk};
+ghost use Rattle.std.specs.Prelude.{◌≡◌, ◌+◌, Ok, true, IfErr, IfOk, IsTrue, OnErr, OnOk};
 ghost use Rattle.sha2.specs.Sha256.{sha256};
 ghost use Rattle.cat_decisions.specs.Builds.{HasHead, IsBuilt, IsGivenBy, command_of};
 ghost use Rattle.cat_checks.specs.Histories.{IsLegalFrom};
@@ -8,7 +8,8 @@ ghost use Rattle.cat_core.specs.Drafts.{IsGivenBack, IsOpen, IsOpening, NotOpene
 ghost use Rattle.cat_core.specs.Kept.{IsSettled, IsTold, KeepsSettled};
 ghost use Rattle.cat_core.specs.Stored.{IsFree, IsUp, snap};
 ghost use Rattle.cat_state.specs.Kept.{Leaves};
-ghost use Rattle.cat_core.specs.Occasions.{made_on};
+ghost use Rattle.cat_model.specs.Book.{attempt_on};
+ghost use Rattle.cat_model.specs.Calls.{in_draft};
 ghost use Rattle.cat_model.specs.Drafts.{drafts_of};
 ghost use Rattle.cat_model.specs.Later.{IsLater};
 ghost use Rattle.cat_model.specs.State.{State};
@@ -165,7 +166,7 @@ impl<K: Keeper> Store<K> {
         requires free { IsFree number self.old }
         requires opened { opening sha256 self.old.book.state (command_of call) ≡ Ok tt }
         requires built { IsBuilt self.old.book.state call built }
-        ensures { IsTold K.told K.kept K.down K.in_flight K.faults K.moment K.left_since K.may_leave caller self.old self.new (made_on self.old.book (record { caller = caller; moment = moment; draft = Some number }) (command_of call.entry)) result }
+        ensures { IsTold K.told K.kept K.down K.in_flight K.faults K.moment K.left_since K.may_leave caller self.old self.new (attempt_on sha256 self.old.book (in_draft caller moment number) (command_of call.entry)) result }
     {
         let place = self.ledger.place();
         let made = self.ledger.settle(alloc, &mut self.keeper, caller, moment, number, call, built);

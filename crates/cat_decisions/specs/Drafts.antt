@@ -1,5 +1,5 @@
 -- What is planned upon a branch.
-use Rattle.std.specs.Prelude.{◌≡◌, List, [], ◌∷◌, Some, None, Bool, false, IsTrue, filter, flat_map, map}
+use Rattle.std.specs.Prelude.{◌≡◌, ℕ, List, [], ◌∷◌, Some, None, Bool, false, IsTrue, filter, flat_map, map}
 use Rattle.std.specs.List.{list_all}
 use Rattle.sha2.specs.Sha256.{sha256}
 use Rattle.cat_names.specs.declared.hash.Hash.{Hash}
@@ -78,6 +78,10 @@ pub record AreDrafted (state : State) (head : Hash) (planned : List Planned) : T
   pub known : IsTrue (is_known sha256 state head)
   pub merged : IsTrue (list_all (λ p. is_merge_known state.commits p.merge_parent) planned)
   pub plans : ArePlans state head (plans_of planned)
+
+-- the plans of a draft for a branch, of a call that began at a place, at its moment
+abbrev pub plans_for : Draft → Reference → ℕ → ℕ → merges.Plans
+plans_for d branch opened moment = record { branch = branch; planned = all_planned d.planned.items; ancestor = d.ancestor; asked = asked_of d.asked; opened = opened; moment = moment }
 
 -- calls as they are logged
 abbrev pub logged_merge : Merge → Command

@@ -1,5 +1,5 @@
 -- Refusals for contents that are gone.
-use Rattle.std.specs.Prelude.{Result, Ok, Err, Bool, true, false}
+use Rattle.std.specs.Prelude.{Bool, true, false}
 use Rattle.cat_model.specs.declared.refusal.Refusal.{Refusal}
 use Rattle.cat_model.specs.declared.refusal.Refusal.TheVariants.{Expired}
 use Rattle.cat_state.specs.declared.failure.Failure.{Failure}
@@ -14,8 +14,3 @@ is_expired _ = false
 abbrev pub fails_expired : Failure → Bool
 fails_expired failures.NoMemory = false
 fails_expired (failures.Refused why) = is_expired why
-
--- an answer that is refused by that
-abbrev pub answers_expired : {A : Type 0} → Result A Refusal → Bool
-answers_expired (Ok x) = false
-answers_expired (Err why) = is_expired why

@@ -6,7 +6,7 @@ ghost use Rattle.sha2.specs.Sha256.{sha256};
 ghost use Rattle.cat_model.specs.Merges.{entries_set, needs_set_contents, step_applied, step_planned, step_unless_conflicts, with_planned};
 ghost use Rattle.cat_state.specs.Giving.{Fails, Gives};
 ghost use Rattle.cat_state.specs.Keeping.{has_contents};
-ghost use Rattle.cat_decisions.specs.Drafts.{AreDrafted, all_conflicts_in, all_details_in, all_planned, asked_of, changing, plans_of};
+ghost use Rattle.cat_decisions.specs.Drafts.{AreDrafted, all_conflicts_in, all_details_in, all_planned, changing, plans_for, plans_of};
 ghost use Rattle.cat_decisions.specs.Expiring.{fails_expired};
 ghost use Rattle.cat_decisions.specs.Settling.{AreAdded, HasRoom, Settles, decision_of, making_of, reply_at, told_or_refused};
 
@@ -180,7 +180,7 @@ fn apply(
     requires room { HasRoom catalogue.now draft.planned.items }
     requires conflicts { all_conflicts_in draft.planned.items ≡ [] }
     requires details { details ≡ all_details_in draft.planned.items }
-    ensures step { Settles catalogue.now draft.command (step_applied sha256 catalogue.now draft.ancestor branch.now (all_planned draft.planned.items) draft.asked.dry_run catalogue.now.place moment) result }
+    ensures step { Settles catalogue.now draft.command (step_applied sha256 catalogue.now (plans_for draft branch.now catalogue.now.place moment)) result }
     ensures there { IfErr result (λ failure. fails_expired failure ≡ false) }
 {
     if let Err(failure) = needs_contents(alloc, catalogue, draft.planned.as_slice()) {
@@ -236,7 +236,7 @@ fn by_conflicts(
     requires room { HasRoom catalogue.now draft.planned.items }
     requires details { details ≡ all_details_in draft.planned.items }
     requires conflicts { conflicts ≡ all_conflicts_in draft.planned.items }
-    ensures step { Settles catalogue.now draft.command (step_unless_conflicts sha256 catalogue.now draft.ancestor branch.now (all_planned draft.planned.items) (asked_of draft.asked) catalogue.now.place moment (all_conflicts_in draft.planned.items)) result }
+    ensures step { Settles catalogue.now draft.command (step_unless_conflicts sha256 catalogue.now (plans_for draft branch.now catalogue.now.place moment) (all_conflicts_in draft.planned.items)) result }
     ensures there { IfErr result (λ failure. fails_expired failure ≡ false) }
 {
     if conflicts.len() == 0 {
@@ -269,7 +269,7 @@ fn unless_conflicts(
 ) -> Result<Decision, Failure>
     requires drafted { AreDrafted catalogue.now branch.now.head draft.planned.items }
     requires room { HasRoom catalogue.now draft.planned.items }
-    ensures step { Settles catalogue.now draft.command (step_unless_conflicts sha256 catalogue.now draft.ancestor branch.now (all_planned draft.planned.items) (asked_of draft.asked) catalogue.now.place moment (all_conflicts_in draft.planned.items)) result }
+    ensures step { Settles catalogue.now draft.command (step_unless_conflicts sha256 catalogue.now (plans_for draft branch.now catalogue.now.place moment) (all_conflicts_in draft.planned.items)) result }
     ensures there { IfErr result (λ failure. fails_expired failure ≡ false) }
 {
     match found(alloc, draft.planned.as_slice()) {
@@ -294,7 +294,7 @@ pub(crate) fn settle(
     draft: Draft,
 ) -> Result<Decision, Failure>
     requires drafted { AreDrafted catalogue.now branch.now.head draft.planned.items }
-    ensures step { Settles catalogue.now draft.command (step_planned sha256 catalogue.now draft.ancestor branch.now (all_planned draft.planned.items) (asked_of draft.asked) catalogue.now.place moment) result }
+    ensures step { Settles catalogue.now draft.command (step_planned sha256 catalogue.now (plans_for draft branch.now catalogue.now.place moment)) result }
     ensures there { IfErr result (λ failure. fails_expired failure ≡ false) }
 {
     match needs_room(catalogue, branch, draft.planned.as_slice()) {

@@ -1,3 +1,4 @@
+pub mod Script
 pub mod Judging
 pub mod Words
 pub mod Calls

@@ -10,7 +10,7 @@ use Rattle.cat_model.specs.declared.refusal.Refused.{Refused}
 use Rattle.cat_model.specs.declared.reply.Told.{Told}
 use Rattle.cat_model.specs.State.{Digest, State, first_state}
 use Rattle.cat_model.specs.Answer.{answer}
-use Rattle.cat_model.specs.Calls.{Called, told_at, call}
+use Rattle.cat_model.specs.Calls.{Called, Occasion, attempt, call, told_at}
 
 -- the state, the last draft number, and the entries that led to the state, the newest first
 pub record Book : Type 0 where
@@ -25,6 +25,10 @@ first_book digest limits = record { state = first_state digest limits; draft = 0
 -- a book after what a call brought
 abbrev pub after_call : Book → Called → Book
 after_call book c = record { state = c.state; draft = c.draft; log = c.logged ++ book.log }
+
+-- an attempt at a command on a book
+abbrev pub attempt_on : Digest → Book → Occasion → Command → Called
+attempt_on digest book o command = attempt digest book.state book.draft o command
 
 -- the call of a command on a book
 abbrev pub call_on : Digest → ℕ → Book → Command → ℕ → Called

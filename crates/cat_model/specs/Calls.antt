@@ -1,5 +1,5 @@
--- What a changing call does to a catalogue: the test of its draft number, its step, and its entry.
-use Rattle.std.specs.Prelude.{ℕ, ◌+◌, List, [], ◌∷◌, Some, Result, Ok, Err, Bool, true, false, nat_lt, if◌then◌else◌}
+-- What an attempt at a changing call does to a catalogue: the tests before its draft, its step, and its entry.
+use Rattle.std.specs.Prelude.{ℕ, ◌+◌, max, List, [], ◌∷◌, Option, Some, None, Result, Ok, Err, Bool, true, false, nat_lt, if◌then◌else◌}
 use Rattle.cat_model.specs.declared.command.Command.{Command}
 use Rattle.cat_model.specs.declared.limits.Quantity.TheVariants.{Drafts}
 use Rattle.cat_model.specs.declared.log_entry.LogEntry.{LogEntry}
@@ -52,26 +52,51 @@ stepped digest caller state draft command turn (Ok (after, reply)) =
     }
     else unchanged_by state draft (Ok reply)
 
--- a call that has passed the tests before its draft, by whether it opens one; the last draft number is given
-abbrev pub opened_call : Digest → ℕ → State → ℕ → Command → ℕ → Bool → Called
-opened_call digest caller state last command moment true =
-    let turn : Turn = record { draft = last + 1; opened = state.place; moment = moment } in
-    stepped digest caller state (last + 1) command turn (step digest state command turn)
-opened_call digest caller state last command moment false =
-    let turn : Turn = record { draft = 0; opened = state.place; moment = moment } in
-    stepped digest caller state last command turn (step digest state command turn)
+-- ---- attempts
+
+-- who makes a call, when, and the number of its draft where it is given, 0 for a call that opens none; else the next is taken
+pub record Occasion : Type 0 where
+  pub caller : ℕ
+  pub moment : ℕ
+  pub draft : Option ℕ
+
+-- in a draft of this number
+abbrev pub in_draft : ℕ → ℕ → ℕ → Occasion
+in_draft caller moment number = record { caller = caller; moment = moment; draft = Some number }
+
+-- in the next draft
+abbrev pub in_next : ℕ → ℕ → Occasion
+in_next caller moment = record { caller = caller; moment = moment; draft = None }
+
+-- the number of its draft, by whether it opens one
+abbrev pub number_on : ℕ → Option ℕ → Bool → ℕ
+number_on last (Some draft) opens = draft
+number_on last None true = last + 1
+number_on last None false = 0
+
+-- when it is made, on a state and the last draft number
+abbrev pub turn_on : State → ℕ → Occasion → Bool → Turn
+turn_on state last o opens = record { draft = number_on last o.draft opens; opened = state.place; moment = o.moment }
 
 -- a draft number is left, where one is needed
 abbrev pub needs_draft : State → ℕ → Bool → Tested
 needs_draft state last false = Ok tt
 needs_draft state last true = needs (nat_lt last state.limits.drafts) (Limit Drafts state.limits.drafts)
 
--- a call, by the outcome of the tests before its draft
-abbrev pub tested_call : Digest → ℕ → State → ℕ → Command → ℕ → Tested → Called
-tested_call digest caller state last command moment (Err why) = unchanged_by state last (Err why)
-tested_call digest caller state last command moment (Ok _) = opened_call digest caller state last command moment (opens_draft command)
+-- the tests before its draft; that a number is left is tested where the next is taken
+abbrev pub tests_on : Digest → State → ℕ → Option ℕ → Command → Tested
+tests_on digest state last (Some draft) command = opening digest state command
+tests_on digest state last None command = opening digest state command >>= λ _. needs_draft state last (opens_draft command)
 
--- a call of a caller at a moment, on a state and the last draft number
-unfoldable pub call : Digest → ℕ → State → ℕ → Command → ℕ → Called
-call digest caller state last command moment =
-    tested_call digest caller state last command moment (opening digest state command >>= λ _. needs_draft state last (opens_draft command))
+-- what it brings in its turn, by the outcome of these tests
+abbrev pub tried : Digest → ℕ → State → ℕ → Command → Turn → Tested → Called
+tried digest caller state last command turn (Err why) = unchanged_by state last (Err why)
+tried digest caller state last command turn (Ok _) = stepped digest caller state (max last turn.draft) command turn (step digest state command turn)
+
+-- an attempt at a call: it is refused, is told without a change, or makes a state and its entry
+unfoldable pub attempt : Digest → State → ℕ → Occasion → Command → Called
+attempt digest state last o command = tried digest o.caller state last command (turn_on state last o (opens_draft command)) (tests_on digest state last o.draft command)
+
+-- a call of a caller at a moment, in the next draft
+abbrev pub call : Digest → ℕ → State → ℕ → Command → ℕ → Called
+call digest caller state last command moment = attempt digest state last (in_next caller moment) command

@@ -25,7 +25,7 @@ pub mod Step
 pub mod Answer
 pub mod Calls
 pub mod Book
-pub mod Script
+pub mod Requests
 pub mod Distinct
 pub mod WellMade
 pub mod Listing
@@ -37,3 +37,4 @@ pub mod TurnLaws
 pub mod Later
 pub mod Naming
 pub mod Walks
+pub mod CauseLaws

@@ -88,13 +88,22 @@ pub record Asked : Type 0 where
   pub dry_run : Bool
   pub conflicts_as_result : Bool
 
+-- plans for a branch: the base that a merge tells, what is asked beside, the place at which their call began, and its moment
+pub record Plans : Type 0 where
+  pub branch : Reference
+  pub planned : List Planned
+  pub ancestor : Option Hash
+  pub asked : Asked
+  pub opened : ℕ
+  pub moment : ℕ
+
 -- the reply, where the branch is left with this head
-abbrev pub merge_reply : Option Hash → List Planned → Reference → Hash → Bool → Bool → Reply
-merge_reply ancestor planned branch head applied successful = replies.Merged (record {
-  common_ancestor = ancestor;
-  details = all_details planned;
-  effective_target = branch.head;
-  target = record branch { head = head };
+abbrev pub merge_reply : Plans → Hash → Bool → Bool → Reply
+merge_reply p head applied successful = replies.Merged (record {
+  common_ancestor = p.ancestor;
+  details = all_details p.planned;
+  effective_target = p.branch.head;
+  target = record (p.branch) { head = head };
   was_applied = applied;
   was_successful = successful;
 })
@@ -111,32 +120,32 @@ abbrev pub needs_set_contents : State → List Planned → ℕ → Tested
 needs_set_contents state planned opened = needs_no_expired (key_set (expired_keys state (all_set planned))) opened
 
 -- nothing is changed where the call is only tried, or no plan changes anything
-abbrev pub applied : State → Option Hash → Reference → List Planned → Hash × State → Bool → State × Reply
-applied state ancestor branch planned made tried =
-    if tried || not (list_any (λ p. has_changes p.plan.ops) planned)
-    then (state, merge_reply ancestor planned branch branch.head false true)
-    else (with_references made.1 (moved_reference made.1.references (record branch { head = made.0 })), merge_reply ancestor planned branch made.0 true true)
+abbrev pub applied : State → Plans → Hash × State → State × Reply
+applied state p made =
+    if p.asked.dry_run || not (list_any (λ one. has_changes one.plan.ops) p.planned)
+    then (state, merge_reply p p.branch.head false true)
+    else (with_references made.1 (moved_reference made.1.references (record (p.branch) { head = made.0 })), merge_reply p made.0 true true)
 
 -- plans without conflicts
-unfoldable pub step_applied : Digest → State → Option Hash → Reference → List Planned → Bool → ℕ → ℕ → Outcome
-step_applied digest state ancestor branch planned tried opened moment =
-    needs_set_contents state planned opened >>= λ _.
-    with_planned digest moment state branch.head (commits_made planned) >>= λ made.
-    Ok (applied state ancestor branch planned made tried)
+unfoldable pub step_applied : Digest → State → Plans → Outcome
+step_applied digest state p =
+    needs_set_contents state p.planned p.opened >>= λ _.
+    with_planned digest p.moment state p.branch.head (commits_made p.planned) >>= λ made.
+    Ok (applied state p made)
 
 -- conflicts refuse, or are the reply
-abbrev pub step_unless_conflicts : Digest → State → Option Hash → Reference → List Planned → Asked → ℕ → ℕ → List Conflict → Outcome
-step_unless_conflicts digest state ancestor branch planned asked opened moment [] = step_applied digest state ancestor branch planned asked.dry_run opened moment
-step_unless_conflicts digest state ancestor branch planned asked opened moment (conflict ∷ conflicts) =
-    if asked.conflicts_as_result
-    then Ok (state, merge_reply ancestor planned branch branch.head false false)
+abbrev pub step_unless_conflicts : Digest → State → Plans → List Conflict → Outcome
+step_unless_conflicts digest state p [] = step_applied digest state p
+step_unless_conflicts digest state p (conflict ∷ conflicts) =
+    if p.asked.conflicts_as_result
+    then Ok (state, merge_reply p p.branch.head false false)
     else Err (Conflicts (conflict ∷ conflicts))
 
 -- the step of plans on a branch
-abbrev pub step_planned : Digest → State → Option Hash → Reference → List Planned → Asked → ℕ → ℕ → Outcome
-step_planned digest state ancestor branch planned asked opened moment =
-    needs_planned_room state (entries state.commits branch.head) planned >>= λ _.
-    step_unless_conflicts digest state ancestor branch planned asked opened moment (all_conflicts planned)
+abbrev pub step_planned : Digest → State → Plans → Outcome
+step_planned digest state p =
+    needs_planned_room state (entries state.commits p.branch.head) p.planned >>= λ _.
+    step_unless_conflicts digest state p (all_conflicts p.planned)
 
 -- ---- merges
 
@@ -156,9 +165,21 @@ merge_planned state m ancestor source head =
     let at : Hash → Map = entries state.commits in
     record { merge_parent = Some source; meta = m.meta; plan = plan (at ancestor) (at source) (at head) m.modes }
 
+-- the plans of a merge of a commit into a branch
+abbrev pub merge_plans : State → Merge → Reference → Hash → ℕ → ℕ → Plans
+merge_plans state m branch source opened moment =
+    let ancestor = base state.commits source branch.head in
+    record {
+      branch = branch;
+      planned = merge_planned state m ancestor source branch.head ∷ [];
+      ancestor = Some ancestor;
+      asked = record { dry_run = m.dry_run; conflicts_as_result = m.conflicts_as_result };
+      opened = opened;
+      moment = moment;
+    }
+
 -- a commit of a reference merged into a branch
 unfoldable pub step_merge : Digest → State → Merge → ℕ → ℕ → Outcome
 step_merge digest state m opened moment =
     merge_opening digest state m >>= λ (branch, source).
-    let ancestor = base state.commits source branch.head in
-    step_planned digest state (Some ancestor) branch (merge_planned state m ancestor source branch.head ∷ []) (record { dry_run = m.dry_run; conflicts_as_result = m.conflicts_as_result }) opened moment
+    step_planned digest state (merge_plans state m branch source opened moment)

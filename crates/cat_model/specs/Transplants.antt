@@ -16,7 +16,7 @@ use Rattle.cat_model.specs.Chain.{Commits, commit_of, entries, on_chain}
 use Rattle.cat_model.specs.Plan.{Plan, plan}
 use Rattle.cat_model.specs.State.{Digest, State}
 use Rattle.cat_model.specs.Refusing.{◌>>=◌, Tested, Outcome, needs, named, needs_branch, pointed}
-use Rattle.cat_model.specs.Merges.{Planned, step_planned}
+use Rattle.cat_model.specs.Merges.{Planned, Plans, step_planned}
 
 -- ---- hashes in a row
 
@@ -81,8 +81,19 @@ transplant_opening digest state t =
     needs (are_consecutive state.commits t.hashes) (BadRequest NotConsecutive) >>= λ _.
     Ok branch
 
+-- the plans of a transplant onto a branch
+abbrev pub transplant_plans : State → Transplant → Reference → ℕ → ℕ → Plans
+transplant_plans state t branch opened moment = record {
+  branch = branch;
+  planned = transplant_planned state t branch.head;
+  ancestor = None;
+  asked = record { dry_run = t.dry_run; conflicts_as_result = t.conflicts_as_result };
+  opened = opened;
+  moment = moment;
+}
+
 -- commits of a reference applied to a branch
 unfoldable pub step_transplant : Digest → State → Transplant → ℕ → ℕ → Outcome
 step_transplant digest state t opened moment =
     transplant_opening digest state t >>= λ branch.
-    step_planned digest state None branch (transplant_planned state t branch.head) (record { dry_run = t.dry_run; conflicts_as_result = t.conflicts_as_result }) opened moment
+    step_planned digest state (transplant_plans state t branch opened moment)

@@ -11,7 +11,7 @@ use Rattle.cat_model.specs.declared.wanted.Wanted.TheVariants.{Read}
 use Rattle.cat_model.specs.Answer.{answer}
 use Rattle.cat_model.specs.Calls.{told_at}
 use Rattle.cat_model.specs.Book.{Reads, ReadRefuses}
-use Rattle.cat_model.specs.Script.{Session, IsGivenUp, request, said_only}
+use Rattle.cat_model.specs.Requests.{Session, IsGivenUp, request, said_only}
 use Rattle.cat_http.specs.Message.{Message}
 use Rattle.cat_rest.specs.Wanted.{wanted}
 use Rattle.cat_rest.specs.Faults.{Answers, Refuses}

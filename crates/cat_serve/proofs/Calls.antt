@@ -1,10 +1,10 @@
 -- What a changing call leaves of the last draft number.
-use Rattle.std.proofs.Common.{◌≡◌, ℕ, ◌+◌, ◌≤◌, [], ◌∷◌, Bool, true, false, nat_lt, if◌then◌else◌, Ok, Err, refl, arith}
+use Rattle.std.proofs.Common.{◌≡◌, ℕ, ◌+◌, ◌≤◌, max, [], ◌∷◌, None, Bool, true, false, nat_lt, if◌then◌else◌, Ok, Err, refl, arith}
 use Rattle.cat_model.specs.declared.command.Command.{Command}
 use Rattle.cat_model.specs.State.{Digest, State}
 use Rattle.cat_model.specs.Refusing.{Tested, Outcome}
 use Rattle.cat_model.specs.Step.{Turn, opens_draft, step}
-use Rattle.cat_model.specs.Calls.{Called, call, tested_call, opened_call, stepped, unchanged_by, told_at, entry_made}
+use Rattle.cat_model.specs.Calls.{Called, attempt, call, entry_made, number_on, stepped, told_at, tried, unchanged_by}
 
 -- a number, or the next
 pub record IsNextAtMost (before after : ℕ) : Type 0 where
@@ -27,22 +27,18 @@ stepped_draft digest caller state draft command turn (Ok (after, reply)) =
     })
     (unchanged_by state draft (Ok reply)) draft (nat_lt state.place after.place) refl refl
 
--- by whether it opens a draft
-opened_draft : (digest : Digest) (caller : ℕ) (state : State) (last : ℕ) (command : Command) (moment : ℕ) (opens : Bool) → IsNextAtMost last (opened_call digest caller state last command moment opens).draft
-opened_draft digest caller state last command moment true =
-    let turn : Turn = record { draft = last + 1; opened = state.place; moment = moment } in
-    let e = stepped_draft digest caller state (last + 1) command turn (step digest state command turn) in
-    record { kept = omega (arith, e); taken = omega (arith, e) }
-opened_draft digest caller state last command moment false =
-    let turn : Turn = record { draft = 0; opened = state.place; moment = moment } in
-    let e = stepped_draft digest caller state last command turn (step digest state command turn) in
-    record { kept = omega (arith, e); taken = omega (arith, e) }
+-- by the number of its draft, which is the next at most
+tried_draft : (digest : Digest) (caller : ℕ) (state : State) (last : ℕ) (command : Command) (turn : Turn) (t : Tested) → turn.draft ≤ last + 1 → IsNextAtMost last (tried digest caller state last command turn t).draft
+tried_draft digest caller state last command turn (Err why) next = record { kept = omega arith; taken = omega arith }
+tried_draft digest caller state last command turn (Ok x) next =
+    let e = stepped_draft digest caller state (max last turn.draft) command turn (step digest state command turn) in
+    record { kept = omega (arith, e); taken = omega (arith, e, next) }
 
-tested_draft : (digest : Digest) (caller : ℕ) (state : State) (last : ℕ) (command : Command) (moment : ℕ) (t : Tested) → IsNextAtMost last (tested_call digest caller state last command moment t).draft
-tested_draft digest caller state last command moment (Err why) = record { kept = omega arith; taken = omega arith }
-tested_draft digest caller state last command moment (Ok x) = opened_draft digest caller state last command moment (opens_draft command)
+number_next : (last : ℕ) (opens : Bool) → number_on last None opens ≤ last + 1
+number_next last true = omega arith
+number_next last false = omega arith
 
 -- a call takes one draft number at most
 pub call_draft : (digest : Digest) (caller : ℕ) (state : State) (last : ℕ) (command : Command) (moment : ℕ) → IsNextAtMost last (call digest caller state last command moment).draft
-unfolding call
-call_draft digest caller state last command moment = tested_draft digest caller state last command moment _
+unfolding attempt
+call_draft digest caller state last command moment = tried_draft digest caller state last command _ _ (number_next last (opens_draft command))

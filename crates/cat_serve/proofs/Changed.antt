@@ -13,7 +13,7 @@ use Rattle.cat_model.specs.State.{State}
 use Rattle.cat_model.specs.Calls.{Called}
 use Rattle.cat_model.specs.Book.{Book, IsCalled, call_on}
 use Rattle.cat_model.specs.Book.{IsGivenUp as LeavesBook}
-use Rattle.cat_model.specs.Script.{Brought, IsGivenUp, request, brought}
+use Rattle.cat_model.specs.Requests.{Brought, IsGivenUp, request, brought}
 use Rattle.cat_http.specs.Message.{Message}
 use Rattle.cat_rest.specs.Wanted.{wanted}
 use Rattle.cat_core.specs.Making.{IsNotKept}

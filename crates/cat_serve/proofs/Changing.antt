@@ -1,15 +1,15 @@
 -- A changing call tells a change, or it changes nothing.
-use Rattle.std.proofs.Common.{◌≡◌, ◌⊎◌, ⊎_elim, ℕ, ◌+◌, ◌<◌, [], ◌∷◌, Ok, Err, Bool, true, false, nat_lt, if◌then◌else◌, refl, ◌∙◌, ap, inl, inr, arith}
+use Rattle.std.proofs.Common.{◌≡◌, ◌⊎◌, ⊎_elim, ℕ, ◌<◌, max, [], ◌∷◌, Ok, Err, Bool, true, false, nat_lt, if◌then◌else◌, refl, ◌∙◌, ap, inl, inr, arith}
 use Rattle.std.proofs.lemmas.Bool.{ltb-true}
 use Rattle.sha2.specs.Sha256.{sha256}
 use Rattle.cat_checks.specs.Changes.{tells_change}
 use Rattle.cat_checks.specs.LeadingLaws.{Follows, IsStep, is_step}
 use Rattle.cat_model.specs.declared.command.Command.{Command}
 use Rattle.cat_model.specs.declared.reply.Reply.{Reply}
-use Rattle.cat_model.specs.Calls.{Called, call, entry_made, opened_call, stepped, tested_call, told_at, unchanged_by}
+use Rattle.cat_model.specs.Calls.{Called, attempt, call, entry_made, stepped, told_at, tried, unchanged_by}
 use Rattle.cat_model.specs.Refusing.{Outcome, Tested}
 use Rattle.cat_model.specs.State.{State}
-use Rattle.cat_model.specs.Step.{Turn, opens_draft, step}
+use Rattle.cat_model.specs.Step.{Turn, step}
 use Rattle.cat_serve.specs.Replies.{must_be_told}
 
 -- ---- steps
@@ -64,20 +64,11 @@ stepped_settles caller state draft command turn (Ok (after, reply)) p =
     } in
     chosen_settles state (nat_lt state.place after.place) entered (unchanged_by state draft (Ok reply)) (with_entry state after reply entered refl p) (inr (record { state = refl; logged = refl }))
 
--- by whether it opens a draft
-opened_settles : (caller : ℕ) (state : State) (last : ℕ) (command : Command) (moment : ℕ) (opens : Bool) → Settles (opened_call sha256 caller state last command moment opens) state
-opened_settles caller state last command moment true =
-    let turn : Turn = record { draft = last + 1; opened = state.place; moment = moment } in
-    stepped_settles caller state (last + 1) command turn (step sha256 state command turn) (step_settles state command turn)
-opened_settles caller state last command moment false =
-    let turn : Turn = record { draft = 0; opened = state.place; moment = moment } in
-    stepped_settles caller state last command turn (step sha256 state command turn) (step_settles state command turn)
-
-tested_settles : (caller : ℕ) (state : State) (last : ℕ) (command : Command) (moment : ℕ) (t : Tested) → Settles (tested_call sha256 caller state last command moment t) state
-tested_settles caller state last command moment (Err why) = inr (record { state = refl; logged = refl })
-tested_settles caller state last command moment (Ok x) = opened_settles caller state last command moment (opens_draft command)
+tried_settles : (caller : ℕ) (state : State) (last : ℕ) (command : Command) (turn : Turn) (t : Tested) → Settles (tried sha256 caller state last command turn t) state
+tried_settles caller state last command turn (Err why) = inr (record { state = refl; logged = refl })
+tried_settles caller state last command turn (Ok x) = stepped_settles caller state (max last turn.draft) command turn (step sha256 state command turn) (step_settles state command turn)
 
 -- a call tells a change, or changes nothing
 pub call_settles : (caller : ℕ) (state : State) (last : ℕ) (command : Command) (moment : ℕ) → Settles (call sha256 caller state last command moment) state
-unfolding call
-call_settles caller state last command moment = tested_settles caller state last command moment _
+unfolding attempt
+call_settles caller state last command moment = tried_settles caller state last command _ _

@@ -11,7 +11,7 @@ use Rattle.cat_model.specs.declared.wanted.Wanted.{Wanted}
 use Rattle.cat_model.specs.declared.wanted.Wanted.TheVariants.{Read, Change}
 use Rattle.cat_model.specs.Book.{Book, Reads, call_on}
 use Rattle.cat_model.specs.Mark.{FailedAppend}
-use Rattle.cat_model.specs.Script.{Brought, said_only}
+use Rattle.cat_model.specs.Requests.{Brought, said_only}
 use Rattle.cat_http.specs.Message.{Message}
 use Rattle.cat_rest.specs.Wanted.{wanted}
 use Rattle.cat_rest.specs.Faults.{Answers}

@@ -3,7 +3,7 @@ use Rattle.std.specs.Prelude.{ℕ, ◌+◌, ◌≡◌, ◌⊎◌, List, [], Opti
 use Rattle.cat_model.specs.declared.refusal.Refusal.TheVariants.{NoMemory}
 use Rattle.cat_model.specs.declared.refusal.Refused.{Refused}
 use Rattle.cat_model.specs.declared.reply.Told.{Told}
-use Rattle.cat_model.specs.Script.{Brought}
+use Rattle.cat_model.specs.Requests.{Brought}
 use Rattle.cat_http.specs.Message.{Message}
 use Rattle.cat_http.specs.Next.{IsRequest}
 use Rattle.cat_rest.specs.Wanted.{wanted}

@@ -9,7 +9,7 @@ use Rattle.cat_model.specs.declared.refusal.Reason.TheVariants.{BadHead}
 use Rattle.cat_model.specs.declared.wanted.Wanted.{Wanted}
 use Rattle.cat_model.specs.declared.wanted.Wanted.TheVariants.{Change}
 use Rattle.cat_model.specs.Book.{Book}
-use Rattle.cat_model.specs.Script.{Session, Brought, IsGivenUp, MayBring, request}
+use Rattle.cat_model.specs.Requests.{Session, Brought, IsGivenUp, MayBring, request}
 use Rattle.cat_http.specs.Message.{Message}
 use Rattle.cat_http.specs.Fields.{closes}
 use Rattle.cat_http.specs.Next.{IsRequest, IsEnd, IsMalformed, IsTooLarge, IsCut}

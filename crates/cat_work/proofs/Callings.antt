@@ -1,18 +1,17 @@
 -- What a call brings, by its step: a refusal, an entry, or a reply alone.
-use Rattle.std.proofs.Common.{◌≡◌, ◌<◌, ◌⊎◌, inl, inr, ℕ, ◌+◌, max, List, [], ◌∷◌, Some, Result, Ok, Err, Bool, true, false, if◌then◌else◌, nat_lt, refl, sym, ap, subst, ◌∙◌, arith}
+use Rattle.std.proofs.Common.{◌≡◌, ◌<◌, ◌⊎◌, inl, inr, ℕ, ◌+◌, max, List, [], ◌∷◌, Some, None, Result, Ok, Err, Bool, true, false, if◌then◌else◌, nat_lt, refl, sym, ap, subst, ◌∙◌, arith}
 use Rattle.std.proofs.lemmas.Bool.Decides.{nat_tests}
+use Rattle.std.proofs.Math.Nat.{max-zero}
 use Rattle.sha2.specs.Sha256.{sha256}
 use Rattle.cat_core.specs.Drafts.{may_open}
-use Rattle.cat_core.specs.declared.ledger.logging.Turn.{Turn}
-use Rattle.cat_core.specs.Occasions.{Occasion, begun, made_on, opened_on, turned_step}
 use Rattle.cat_model.specs.declared.command.Command.{Command}
 use Rattle.cat_model.specs.declared.log_entry.LogEntry.{LogEntry}
 use Rattle.cat_model.specs.declared.refusal.Refusal.{Refusal}
 use Rattle.cat_model.specs.declared.refusal.Refused.{Refused}
 use Rattle.cat_model.specs.declared.reply.Reply.{Reply}
 use Rattle.cat_model.specs.declared.reply.Told.{Told}
-use Rattle.cat_model.specs.Book.{Book, call_on}
-use Rattle.cat_model.specs.Calls.{Called, call, entry_made, needs_draft, opened_call, stepped, tested_call, told_at, unchanged_by}
+use Rattle.cat_model.specs.Book.{Book, attempt_on, call_on}
+use Rattle.cat_model.specs.Calls.{Called, attempt, entry_made, in_draft, in_next, needs_draft, number_on, stepped, told_at, tried, turn_on, unchanged_by}
 use Rattle.cat_model.specs.Refusing.{◌>>=◌, Outcome, Tested}
 use Rattle.cat_model.specs.State.{State}
 use Rattle.cat_model.specs.Step as steps
@@ -73,26 +72,15 @@ tests_refuse n draft moment state last c why e = inl (record { why = why; is = (
 
 -- ---- in a draft
 
--- a call in a draft that is given
-abbrev pub in_draft : ℕ → ℕ → ℕ → Occasion
-in_draft n moment draft = record { caller = n; moment = moment; draft = Some draft }
-
-passed_again : (t : Tested) → (t >>= λ _. Ok tt) ≡ t
-passed_again (Err why) = refl
-passed_again (Ok u) = refl
-
-made_by : (n moment draft : ℕ) (b : Book) (c : Command) (t : Tested) → opening sha256 b.state c ≡ t → Brings n draft b.state c moment (opened_on b (record { caller = n; draft = draft; moment = moment }) c t)
+made_by : (n moment draft : ℕ) (b : Book) (c : Command) (t : Tested) → opening sha256 b.state c ≡ t → Brings n draft b.state c moment (tried sha256 n b.state b.draft c (record { draft = draft; opened = b.state.place; moment = moment }) t)
 made_by n moment draft b c (Err why) e = tests_refuse n draft moment b.state b.draft c why e
 made_by n moment draft b c (Ok u) e =
-    let turn : Turn = record { caller = n; draft = draft; moment = moment } in
-    stepped_brings n b.state (max b.draft draft) c (begun b turn) (turned_step b turn c) refl
+    let turn : steps.Turn = record { draft = draft; opened = b.state.place; moment = moment } in
+    stepped_brings n b.state (max b.draft draft) c turn (step sha256 b.state c turn) refl
 
-made_is : (n moment draft : ℕ) (b : Book) (c : Command) → opens_draft c ≡ true → made_on b (in_draft n moment draft) c ≡ opened_on b (record { caller = n; draft = draft; moment = moment }) c (opening sha256 b.state c)
-unfolding made_on
-made_is n moment draft b c opens = rw (opens, passed_again (opening sha256 b.state c)) refl
-
-pub made_brings : (n moment draft : ℕ) (b : Book) (c : Command) → opens_draft c ≡ true → Brings n draft b.state c moment (made_on b (in_draft n moment draft) c)
-made_brings n moment draft b c opens = subst (λ (called : Called). Brings n draft b.state c moment called) (sym (made_is n moment draft b c opens)) (made_by n moment draft b c (opening sha256 b.state c) refl)
+pub made_brings : (n moment draft : ℕ) (b : Book) (c : Command) → Brings n draft b.state c moment (attempt_on sha256 b (in_draft n moment draft) c)
+unfolding attempt
+made_brings n moment draft b c = made_by n moment draft b c (opening sha256 b.state c) refl
 
 -- the last draft number stays, where the draft has it
 draft_by : (b : Bool) (x y : Called) (draft : ℕ) → x.draft ≡ draft → y.draft ≡ draft → (if b then x else y).draft ≡ draft
@@ -106,34 +94,32 @@ draft_of n state last c turn (Ok (after, reply)) = draft_by (nat_lt state.place 
 greatest : (a b : ℕ) → b ≡ a → max a b ≡ a
 greatest a b e = omega arith
 
-draft_made : (n moment draft : ℕ) (b : Book) (c : Command) (t : Tested) → draft ≡ b.draft → (opened_on b (record { caller = n; draft = draft; moment = moment }) c t).draft ≡ b.draft
-draft_made n moment draft b c (Err why) same = refl
-draft_made n moment draft b c (Ok u) same =
-    let turn : Turn = record { caller = n; draft = draft; moment = moment } in
-    draft_of n b.state (max b.draft draft) c (begun b turn) (turned_step b turn c) ∙ greatest b.draft draft same
+draft_tried : (n : ℕ) (b : Book) (c : Command) (turn : steps.Turn) (t : Tested) → max b.draft turn.draft ≡ b.draft → (tried sha256 n b.state b.draft c turn t).draft ≡ b.draft
+draft_tried n b c turn (Err why) same = refl
+draft_tried n b c turn (Ok u) same = draft_of n b.state (max b.draft turn.draft) c turn (step sha256 b.state c turn) ∙ same
 
-pub made_draft : (n moment draft : ℕ) (b : Book) (c : Command) → opens_draft c ≡ true → draft ≡ b.draft → (made_on b (in_draft n moment draft) c).draft ≡ b.draft
-made_draft n moment draft b c opens same = ap (λ (called : Called). called.draft) (made_is n moment draft b c opens) ∙ draft_made n moment draft b c (opening sha256 b.state c) same
+pub made_draft : (n moment draft : ℕ) (b : Book) (c : Command) → draft ≡ b.draft → (attempt_on sha256 b (in_draft n moment draft) c).draft ≡ b.draft
+unfolding attempt
+made_draft n moment draft b c same = draft_tried n b c (record { draft = draft; opened = b.state.place; moment = moment }) (opening sha256 b.state c) (greatest b.draft draft same)
 
 -- ---- without a draft
 
-draft_called : (n moment : ℕ) (b : Book) (c : Command) (t : Tested) → opens_draft c ≡ false → (tested_call sha256 n b.state b.draft c moment t).draft ≡ b.draft
-draft_called n moment b c (Err why) opens = refl
-draft_called n moment b c (Ok u) opens = rw opens (draft_of n b.state b.draft c (record { draft = 0; opened = b.state.place; moment = moment }) (step sha256 b.state c (record { draft = 0; opened = b.state.place; moment = moment })))
+abbrev undrafted : ℕ → State → steps.Turn
+undrafted moment state = record { draft = 0; opened = state.place; moment = moment }
 
-called_by : (n moment : ℕ) (b : Book) (c : Command) (t : Tested) → opening sha256 b.state c ≡ t → opens_draft c ≡ false → Brings n 0 b.state c moment (tested_call sha256 n b.state b.draft c moment t)
-called_by n moment b c (Err why) e opens = tests_refuse n 0 moment b.state b.draft c why e
-called_by n moment b c (Ok u) e opens = rw opens (stepped_brings n b.state b.draft c (record { draft = 0; opened = b.state.place; moment = moment }) (step sha256 b.state c (record { draft = 0; opened = b.state.place; moment = moment })) refl)
+passed_again : (t : Tested) → (t >>= λ _. Ok tt) ≡ t
+passed_again (Err why) = refl
+passed_again (Ok u) = refl
 
-call_is : (n moment : ℕ) (b : Book) (c : Command) → opens_draft c ≡ false → call_on sha256 n b c moment ≡ tested_call sha256 n b.state b.draft c moment (opening sha256 b.state c)
-unfolding call
-call_is n moment b c opens = ap (λ (t : Tested). tested_call sha256 n b.state b.draft c moment t) (rw opens (passed_again (opening sha256 b.state c)))
+call_is : (n moment : ℕ) (b : Book) (c : Command) → opens_draft c ≡ false → call_on sha256 n b c moment ≡ tried sha256 n b.state b.draft c (undrafted moment b.state) (opening sha256 b.state c)
+unfolding attempt
+call_is n moment b c opens = rw (opens, passed_again (opening sha256 b.state c)) refl
 
 pub call_brings : (n moment : ℕ) (b : Book) (c : Command) → opens_draft c ≡ false → Brings n 0 b.state c moment (call_on sha256 n b c moment)
-call_brings n moment b c opens = subst (λ (called : Called). Brings n 0 b.state c moment called) (sym (call_is n moment b c opens)) (called_by n moment b c (opening sha256 b.state c) refl opens)
+call_brings n moment b c opens = subst (λ (called : Called). Brings n 0 b.state c moment called) (sym (call_is n moment b c opens)) (made_by n moment 0 b c (opening sha256 b.state c) refl)
 
 pub call_draft : (n moment : ℕ) (b : Book) (c : Command) → opens_draft c ≡ false → (call_on sha256 n b c moment).draft ≡ b.draft
-call_draft n moment b c opens = ap (λ (called : Called). called.draft) (call_is n moment b c opens) ∙ draft_called n moment b c (opening sha256 b.state c) opens
+call_draft n moment b c opens = ap (λ (called : Called). called.draft) (call_is n moment b c opens) ∙ draft_tried n b c (undrafted moment b.state) (opening sha256 b.state c) (max-zero b.draft)
 
 -- ---- the draft of an opening, where nothing came between
 
@@ -148,17 +134,21 @@ may_pass b c e = passes_first (opening sha256 b.state c) (needs_draft b.state b.
 max_self : (n : ℕ) → max n n ≡ n
 max_self n = omega arith
 
+max_next : (n : ℕ) → max n (n + 1) ≡ n + 1
+max_next n = omega arith
+
 -- the call in its draft is the model's call, where the draft's number was the next
-pub called_alone : (n moment : ℕ) (b : Book) (c : Command) → opens_draft c ≡ true → may_open b c ≡ Ok tt → made_on (record b { draft = b.draft + 1 }) (in_draft n moment (b.draft + 1)) c ≡ call_on sha256 n b c moment
-unfolding call
+pub called_alone : (n moment : ℕ) (b : Book) (c : Command) → opens_draft c ≡ true → may_open b c ≡ Ok tt → attempt_on sha256 (record b { draft = b.draft + 1 }) (in_draft n moment (b.draft + 1)) c ≡ call_on sha256 n b c moment
+unfolding attempt
 called_alone n moment b c opens passes =
-    let with_it : Book = record b { draft = b.draft + 1 } in
-    let turn : Turn = record { caller = n; draft = b.draft + 1; moment = moment } in
-    let opened : opening sha256 b.state c ≡ Ok tt = may_pass b c passes in
-    made_is n moment (b.draft + 1) with_it c opens
-    ∙ ap (λ (t : Tested). opened_on with_it turn c t) opened
-    ∙ ap (λ (last : ℕ). stepped sha256 n b.state last c (begun with_it turn) (turned_step with_it turn c)) (max_self (b.draft + 1))
-    ∙ sym (ap (λ (t : Tested). tested_call sha256 n b.state b.draft c moment t) (ap (λ (o : Bool). opening sha256 b.state c >>= λ _. needs_draft b.state b.draft o) opens ∙ passes) ∙ ap (λ (o : Bool). opened_call sha256 n b.state b.draft c moment o) opens)
+    let turn : steps.Turn = record { draft = b.draft + 1; opened = b.state.place; moment = moment } in
+    let tests : (opening sha256 b.state c >>= λ _. needs_draft b.state b.draft (opens_draft c)) ≡ Ok tt = ap (λ (o : Bool). opening sha256 b.state c >>= λ _. needs_draft b.state b.draft o) opens ∙ passes in
+    let number : number_on b.draft None (opens_draft c) ≡ b.draft + 1 = ap (number_on b.draft None) opens in
+    let next : steps.Turn = turn_on b.state b.draft (in_next n moment) (opens_draft c) in
+    let same : next ≡ turn = ap (λ (d : ℕ). let t : steps.Turn = record { draft = d; opened = b.state.place; moment = moment } in t) number in
+    ap (tried sha256 n b.state (b.draft + 1) c turn) (may_pass b c passes)
+    ∙ ap (λ (last : ℕ). stepped sha256 n b.state last c turn (step sha256 b.state c turn)) (max_self (b.draft + 1) ∙ sym (max_next b.draft))
+    ∙ sym (ap (tried sha256 n b.state b.draft c next) tests ∙ ap (λ (t : steps.Turn). stepped sha256 n b.state (max b.draft t.draft) c t (step sha256 b.state c t)) same)
 
 -- ---- what is told, by what is brought
 

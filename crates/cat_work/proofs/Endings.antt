@@ -14,7 +14,6 @@ use Rattle.cat_desk.specs.Log.{Follows}
 use Rattle.cat_desk.specs.LogLaws.{follows_on}
 use Rattle.cat_desk.specs.Pass.{DeskId, Keeps, known, left_by, mark_of, number_of, seen, spare_of, stands_for}
 use Rattle.cat_desk.specs.declared.pass.Pass.{Pass}
-use Rattle.cat_core.specs.Occasions.{made_on}
 use Rattle.cat_model.specs.declared.command.Command.{Command}
 use Rattle.cat_model.specs.declared.limits.Limits.{Limits}
 use Rattle.cat_model.specs.declared.log_entry.LogEntry.{LogEntry}
@@ -22,8 +21,8 @@ use Rattle.cat_model.specs.declared.refusal.Refusal.{Refusal}
 use Rattle.cat_model.specs.declared.refusal.Refusal.TheVariants as refusals
 use Rattle.cat_model.specs.declared.refusal.Refused.{Refused}
 use Rattle.cat_model.specs.declared.reply.Told.{Told}
-use Rattle.cat_model.specs.Book.{Book, call_on}
-use Rattle.cat_model.specs.Calls.{Called}
+use Rattle.cat_model.specs.Book.{Book, attempt_on, call_on}
+use Rattle.cat_model.specs.Calls.{Called, in_draft}
 use Rattle.cat_model.specs.Drafts.{Open, OpenDraft, OpenSweep, StaysOpen, SweepAwaits, drafts_of, nothing_open, open_of}
 use Rattle.cat_model.specs.Mark.{Grows, Mark}
 use Rattle.cat_model.specs.State.{State}
@@ -33,7 +32,7 @@ use Rattle.cat_work.specs.declared.trying.Trying.{Trying}
 use Rattle.cat_work.specs.Answers.{Answers, AnswersAlone, IsDraftAbove, RefusesAlone, Spends}
 use Rattle.cat_work.specs.Passes.{IsAlone, book_of, state_of}
 use Rattle.cat_work.specs.Turns.{Begins, Comes, Ends, EndsLast, Going, IsSpent, Moves, StoodAlone, Trail, Tries, Turned, out_of_memory}
-use Rattle.cat_work.proofs.Callings.{Brings, called_alone, in_draft, made_brings, made_draft, may_pass}
+use Rattle.cat_work.proofs.Callings.{Brings, called_alone, made_brings, made_draft, may_pass}
 use Rattle.cat_work.proofs.Opened.{drafts_more, drafts_one, none_left}
 use Rattle.cat_work.proofs.Openings.{may_room}
 use Rattle.cat_work.proofs.Telling.{AloneAt, Found, Left, Numbered, alone_err, alone_ok, answers_ok, book_found, causes, faults_same, follows_same, given_up_alone, grew_in, left_by_turn}
@@ -251,7 +250,7 @@ settled_answers {K} desk c first present next t attempts number moment s s' r op
     opens_own = ap (λ (x : Command). opens_draft x) g.command_is ∙ opens
 
     brings : Brings t.draft.caller t.draft.number s.book.state (command_in t.draft) moment (called_in s t.draft moment)
-    brings = made_brings t.draft.caller moment t.draft.number s.book (command_in t.draft) opens_own
+    brings = made_brings t.draft.caller moment t.draft.number s.book (command_in t.draft)
 
     numbered : Numbered desk (command_in t.draft) first t.draft.number
     numbered = record {
@@ -310,15 +309,14 @@ alone_at {K} desk c first present next t attempts number moment s s' opens g tur
     let next_is : s.book ≡ record b { draft = b.draft + 1 } = found ∙ ap (λ (n : ℕ). record b { draft = n }) stood.number_is in
     let draft : s.book.draft ≡ d.number = ap (λ (x : Book). x.draft) found in
     let raised_by : s.book.draft ≡ b.draft + 1 = ap (λ (x : Book). x.draft) next_is in
-    let opens_own : opens_draft (command_in d) ≡ true = ap (λ (x : Command). opens_draft x) g.command_is ∙ opens in
     let fault : s.mark.fault ≡ (mark_of first).fault = ap (λ (m : Mark). m.fault) ((turn.alone still).1 ∙ stood.mark_is) in
-    let same : called_in s d moment ≡ made_on (record b { draft = b.draft + 1 }) (in_draft (number_of first) moment (b.draft + 1)) c = λ i. made_on (next_is i) (in_draft (caller_was g i) moment (stood.number_is i)) (g.command_is i) in (
+    let same : called_in s d moment ≡ attempt_on sha256 (record b { draft = b.draft + 1 }) (in_draft (number_of first) moment (b.draft + 1)) c = λ i. attempt_on sha256 (next_is i) (in_draft (caller_was g i) moment (stood.number_is i)) (g.command_is i) in (
       record {
         log = ap (λ (x : Book). x.log) found;
         state = ap (λ (x : Book). x.state) found;
         low = omega arith;
         high = omega arith;
-        draft = made_draft d.caller moment d.number s.book (command_in d) opens_own (sym draft);
+        draft = made_draft d.caller moment d.number s.book (command_in d) (sym draft);
         fault = fault;
         down = λ x is. absurd (let wrong : None ≡ Some x = sym stood.up ∙ is in cc);
       },
@@ -336,7 +334,7 @@ settled_alone {K} desk c first present next t attempts number moment s s' r open
     left = left_by_turn desk present next s s' turn
 
     brings : Brings t.draft.caller t.draft.number s.book.state (command_in t.draft) moment (called_in s t.draft moment)
-    brings = made_brings t.draft.caller moment t.draft.number s.book (command_in t.draft) (ap (λ (x : Command). opens_draft x) g.command_is ∙ opens)
+    brings = made_brings t.draft.caller moment t.draft.number s.book (command_in t.draft)
 
     by_result : (x : Result Told Refused) → Ends s t.draft t.view moment x s' → AnswersAlone t.draft.caller (called_in s t.draft moment) (book_of desk first) (book_of desk next) (mark_of first).fault (mark_of next).fault x
     by_result (Ok told) h = alone_ok desk t.draft.caller next s s' (called_in s t.draft moment) (book_of desk first) (mark_of first).fault told (closed s t.draft) both.0 left h.2.1

@@ -13,7 +13,7 @@ use Rattle.cat_model.specs.declared.refusal.Refusal.TheVariants as refusals
 use Rattle.cat_model.specs.declared.refusal.Refused.{Refused}
 use Rattle.cat_model.specs.declared.reply.Told.{Told}
 use Rattle.cat_model.specs.Book.{Book, IsCalled, IsGivenUp, call_on}
-use Rattle.cat_model.specs.Calls.{Called, call, needs_draft, tested_call, unchanged_by}
+use Rattle.cat_model.specs.Calls.{Called, attempt, in_next, needs_draft, tried, turn_on, unchanged_by}
 use Rattle.cat_model.specs.Drafts.{Open, StaysOpen, nothing_open, open_of}
 use Rattle.cat_model.specs.Mark.{FailedAppend, Mark}
 use Rattle.cat_model.specs.Refusing.{◌>>=◌, Tested}
@@ -161,8 +161,9 @@ answers_none desk moment attempts k c p q s s' r refusals.Encoding opens turn sa
 -- ---- on the only pass
 
 call_refused : (n moment : ℕ) (b : Book) (c : Command) (why : Refusal) → opens_draft c ≡ true → may_open b c ≡ Err why → call_on sha256 n b c moment ≡ unchanged_by b.state b.draft (Err why)
-unfolding call
-call_refused n moment b c why opens e = ap (λ (t : Tested). tested_call sha256 n b.state b.draft c moment t) (ap (λ (o : Bool). opening sha256 b.state c >>= λ _. needs_draft b.state b.draft o) opens ∙ e)
+unfolding attempt
+call_refused n moment b c why opens e =
+    ap (tried sha256 n b.state b.draft c (turn_on b.state b.draft (in_next n moment) (opens_draft c))) (ap (λ (o : Bool). opening sha256 b.state c >>= λ _. needs_draft b.state b.draft o) opens ∙ e)
 
 alone_by : (n : ℕ) (called : Called) (b b' : Book) (f f' : Option FailedAppend) (c : Command) (state : State) (book : Book) (r : Refused) (why : Refusal) → IsCalled called b b' (Err r) → f ≡ None → f' ≡ None → openings.Refuses state c why ⊎ HasNone book c why → RefusesAlone n called b b' f f' r why
 alone_by n called b b' f f' c state book r why is up down (inl x) = early_alone n called b b' f f' r why x.early is up down

@@ -6,7 +6,7 @@ ghost use Rattle.cat_state.specs.Adding.{IsAbove};
 ghost use Rattle.cat_state.specs.Kept.{Keeps};
 ghost use Rattle.cat_core.specs.Deciding.{IsDecided};
 ghost use Rattle.cat_core.specs.Making.{Runs, unmade_expired};
-ghost use Rattle.cat_core.specs.Occasions.{turned};
+ghost use Rattle.cat_core.specs.Turns.{turned};
 
 use crate::ledger::Ledger;
 use crate::ledger::logging::Turn;

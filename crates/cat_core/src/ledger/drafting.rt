@@ -1,15 +1,15 @@
 //! Draft numbers, and calls that opened a draft, settled by what was built on their branch's head.
 
-ghost use Rattle.std.specs.Prelude.{◌≡◌, ◌<◌, Some, None, Ok, true, false, IfErr, IsTrue, OnOk};
+ghost use Rattle.std.specs.Prelude.{◌≡◌, ◌<◌, None, Ok, true, false, IfErr, IsTrue, OnOk};
 ghost use Rattle.sha2.specs.Sha256.{sha256};
-ghost use Rattle.cat_model.specs.Calls.{needs_draft};
+ghost use Rattle.cat_model.specs.Book.{attempt_on};
+ghost use Rattle.cat_model.specs.Calls.{in_draft, needs_draft};
 ghost use Rattle.cat_model.specs.Step.{opening};
 ghost use Rattle.cat_model.specs.WellMade.{is_well_made};
 ghost use Rattle.cat_state.specs.Adding.{IsAbove};
 ghost use Rattle.cat_state.specs.Kept.{Keeps};
 ghost use Rattle.cat_decisions.specs.Builds.{IsBuilt, IsGivenBy, command_of};
 ghost use Rattle.cat_core.specs.Making.{Runs, taking, unmade_expired};
-ghost use Rattle.cat_core.specs.Occasions.{made_on};
 
 use crate::ledger::Ledger;
 use crate::ledger::logging::Turn;
@@ -66,11 +66,11 @@ impl Ledger {
         requires built { IsBuilt self.old.state call built }
         requires up { K.down keeper.old ≡ None }
         requires kept { K.kept keeper.old ≡ self.old.state.place }
-        ensures call { Runs (made_on self.old (record { caller = caller; moment = moment; draft = Some number }) (command_of call.entry)) self.old self.new result }
+        ensures call { Runs (attempt_on sha256 self.old (in_draft caller moment number) (command_of call.entry)) self.old self.new result }
         ensures there { IfErr result (λ why. unmade_expired why ≡ false) }
         ensures later { IsAbove self.old.state.commits self.new.state.commits }
         ensures kept { K.kept keeper.new ≡ self.new.state.place }
-        ensures keeps { Keeps K.told K.kept K.down K.in_flight K.faults K.moment K.left_since K.may_leave keeper.old keeper.new (made_on self.old (record { caller = caller; moment = moment; draft = Some number }) (command_of call.entry)).logged result }
+        ensures keeps { Keeps K.told K.kept K.down K.in_flight K.faults K.moment K.left_since K.may_leave keeper.old keeper.new (attempt_on sha256 self.old (in_draft caller moment number) (command_of call.entry)).logged result }
     {
         let turn = Turn {
             caller,

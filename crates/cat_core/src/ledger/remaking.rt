@@ -7,7 +7,7 @@ ghost use Rattle.cat_decisions.specs.Decisions.{Decides};
 ghost use Rattle.cat_state.specs.Changing.{MayBeMade, applied};
 ghost use Rattle.cat_core.specs.Deciding.{made_book, made_told};
 ghost use Rattle.cat_core.specs.Making.{with_entry};
-ghost use Rattle.cat_core.specs.Occasions.{turned, turned_step};
+ghost use Rattle.cat_core.specs.Turns.{turned, turned_step};
 
 use crate::ledger::Ledger;
 use crate::ledger::logging::{Turn, entry};

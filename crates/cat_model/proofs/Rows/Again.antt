@@ -15,8 +15,9 @@ use Rattle.cat_model.specs.Plan.{plan}
 use Rattle.cat_model.specs.Merges.{needs_planned_room, step_applied, merge_opening, merge_planned, step_merge}
 use Rattle.cat_model.specs.Transplants.{transplant_opening, transplant_planned, step_transplant}
 use Rattle.cat_model.specs.Answer.{answer_reference, answer_content}
-use Rattle.cat_model.specs.Calls.{entry_made, call}
-use Rattle.cat_model.specs.Script.{Session, script}
+use Rattle.cat_model.specs.Calls.{attempt, entry_made}
+use Rattle.cat_model.specs.Requests.{Session}
+use Rattle.cat_model.proofs.Rows.Script.{script}
 use Rattle.cat_model.specs.declared.merging.Behaviour.TheVariants.{Normal}
 use Rattle.cat_model.specs.declared.reference.Kind.TheVariants.{Branch}
 use Rattle.cat_model.specs.declared.refusal.Refusal.TheVariants.{RefNotFound}
@@ -37,10 +38,10 @@ brought = after apart (merge dev side (head_of side apart) Normal ∷ [])
 
 -- its commit, applied to main, is what it changed since its first parent, and has no merge parent
 a_merge_is_applied_as_any_commit : newest 1 (after brought (transplant (head_of dev brought ∷ []) Normal ∷ [])) ≡ ((head brought, (None, (2, (6000000, codes "one")))), 1) ∷ []
-unfolding u8_spelling u16_spelling u32_spelling u64_spelling i64_spelling i32_spelling list ascending text_code short_text_code hash_code id_code element_code key_code moment_code kind_code entry_code meta_code commit_code table_code namespace_code of_table of_namespace content_code emptied_fault changes_of op_fault judge entries commit_bytes content_bytes with_commit with_content expired_keys given_ops given_request request_commit commit_opening needs_commit_room step_commit needs_contents step_create step_assign step_delete common_ancestors is_nearer base plan needs_planned_room step_applied merge_opening merge_planned step_merge answer_reference answer_content entry_made call script transplant_opening transplant_planned step_transplant
+unfolding u8_spelling u16_spelling u32_spelling u64_spelling i64_spelling i32_spelling list ascending text_code short_text_code hash_code id_code element_code key_code moment_code kind_code entry_code meta_code commit_code table_code namespace_code of_table of_namespace content_code emptied_fault changes_of op_fault judge entries commit_bytes content_bytes with_commit with_content expired_keys given_ops given_request request_commit commit_opening needs_commit_room step_commit needs_contents step_create step_assign step_delete common_ancestors is_nearer base plan needs_planned_room step_applied merge_opening merge_planned step_merge answer_reference answer_content entry_made attempt script transplant_opening transplant_planned step_transplant
 a_merge_is_applied_as_any_commit = refl
 
 -- the commit that was merged is on no chain of first parents from dev
 a_commit_behind_a_merge_parent_is_not_on_the_chain : said brought (transplant (head_of side brought ∷ []) Normal ∷ []) ≡ not (Some 5) RefNotFound ∷ []
-unfolding u8_spelling u16_spelling u32_spelling u64_spelling i64_spelling i32_spelling list ascending text_code short_text_code hash_code id_code element_code key_code moment_code kind_code entry_code meta_code commit_code table_code namespace_code of_table of_namespace content_code emptied_fault changes_of op_fault judge entries commit_bytes content_bytes with_commit with_content expired_keys given_ops given_request request_commit commit_opening needs_commit_room step_commit needs_contents step_create step_assign step_delete common_ancestors is_nearer base plan needs_planned_room step_applied merge_opening merge_planned step_merge answer_reference answer_content entry_made call script transplant_opening transplant_planned step_transplant
+unfolding u8_spelling u16_spelling u32_spelling u64_spelling i64_spelling i32_spelling list ascending text_code short_text_code hash_code id_code element_code key_code moment_code kind_code entry_code meta_code commit_code table_code namespace_code of_table of_namespace content_code emptied_fault changes_of op_fault judge entries commit_bytes content_bytes with_commit with_content expired_keys given_ops given_request request_commit commit_opening needs_commit_room step_commit needs_contents step_create step_assign step_delete common_ancestors is_nearer base plan needs_planned_room step_applied merge_opening merge_planned step_merge answer_reference answer_content entry_made attempt script transplant_opening transplant_planned step_transplant
 a_commit_behind_a_merge_parent_is_not_on_the_chain = refl

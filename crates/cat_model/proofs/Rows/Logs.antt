@@ -24,8 +24,8 @@ use Rattle.cat_model.specs.State.{fresh_id}
 use Rattle.cat_model.specs.Records.{commit_bytes, content_bytes, with_commit, with_content}
 use Rattle.cat_model.specs.Commits.{given_ops, given_request, request_commit, commit_opening, needs_commit_room, step_commit}
 use Rattle.cat_model.specs.Answer.{answer_reference, answer_content}
-use Rattle.cat_model.specs.Calls.{entry_made, call}
-use Rattle.cat_model.specs.Script.{script}
+use Rattle.cat_model.specs.Calls.{attempt, entry_made}
+use Rattle.cat_model.proofs.Rows.Script.{script}
 use Rattle.cat_model.specs.Book.{Book, first_book, after_call, call_on}
 use Rattle.cat_model.proofs.Rows.Words.{quick, clock, Request, main, note, table, no_id, new, again, commit, put_new, both, after, head, t1, t2, t9, a, a-t, m1, empty, one}
 
@@ -53,11 +53,11 @@ abbrev run : List Request → List LogEntry
 run requests = (script quick 7 clock empty requests).logged
 
 entries_of_accepted_calls : map entry_shape (run (put_new None t1 m1 ∷ put_new None t1 m1 ∷ put_new None t2 m1 ∷ [])) ≡ (1, (7, (1, (1000000, Some (head one))))) ∷ (2, (7, (3, (3000000, Some (head (after one (put_new None t1 m1 ∷ put_new None t2 m1 ∷ []))))))) ∷ []
-unfolding u8_spelling u16_spelling u32_spelling u64_spelling i64_spelling i32_spelling list ascending text_code short_text_code hash_code id_code element_code key_code moment_code kind_code entry_code meta_code commit_code table_code namespace_code of_table of_namespace content_code emptied_fault changes_of op_fault judge entries commit_bytes content_bytes with_commit with_content given_ops given_request request_commit commit_opening needs_commit_room step_commit answer_reference answer_content entry_made call script
+unfolding u8_spelling u16_spelling u32_spelling u64_spelling i64_spelling i32_spelling list ascending text_code short_text_code hash_code id_code element_code key_code moment_code kind_code entry_code meta_code commit_code table_code namespace_code of_table of_namespace content_code emptied_fault changes_of op_fault judge entries commit_bytes content_bytes with_commit with_content given_ops given_request request_commit commit_opening needs_commit_room step_commit answer_reference answer_content entry_made attempt script
 entries_of_accepted_calls = refl
 
 entries_have_ids : map logged_ids (run (put_new None a-t m1 ∷ both ∷ [])) ≡ ((a, (Some (fresh_id 2 0), Some true)) ∷ (a-t, (Some (fresh_id 2 1), Some true)) ∷ [], fresh_id 2 0 ∷ fresh_id 2 1 ∷ []) ∷ []
-unfolding u8_spelling u16_spelling u32_spelling u64_spelling i64_spelling i32_spelling list ascending text_code short_text_code hash_code id_code element_code key_code moment_code kind_code entry_code meta_code commit_code table_code namespace_code of_table of_namespace content_code emptied_fault changes_of op_fault judge entries commit_bytes content_bytes with_commit with_content given_ops given_request request_commit commit_opening needs_commit_room step_commit answer_reference answer_content entry_made call script
+unfolding u8_spelling u16_spelling u32_spelling u64_spelling i64_spelling i32_spelling list ascending text_code short_text_code hash_code id_code element_code key_code moment_code kind_code entry_code meta_code commit_code table_code namespace_code of_table of_namespace content_code emptied_fault changes_of op_fault judge entries commit_bytes content_bytes with_commit with_content given_ops given_request request_commit commit_opening needs_commit_room step_commit answer_reference answer_content entry_made attempt script
 entries_have_ids = refl
 
 abbrev added_by : Reply → List (ContentId × Key)
@@ -71,7 +71,7 @@ added (Err e) = []
 
 ids_that_are_told : map added (script quick 1 clock one (commit main None (new t9 (table no_id m1) ∷ again t1 (table (fresh_id 1 0) (codes "m2")) ∷ new t2 (table no_id m1) ∷ []) (table no_id m1 ∷ table (fresh_id 1 0) (codes "m2") ∷ table no_id m1 ∷ []) ∷ [])).said
     ≡ ((fresh_id 2 0, t9) ∷ (fresh_id 2 2, t2) ∷ []) ∷ []
-unfolding u8_spelling u16_spelling u32_spelling u64_spelling i64_spelling i32_spelling list ascending text_code short_text_code hash_code id_code element_code key_code moment_code kind_code entry_code meta_code commit_code table_code namespace_code of_table of_namespace content_code emptied_fault changes_of op_fault judge entries commit_bytes content_bytes with_commit with_content given_ops given_request request_commit commit_opening needs_commit_room step_commit answer_reference answer_content entry_made call script
+unfolding u8_spelling u16_spelling u32_spelling u64_spelling i64_spelling i32_spelling list ascending text_code short_text_code hash_code id_code element_code key_code moment_code kind_code entry_code meta_code commit_code table_code namespace_code of_table of_namespace content_code emptied_fault changes_of op_fault judge entries commit_bytes content_bytes with_commit with_content given_ops given_request request_commit commit_opening needs_commit_room step_commit answer_reference answer_content entry_made attempt script
 ids_that_are_told = refl
 
 -- the book after a call
@@ -88,5 +88,5 @@ abbrev when : LogEntry → ℕ × (ℕ × ℕ)
 when e = (e.place, (e.draft, e.moment))
 
 a_book_of_three_calls : (map when three_calls.log ≡ (2, (3, 7)) ∷ (1, (1, 5)) ∷ []) × (three_calls.draft ≡ 3) × (three_calls.state.place ≡ 2)
-unfolding u8_spelling u16_spelling u32_spelling u64_spelling i64_spelling i32_spelling list ascending text_code short_text_code hash_code id_code element_code key_code moment_code kind_code entry_code meta_code commit_code table_code namespace_code of_table of_namespace content_code emptied_fault changes_of op_fault judge entries commit_bytes content_bytes with_commit with_content given_ops given_request request_commit commit_opening needs_commit_room step_commit answer_reference answer_content entry_made call script
+unfolding u8_spelling u16_spelling u32_spelling u64_spelling i64_spelling i32_spelling list ascending text_code short_text_code hash_code id_code element_code key_code moment_code kind_code entry_code meta_code commit_code table_code namespace_code of_table of_namespace content_code emptied_fault changes_of op_fault judge entries commit_bytes content_bytes with_commit with_content given_ops given_request request_commit commit_opening needs_commit_room step_commit answer_reference answer_content entry_made attempt script
 a_book_of_three_calls = (refl, refl, refl)

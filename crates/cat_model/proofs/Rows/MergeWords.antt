@@ -5,7 +5,8 @@ use Rattle.cat_names.specs.Fields.{Key}
 use Rattle.cat_names.specs.declared.hash.Hash.{Hash}
 use Rattle.cat_model.specs.Chain.{commit_of}
 use Rattle.cat_model.specs.State.{fresh_id}
-use Rattle.cat_model.specs.Script.{Session, script}
+use Rattle.cat_model.specs.Requests.{Session}
+use Rattle.cat_model.proofs.Rows.Script.{script}
 use Rattle.cat_model.specs.declared.commit.Commit.{Commit}
 use Rattle.cat_model.specs.declared.conflict.ConflictKind.{ConflictKind}
 use Rattle.cat_model.specs.declared.limits.Limits.{Limits}

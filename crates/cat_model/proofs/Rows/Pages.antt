@@ -15,8 +15,9 @@ use Rattle.cat_model.specs.Commits.{given_ops, given_request, request_commit, co
 use Rattle.cat_model.specs.Moves.{needs_contents, step_create, step_assign, step_delete}
 use Rattle.cat_model.specs.Pages.{history}
 use Rattle.cat_model.specs.Answer.{references_page, answer_reference, answer_entries, history_item, answer_history, answer_contents, answer_content}
-use Rattle.cat_model.specs.Calls.{entry_made, call}
-use Rattle.cat_model.specs.Script.{Session, script}
+use Rattle.cat_model.specs.Calls.{attempt, entry_made}
+use Rattle.cat_model.specs.Requests.{Session}
+use Rattle.cat_model.proofs.Rows.Script.{script}
 use Rattle.cat_model.specs.declared.ask.Ask.TheVariants as asks
 use Rattle.cat_model.specs.declared.content.Content.{Content}
 use Rattle.cat_model.specs.declared.filter.Filter.{Filter}
@@ -93,7 +94,7 @@ later = after two (put_new None t0 m1 ∷ commit main None (Delete t2 ∷ []) []
 
 a_page_is_of_the_first_pages_commit : pages later (listed (Some main) None all 200 None ∷ listed (Some main) (Some (head two)) all 1 None ∷ listed (Some main) None all 1 (Some (head two, t1)) ∷ listed (Some main) None all 1 (Some (head two, t2)) ∷ listed (Some main) None all 2 (Some (head two, t0)) ∷ listed (Some main) None all 1 (Some (head two, t0)) ∷ [])
     ≡ page 3 (head later) (t0 ∷ t1 ∷ []) None ∷ page 3 (head two) (t1 ∷ []) (Some (head two, t1)) ∷ page 3 (head two) (t2 ∷ []) None ∷ page 3 (head two) [] None ∷ page 3 (head two) (t1 ∷ t2 ∷ []) None ∷ page 3 (head two) (t1 ∷ []) (Some (head two, t1)) ∷ []
-unfolding u8_spelling u16_spelling u32_spelling u64_spelling i64_spelling i32_spelling list ascending text_code short_text_code hash_code id_code element_code key_code moment_code kind_code entry_code meta_code commit_code table_code namespace_code of_table of_namespace content_code emptied_fault changes_of op_fault judge entries commit_bytes content_bytes with_commit with_content expired_keys given_ops given_request request_commit commit_opening needs_commit_room step_commit needs_contents step_create step_assign step_delete history references_page answer_reference answer_entries history_item answer_history answer_contents answer_content entry_made call script
+unfolding u8_spelling u16_spelling u32_spelling u64_spelling i64_spelling i32_spelling list ascending text_code short_text_code hash_code id_code element_code key_code moment_code kind_code entry_code meta_code commit_code table_code namespace_code of_table of_namespace content_code emptied_fault changes_of op_fault judge entries commit_bytes content_bytes with_commit with_content expired_keys given_ops given_request request_commit commit_opening needs_commit_room step_commit needs_contents step_create step_assign step_delete history references_page answer_reference answer_entries history_item answer_history answer_contents answer_content entry_made attempt script
 a_page_is_of_the_first_pages_commit = refl
 
 -- a hash that is nothing's
@@ -103,12 +104,12 @@ unknown = record { bytes = 1 ∷ [] }
 -- a token's commit has to be known, and needs no chain
 pages_that_are_not_there : pages two (listed (Some dev) None all 1 (Some (head two, t1)) ∷ listed (Some main) (Some unknown) all 1 (Some (head two, t1)) ∷ listed (Some main) None all 1 (Some (unknown, t1)) ∷ listed None (Some H0) all 1 (Some (head two, t1)) ∷ listed None (Some (head two)) all 1 (Some (H0, t1)) ∷ [])
     ≡ not (Some 1) RefNotFound ∷ not (Some 1) RefNotFound ∷ not (Some 1) RefNotFound ∷ page 1 (head two) (t2 ∷ []) None ∷ page 1 H0 [] None ∷ []
-unfolding u8_spelling u16_spelling u32_spelling u64_spelling i64_spelling i32_spelling list ascending text_code short_text_code hash_code id_code element_code key_code moment_code kind_code entry_code meta_code commit_code table_code namespace_code of_table of_namespace content_code emptied_fault changes_of op_fault judge entries commit_bytes content_bytes with_commit with_content expired_keys given_ops given_request request_commit commit_opening needs_commit_room step_commit needs_contents step_create step_assign step_delete history references_page answer_reference answer_entries history_item answer_history answer_contents answer_content entry_made call script
+unfolding u8_spelling u16_spelling u32_spelling u64_spelling i64_spelling i32_spelling list ascending text_code short_text_code hash_code id_code element_code key_code moment_code kind_code entry_code meta_code commit_code table_code namespace_code of_table of_namespace content_code emptied_fault changes_of op_fault judge entries commit_bytes content_bytes with_commit with_content expired_keys given_ops given_request request_commit commit_opening needs_commit_room step_commit needs_contents step_create step_assign step_delete history references_page answer_reference answer_entries history_item answer_history answer_contents answer_content entry_made attempt script
 pages_that_are_not_there = refl
 
 entries_under_a_filter : pages (after two (both ∷ [])) (listed (Some main) None (record all { min = Some t1; max = Some t1 }) 1 None ∷ listed (Some main) None (record all { max = Some t1 }) 2 None ∷ listed (Some main) None (record all { prefix = Some a }) 9 None ∷ listed (Some main) None (record all { keys = t2 ∷ a-t ∷ t9 ∷ [] }) 1 None ∷ listed (Some main) None (record all { min = Some t1; keys = t2 ∷ a-t ∷ t9 ∷ [] }) 1 None ∷ [])
     ≡ page 2 (head (after two (both ∷ []))) (t1 ∷ []) None ∷ page 2 (head (after two (both ∷ []))) (a ∷ a-t ∷ []) (Some (head (after two (both ∷ [])), a-t)) ∷ page 2 (head (after two (both ∷ []))) (a ∷ a-t ∷ []) None ∷ page 2 (head (after two (both ∷ []))) (a-t ∷ []) (Some (head (after two (both ∷ [])), a-t)) ∷ page 2 (head (after two (both ∷ []))) (t2 ∷ []) None ∷ []
-unfolding u8_spelling u16_spelling u32_spelling u64_spelling i64_spelling i32_spelling list ascending text_code short_text_code hash_code id_code element_code key_code moment_code kind_code entry_code meta_code commit_code table_code namespace_code of_table of_namespace content_code emptied_fault changes_of op_fault judge entries commit_bytes content_bytes with_commit with_content expired_keys given_ops given_request request_commit commit_opening needs_commit_room step_commit needs_contents step_create step_assign step_delete history references_page answer_reference answer_entries history_item answer_history answer_contents answer_content entry_made call script
+unfolding u8_spelling u16_spelling u32_spelling u64_spelling i64_spelling i32_spelling list ascending text_code short_text_code hash_code id_code element_code key_code moment_code kind_code entry_code meta_code commit_code table_code namespace_code of_table of_namespace content_code emptied_fault changes_of op_fault judge entries commit_bytes content_bytes with_commit with_content expired_keys given_ops given_request request_commit commit_opening needs_commit_room step_commit needs_contents step_create step_assign step_delete history references_page answer_reference answer_entries history_item answer_history answer_contents answer_content entry_made attempt script
 entries_under_a_filter = refl
 
 -- ---- references
@@ -121,7 +122,7 @@ three = after one (create dev Branch (from_branch main) ∷ create (codes "v") T
 
 references_by_ascending_names : pages three (named 200 None ∷ named 3 None ∷ named 2 None ∷ named 2 (Some main) ∷ named 1 (Some (codes "e")) ∷ named 1 (Some (codes "v")) ∷ [])
     ≡ names 3 (dev ∷ main ∷ codes "v" ∷ []) None ∷ names 3 (dev ∷ main ∷ codes "v" ∷ []) None ∷ names 3 (dev ∷ main ∷ []) (Some main) ∷ names 3 (codes "v" ∷ []) None ∷ names 3 (main ∷ []) (Some main) ∷ names 3 [] None ∷ []
-unfolding u8_spelling u16_spelling u32_spelling u64_spelling i64_spelling i32_spelling list ascending text_code short_text_code hash_code id_code element_code key_code moment_code kind_code entry_code meta_code commit_code table_code namespace_code of_table of_namespace content_code emptied_fault changes_of op_fault judge entries commit_bytes content_bytes with_commit with_content expired_keys given_ops given_request request_commit commit_opening needs_commit_room step_commit needs_contents step_create step_assign step_delete history references_page answer_reference answer_entries history_item answer_history answer_contents answer_content entry_made call script
+unfolding u8_spelling u16_spelling u32_spelling u64_spelling i64_spelling i32_spelling list ascending text_code short_text_code hash_code id_code element_code key_code moment_code kind_code entry_code meta_code commit_code table_code namespace_code of_table of_namespace content_code emptied_fault changes_of op_fault judge entries commit_bytes content_bytes with_commit with_content expired_keys given_ops given_request request_commit commit_opening needs_commit_room step_commit needs_contents step_create step_assign step_delete history references_page answer_reference answer_entries history_item answer_history answer_contents answer_content entry_made attempt script
 references_by_ascending_names = refl
 
 -- ---- history
@@ -136,25 +137,25 @@ the_newest_commit_first : pages later (walked (Some main) None None false 200 No
     ≡ commits 3 ((head later, (head middle, None)) ∷ (head middle, (head two, None)) ∷ (head two, (H0, None)) ∷ []) None
     ∷ commits 3 ((head later, (head middle, None)) ∷ (head middle, (head two, None)) ∷ (head two, (H0, None)) ∷ []) None
     ∷ commits 3 ((head later, (head middle, None)) ∷ []) (Some (head middle)) ∷ commits 3 ((head middle, (head two, None)) ∷ []) (Some (head two)) ∷ commits 3 ((head two, (H0, None)) ∷ []) None ∷ commits 3 [] None ∷ []
-unfolding u8_spelling u16_spelling u32_spelling u64_spelling i64_spelling i32_spelling list ascending text_code short_text_code hash_code id_code element_code key_code moment_code kind_code entry_code meta_code commit_code table_code namespace_code of_table of_namespace content_code emptied_fault changes_of op_fault judge entries commit_bytes content_bytes with_commit with_content expired_keys given_ops given_request request_commit commit_opening needs_commit_room step_commit needs_contents step_create step_assign step_delete history references_page answer_reference answer_entries history_item answer_history answer_contents answer_content entry_made call script
+unfolding u8_spelling u16_spelling u32_spelling u64_spelling i64_spelling i32_spelling list ascending text_code short_text_code hash_code id_code element_code key_code moment_code kind_code entry_code meta_code commit_code table_code namespace_code of_table of_namespace content_code emptied_fault changes_of op_fault judge entries commit_bytes content_bytes with_commit with_content expired_keys given_ops given_request request_commit commit_opening needs_commit_room step_commit needs_contents step_create step_assign step_delete history references_page answer_reference answer_entries history_item answer_history answer_contents answer_content entry_made attempt script
 the_newest_commit_first = refl
 
 a_history_up_to_a_hash : pages later (walked (Some main) None (Some (head middle)) false 9 None ∷ walked (Some main) None (Some (head later)) false 1 None ∷ walked (Some main) None (Some H0) false 9 (Some (head two)) ∷ walked (Some main) None (Some unknown) false 9 None ∷ walked (Some main) None (Some (head later)) false 9 (Some (head middle)) ∷ walked (Some main) (Some (head two)) (Some (head middle)) false 9 None ∷ walked (Some main) None None false 9 (Some unknown) ∷ [])
     ≡ commits 3 ((head later, (head middle, None)) ∷ (head middle, (head two, None)) ∷ []) None ∷ commits 3 ((head later, (head middle, None)) ∷ []) None ∷ commits 3 ((head two, (H0, None)) ∷ []) None ∷ not (Some 3) RefNotFound ∷ not (Some 3) RefNotFound ∷ not (Some 3) RefNotFound ∷ not (Some 3) RefNotFound ∷ []
-unfolding u8_spelling u16_spelling u32_spelling u64_spelling i64_spelling i32_spelling list ascending text_code short_text_code hash_code id_code element_code key_code moment_code kind_code entry_code meta_code commit_code table_code namespace_code of_table of_namespace content_code emptied_fault changes_of op_fault judge entries commit_bytes content_bytes with_commit with_content expired_keys given_ops given_request request_commit commit_opening needs_commit_room step_commit needs_contents step_create step_assign step_delete history references_page answer_reference answer_entries history_item answer_history answer_contents answer_content entry_made call script
+unfolding u8_spelling u16_spelling u32_spelling u64_spelling i64_spelling i32_spelling list ascending text_code short_text_code hash_code id_code element_code key_code moment_code kind_code entry_code meta_code commit_code table_code namespace_code of_table of_namespace content_code emptied_fault changes_of op_fault judge entries commit_bytes content_bytes with_commit with_content expired_keys given_ops given_request request_commit commit_opening needs_commit_room step_commit needs_contents step_create step_assign step_delete history references_page answer_reference answer_entries history_item answer_history answer_contents answer_content entry_made attempt script
 a_history_up_to_a_hash = refl
 
 a_history_with_its_operations : pages (record later { state = record later.state { present = [] } }) (walked None (Some (head later)) None true 1 None ∷ walked None (Some (head two)) None true 9 None ∷ []) ≡ commits 3 ((head later, (head middle, Some ((t2, None) ∷ []))) ∷ []) (Some (head middle)) ∷ commits 3 ((head two, (H0, Some ((t1, Some false) ∷ (t2, Some false) ∷ []))) ∷ []) None ∷ []
-unfolding u8_spelling u16_spelling u32_spelling u64_spelling i64_spelling i32_spelling list ascending text_code short_text_code hash_code id_code element_code key_code moment_code kind_code entry_code meta_code commit_code table_code namespace_code of_table of_namespace content_code emptied_fault changes_of op_fault judge entries commit_bytes content_bytes with_commit with_content expired_keys given_ops given_request request_commit commit_opening needs_commit_room step_commit needs_contents step_create step_assign step_delete history references_page answer_reference answer_entries history_item answer_history answer_contents answer_content entry_made call script
+unfolding u8_spelling u16_spelling u32_spelling u64_spelling i64_spelling i32_spelling list ascending text_code short_text_code hash_code id_code element_code key_code moment_code kind_code entry_code meta_code commit_code table_code namespace_code of_table of_namespace content_code emptied_fault changes_of op_fault judge entries commit_bytes content_bytes with_commit with_content expired_keys given_ops given_request request_commit commit_opening needs_commit_room step_commit needs_contents step_create step_assign step_delete history references_page answer_reference answer_entries history_item answer_history answer_contents answer_content entry_made attempt script
 a_history_with_its_operations = refl
 
 a_history_with_its_contents : pages two (walked (Some main) None None true 9 None ∷ []) ≡ commits 1 ((head two, (H0, Some ((t1, Some true) ∷ (t2, Some true) ∷ []))) ∷ []) None ∷ []
-unfolding u8_spelling u16_spelling u32_spelling u64_spelling i64_spelling i32_spelling list ascending text_code short_text_code hash_code id_code element_code key_code moment_code kind_code entry_code meta_code commit_code table_code namespace_code of_table of_namespace content_code emptied_fault changes_of op_fault judge entries commit_bytes content_bytes with_commit with_content expired_keys given_ops given_request request_commit commit_opening needs_commit_room step_commit needs_contents step_create step_assign step_delete history references_page answer_reference answer_entries history_item answer_history answer_contents answer_content entry_made call script
+unfolding u8_spelling u16_spelling u32_spelling u64_spelling i64_spelling i32_spelling list ascending text_code short_text_code hash_code id_code element_code key_code moment_code kind_code entry_code meta_code commit_code table_code namespace_code of_table of_namespace content_code emptied_fault changes_of op_fault judge entries commit_bytes content_bytes with_commit with_content expired_keys given_ops given_request request_commit commit_opening needs_commit_room step_commit needs_contents step_create step_assign step_delete history references_page answer_reference answer_entries history_item answer_history answer_contents answer_content entry_made attempt script
 a_history_with_its_contents = refl
 
 a_commit_is_shown_whole : history_item [] false (unknown, record { parent = H0; merge_parent = Some unknown; generation = 9; time = 5; meta = record note { message = codes "two" }; ops = (t1, None) ∷ [] })
     ≡ record { hash = unknown; parent = H0; merge_parent = Some unknown; time = 5; meta = record note { message = codes "two" }; operations = None }
-unfolding u8_spelling u16_spelling u32_spelling u64_spelling i64_spelling i32_spelling list ascending text_code short_text_code hash_code id_code element_code key_code moment_code kind_code entry_code meta_code commit_code table_code namespace_code of_table of_namespace content_code emptied_fault changes_of op_fault judge entries commit_bytes content_bytes with_commit with_content expired_keys given_ops given_request request_commit commit_opening needs_commit_room step_commit needs_contents step_create step_assign step_delete history references_page answer_reference answer_entries history_item answer_history answer_contents answer_content entry_made call script
+unfolding u8_spelling u16_spelling u32_spelling u64_spelling i64_spelling i32_spelling list ascending text_code short_text_code hash_code id_code element_code key_code moment_code kind_code entry_code meta_code commit_code table_code namespace_code of_table of_namespace content_code emptied_fault changes_of op_fault judge entries commit_bytes content_bytes with_commit with_content expired_keys given_ops given_request request_commit commit_opening needs_commit_room step_commit needs_contents step_create step_assign step_delete history references_page answer_reference answer_entries history_item answer_history answer_contents answer_content entry_made attempt script
 a_commit_is_shown_whole = refl
 
 -- ---- contents
@@ -164,9 +165,9 @@ asked name hash keys = Ok (Read (asks.Contents (record { at = record { name = na
 
 contents_as_they_are_asked_for : pages later (asked (Some main) None (t1 ∷ t9 ∷ t0 ∷ t1 ∷ t2 ∷ []) ∷ asked (Some main) (Some (head two)) (t2 ∷ t0 ∷ []) ∷ asked None (Some H0) (t1 ∷ []) ∷ asked (Some main) None [] ∷ asked (Some main) (Some unknown) [] ∷ [])
     ≡ contents 3 (head later) (t1 ∷ t0 ∷ t1 ∷ []) ∷ contents 3 (head two) (t2 ∷ []) ∷ contents 3 H0 [] ∷ contents 3 (head later) [] ∷ not (Some 3) RefNotFound ∷ []
-unfolding u8_spelling u16_spelling u32_spelling u64_spelling i64_spelling i32_spelling list ascending text_code short_text_code hash_code id_code element_code key_code moment_code kind_code entry_code meta_code commit_code table_code namespace_code of_table of_namespace content_code emptied_fault changes_of op_fault judge entries commit_bytes content_bytes with_commit with_content expired_keys given_ops given_request request_commit commit_opening needs_commit_room step_commit needs_contents step_create step_assign step_delete history references_page answer_reference answer_entries history_item answer_history answer_contents answer_content entry_made call script
+unfolding u8_spelling u16_spelling u32_spelling u64_spelling i64_spelling i32_spelling list ascending text_code short_text_code hash_code id_code element_code key_code moment_code kind_code entry_code meta_code commit_code table_code namespace_code of_table of_namespace content_code emptied_fault changes_of op_fault judge entries commit_bytes content_bytes with_commit with_content expired_keys given_ops given_request request_commit commit_opening needs_commit_room step_commit needs_contents step_create step_assign step_delete history references_page answer_reference answer_entries history_item answer_history answer_contents answer_content entry_made attempt script
 contents_as_they_are_asked_for = refl
 
 contents_that_were_swept : pages (record later { state = record later.state { present = [] } }) (asked (Some main) None (t1 ∷ []) ∷ []) ≡ contents 3 (head later) [] ∷ []
-unfolding u8_spelling u16_spelling u32_spelling u64_spelling i64_spelling i32_spelling list ascending text_code short_text_code hash_code id_code element_code key_code moment_code kind_code entry_code meta_code commit_code table_code namespace_code of_table of_namespace content_code emptied_fault changes_of op_fault judge entries commit_bytes content_bytes with_commit with_content expired_keys given_ops given_request request_commit commit_opening needs_commit_room step_commit needs_contents step_create step_assign step_delete history references_page answer_reference answer_entries history_item answer_history answer_contents answer_content entry_made call script
+unfolding u8_spelling u16_spelling u32_spelling u64_spelling i64_spelling i32_spelling list ascending text_code short_text_code hash_code id_code element_code key_code moment_code kind_code entry_code meta_code commit_code table_code namespace_code of_table of_namespace content_code emptied_fault changes_of op_fault judge entries commit_bytes content_bytes with_commit with_content expired_keys given_ops given_request request_commit commit_opening needs_commit_room step_commit needs_contents step_create step_assign step_delete history references_page answer_reference answer_entries history_item answer_history answer_contents answer_content entry_made attempt script
 contents_that_were_swept = refl

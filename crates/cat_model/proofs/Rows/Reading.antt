@@ -21,15 +21,16 @@ use Rattle.cat_model.specs.State.{fresh_id}
 use Rattle.cat_model.specs.Records.{commit_bytes, content_bytes, with_commit, with_content}
 use Rattle.cat_model.specs.Commits.{given_ops, given_request, request_commit, commit_opening, needs_commit_room, step_commit}
 use Rattle.cat_model.specs.Answer.{answer_reference, answer_content}
-use Rattle.cat_model.specs.Calls.{entry_made, call}
-use Rattle.cat_model.specs.Script.{Session, script}
+use Rattle.cat_model.specs.Calls.{attempt, entry_made}
+use Rattle.cat_model.specs.Requests.{Session}
+use Rattle.cat_model.proofs.Rows.Script.{script}
 use Rattle.cat_model.specs.declared.reference.Kind.{Kind}
 use Rattle.cat_model.specs.declared.reference.Effective.{Effective}
 use Rattle.cat_model.specs.declared.reference.Effective.TheVariants.{Named, Detached}
 use Rattle.cat_model.proofs.Rows.Words.{quick, clock, main, H0, put, read, look, after, said, head, gives, points, told, not, t1, m1, empty, one}
 
 what_the_server_is : said empty (Ok (Read asks.Config) ∷ Err NoRoute ∷ look (Some main) None ∷ []) ≡ told 0 replies.Config ∷ not None NoRoute ∷ points 0 (Some main) H0 ∷ []
-unfolding u8_spelling u16_spelling u32_spelling u64_spelling i64_spelling i32_spelling list ascending text_code short_text_code hash_code id_code element_code key_code moment_code kind_code entry_code meta_code commit_code table_code namespace_code of_table of_namespace content_code emptied_fault changes_of op_fault judge entries commit_bytes content_bytes with_commit with_content given_ops given_request request_commit commit_opening needs_commit_room step_commit answer_reference answer_content entry_made call script
+unfolding u8_spelling u16_spelling u32_spelling u64_spelling i64_spelling i32_spelling list ascending text_code short_text_code hash_code id_code element_code key_code moment_code kind_code entry_code meta_code commit_code table_code namespace_code of_table of_namespace content_code emptied_fault changes_of op_fault judge entries commit_bytes content_bytes with_commit with_content given_ops given_request request_commit commit_opening needs_commit_room step_commit answer_reference answer_content entry_made attempt script
 what_the_server_is = refl
 
 -- two values of one key
@@ -38,21 +39,21 @@ two = after one (put t1 (fresh_id 1 0) (codes "m2") ∷ [])
 
 at_a_hash_of_the_chain : said two (read (Some main) None t1 ∷ read (Some main) (Some (head one)) t1 ∷ read None (Some (head one)) t1 ∷ read (Some main) (Some H0) t1 ∷ [])
     ≡ gives 2 (codes "m2") ∷ gives 2 m1 ∷ gives 2 m1 ∷ not (Some 2) (ContentNotFound Absent) ∷ []
-unfolding u8_spelling u16_spelling u32_spelling u64_spelling i64_spelling i32_spelling list ascending text_code short_text_code hash_code id_code element_code key_code moment_code kind_code entry_code meta_code commit_code table_code namespace_code of_table of_namespace content_code emptied_fault changes_of op_fault judge entries commit_bytes content_bytes with_commit with_content given_ops given_request request_commit commit_opening needs_commit_room step_commit answer_reference answer_content entry_made call script
+unfolding u8_spelling u16_spelling u32_spelling u64_spelling i64_spelling i32_spelling list ascending text_code short_text_code hash_code id_code element_code key_code moment_code kind_code entry_code meta_code commit_code table_code namespace_code of_table of_namespace content_code emptied_fault changes_of op_fault judge entries commit_bytes content_bytes with_commit with_content given_ops given_request request_commit commit_opening needs_commit_room step_commit answer_reference answer_content entry_made attempt script
 at_a_hash_of_the_chain = refl
 
 at_what_is_not_there : said one (look (Some (codes "none")) None ∷ look (Some main) (Some (record { bytes = 1 ∷ [] })) ∷ look None (Some (record { bytes = 1 ∷ [] })) ∷ [])
     ≡ not (Some 1) RefNotFound ∷ not (Some 1) RefNotFound ∷ not (Some 1) RefNotFound ∷ []
-unfolding u8_spelling u16_spelling u32_spelling u64_spelling i64_spelling i32_spelling list ascending text_code short_text_code hash_code id_code element_code key_code moment_code kind_code entry_code meta_code commit_code table_code namespace_code of_table of_namespace content_code emptied_fault changes_of op_fault judge entries commit_bytes content_bytes with_commit with_content given_ops given_request request_commit commit_opening needs_commit_room step_commit answer_reference answer_content entry_made call script
+unfolding u8_spelling u16_spelling u32_spelling u64_spelling i64_spelling i32_spelling list ascending text_code short_text_code hash_code id_code element_code key_code moment_code kind_code entry_code meta_code commit_code table_code namespace_code of_table of_namespace content_code emptied_fault changes_of op_fault judge entries commit_bytes content_bytes with_commit with_content given_ops given_request request_commit commit_opening needs_commit_room step_commit answer_reference answer_content entry_made attempt script
 at_what_is_not_there = refl
 
 at_what_is_there : said two (look (Some main) (Some H0) ∷ look (Some main) (Some (head one)) ∷ look None (Some (head one)) ∷ look None (Some H0) ∷ [])
     ≡ points 2 (Some main) H0 ∷ points 2 (Some main) (head one) ∷ points 2 None (head one) ∷ points 2 None H0 ∷ []
-unfolding u8_spelling u16_spelling u32_spelling u64_spelling i64_spelling i32_spelling list ascending text_code short_text_code hash_code id_code element_code key_code moment_code kind_code entry_code meta_code commit_code table_code namespace_code of_table of_namespace content_code emptied_fault changes_of op_fault judge entries commit_bytes content_bytes with_commit with_content given_ops given_request request_commit commit_opening needs_commit_room step_commit answer_reference answer_content entry_made call script
+unfolding u8_spelling u16_spelling u32_spelling u64_spelling i64_spelling i32_spelling list ascending text_code short_text_code hash_code id_code element_code key_code moment_code kind_code entry_code meta_code commit_code table_code namespace_code of_table of_namespace content_code emptied_fault changes_of op_fault judge entries commit_bytes content_bytes with_commit with_content given_ops given_request request_commit commit_opening needs_commit_room step_commit answer_reference answer_content entry_made attempt script
 at_what_is_there = refl
 
 a_content_that_was_swept : said (record one { state = record one.state { present = [] } }) (read (Some main) None t1 ∷ []) ≡ not (Some 1) (ContentNotFound Expired) ∷ []
-unfolding u8_spelling u16_spelling u32_spelling u64_spelling i64_spelling i32_spelling list ascending text_code short_text_code hash_code id_code element_code key_code moment_code kind_code entry_code meta_code commit_code table_code namespace_code of_table of_namespace content_code emptied_fault changes_of op_fault judge entries commit_bytes content_bytes with_commit with_content given_ops given_request request_commit commit_opening needs_commit_room step_commit answer_reference answer_content entry_made call script
+unfolding u8_spelling u16_spelling u32_spelling u64_spelling i64_spelling i32_spelling list ascending text_code short_text_code hash_code id_code element_code key_code moment_code kind_code entry_code meta_code commit_code table_code namespace_code of_table of_namespace content_code emptied_fault changes_of op_fault judge entries commit_bytes content_bytes with_commit with_content given_ops given_request request_commit commit_opening needs_commit_room step_commit answer_reference answer_content entry_made attempt script
 a_content_that_was_swept = refl
 
 -- the branch is back at the first hash, and its commits are known
@@ -61,7 +62,7 @@ back = record one { state = record one.state { references = record { name = main
 
 a_known_hash_off_the_chain : said back (look (Some main) (Some (head one)) ∷ look None (Some (head one)) ∷ read (Some main) (Some (head one)) t1 ∷ read None (Some (head one)) t1 ∷ [])
     ≡ not (Some 1) RefNotFound ∷ points 1 None (head one) ∷ not (Some 1) RefNotFound ∷ gives 1 m1 ∷ []
-unfolding u8_spelling u16_spelling u32_spelling u64_spelling i64_spelling i32_spelling list ascending text_code short_text_code hash_code id_code element_code key_code moment_code kind_code entry_code meta_code commit_code table_code namespace_code of_table of_namespace content_code emptied_fault changes_of op_fault judge entries commit_bytes content_bytes with_commit with_content given_ops given_request request_commit commit_opening needs_commit_room step_commit answer_reference answer_content entry_made call script
+unfolding u8_spelling u16_spelling u32_spelling u64_spelling i64_spelling i32_spelling list ascending text_code short_text_code hash_code id_code element_code key_code moment_code kind_code entry_code meta_code commit_code table_code namespace_code of_table of_namespace content_code emptied_fault changes_of op_fault judge entries commit_bytes content_bytes with_commit with_content given_ops given_request request_commit commit_opening needs_commit_room step_commit answer_reference answer_content entry_made attempt script
 a_known_hash_off_the_chain = refl
 
 abbrev kind_at : Effective → Option Kind
@@ -79,5 +80,5 @@ kind_told (Ok t) = kind_in t.reply
 kind_told (Err e) = None
 
 kinds_that_are_told : map kind_told (script quick 1 clock one (look (Some main) None ∷ read (Some main) (Some (head one)) t1 ∷ read None (Some (head one)) t1 ∷ [])).said ≡ Some Branch ∷ Some Branch ∷ None ∷ []
-unfolding u8_spelling u16_spelling u32_spelling u64_spelling i64_spelling i32_spelling list ascending text_code short_text_code hash_code id_code element_code key_code moment_code kind_code entry_code meta_code commit_code table_code namespace_code of_table of_namespace content_code emptied_fault changes_of op_fault judge entries commit_bytes content_bytes with_commit with_content given_ops given_request request_commit commit_opening needs_commit_room step_commit answer_reference answer_content entry_made call script
+unfolding u8_spelling u16_spelling u32_spelling u64_spelling i64_spelling i32_spelling list ascending text_code short_text_code hash_code id_code element_code key_code moment_code kind_code entry_code meta_code commit_code table_code namespace_code of_table of_namespace content_code emptied_fault changes_of op_fault judge entries commit_bytes content_bytes with_commit with_content given_ops given_request request_commit commit_opening needs_commit_room step_commit answer_reference answer_content entry_made attempt script
 kinds_that_are_told = refl

@@ -31,7 +31,8 @@ use Rattle.cat_model.specs.declared.commit.Commit.{Commit}
 use Rattle.cat_model.specs.Limits.{program_limits}
 use Rattle.cat_model.specs.Chain.{entries, commit_of}
 use Rattle.cat_model.specs.State.{Digest, entry_for, no_ancestor, reference_of}
-use Rattle.cat_model.specs.Script.{Session, first_session, script}
+use Rattle.cat_model.specs.Requests.{Session}
+use Rattle.cat_model.proofs.Rows.Script.{first_session, script}
 
 -- a digest of one number
 abbrev pub quick : Digest

@@ -1,7 +1,8 @@
 use Rattle.std.proofs.lemmas.Result.{err_from_is_err_and}
 use Rattle.cat_decisions.specs.Drafts.{all_planned}
-use Rattle.cat_decisions.specs.ExpiringLaws.{unexpired_fails, unexpired_with}
+use Rattle.cat_decisions.specs.ExpiringLaws.{unexpired_fails}
 use Rattle.cat_decisions.proofs.Followed.{may_follow}
+use Rattle.cat_decisions.proofs.Unexpired.{unexpired_with}
 use Rattle.cat_decisions.proofs.settling.added.Goals as goal
 
 pub planned_additions-requires : goal.planned_additions-requires

@@ -1,6 +1,6 @@
 use Rattle.std.proofs.Common.{subst}
 use Rattle.cat_model.specs.Chain.{entries}
-use Rattle.cat_decisions.specs.Drafts.{all_planned, asked_of}
+use Rattle.cat_decisions.specs.Drafts.{all_planned}
 use Rattle.cat_decisions.specs.ExpiringLaws.{unexpired_fails}
 use Rattle.cat_decisions.specs.Settling.{HasRoom}
 use Rattle.cat_decisions.proofs.Settled.{has_room}
@@ -13,7 +13,7 @@ unless_conflicts-requires-clause-room c = subst (HasRoom c.args.catalogue.now) c
 pub returns-in-Ok-clause-step : goal.returns-in-Ok-clause-step
 returns-in-Ok-clause-step c =
     let state = c.args.catalogue.now in
-    has_room state (c.args.draft).ancestor c.args.branch.now (c.args.draft).planned.items (asked_of (c.args.draft).asked) state.place c.args.moment (c.args.draft).command c.unless_conflicts.result (rw c.as_slice.ensures.value at c.in-Ok.ensures.test) c.unless_conflicts.ensures.step
+    has_room state c.args.draft c.args.branch.now state.place c.args.moment (c.args.draft).command c.unless_conflicts.result (rw c.as_slice.ensures.value at c.in-Ok.ensures.test) c.unless_conflicts.ensures.step
 
 pub returns-in-Err-clause-there : goal.returns-in-Err-clause-there
 returns-in-Err-clause-there c =

@@ -4,7 +4,7 @@ use Rattle.cat_state.specs.Kept.{Keeps}
 use Rattle.cat_core.specs.Deciding.{IsDecided}
 use Rattle.cat_core.specs.Making.{Runs}
 use Rattle.cat_core.proofs.Decided.{is_decided}
-use Rattle.cat_core.proofs.Occasions.{none_opened, turn_of, undrafted}
+use Rattle.cat_core.proofs.Turned.{none_opened, turn_of, undrafted}
 use Rattle.cat_core.proofs.ledger.Ledger.refer.Goals as goal
 
 pub carry_out-requires-clause-decided : goal.carry_out-requires-clause-decided

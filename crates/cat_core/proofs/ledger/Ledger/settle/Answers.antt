@@ -5,7 +5,7 @@ use Rattle.cat_state.specs.Kept.{Keeps}
 use Rattle.cat_core.specs.Deciding.{IsDecided}
 use Rattle.cat_core.specs.Making.{Runs}
 use Rattle.cat_core.proofs.Decided.{is_decided}
-use Rattle.cat_core.proofs.Occasions.{number_is, settled, turn_of}
+use Rattle.cat_core.proofs.Turned.{number_is, settled, turn_of}
 use Rattle.cat_core.proofs.ledger.Ledger.settle.Goals as goal
 
 pub decide-decided-requires-clause-opened : goal.decide-decided-requires-clause-opened

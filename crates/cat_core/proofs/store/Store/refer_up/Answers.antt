@@ -1,7 +1,8 @@
 use Rattle.std.proofs.Common.{arith, refl}
 use Rattle.sha2.specs.Sha256.{sha256}
 use Rattle.cat_model.specs.Book.{call_on}
-use Rattle.cat_core.proofs.InStep.{right_call}
+use Rattle.cat_model.specs.Calls.{in_next}
+use Rattle.cat_core.proofs.InStep.{right_attempt}
 use Rattle.cat_core.proofs.Making.{all_told, down_none, up_inside}
 use Rattle.cat_core.proofs.Sound.{call_brings}
 use Rattle.cat_core.proofs.Standing.{stands}
@@ -19,7 +20,7 @@ invariant_of-self g c =
     let laws = g.met.K.Keeper g.world.𝓛 g.world.𝓜 g.world.𝓡 ((λ s x. x), (λ x. x), (λ x. x), λ x. x) in
     stands g.K.Keeper.told g.K.Keeper.kept g.K.Keeper.down g.K.Keeper.in_flight g.K.Keeper.faults g.K.Keeper.moment g.K.Keeper.left_since g.K.Keeper.may_leave
     c.self.inside.keeper c.refer-made.new.keeper c.args.caller 0 (call_on sha256 c.args.caller c.self.inside.ledger c.args.command.now c.args.moment) c.self.inside.ledger c.refer-made.new.self c.self.inside.began _ c.self.inside.fallen c.tell.new.fallen c.refer-made.result
-    (right_call c.args.caller c.self.inside.ledger c.args.command.now c.args.moment)
+    (right_attempt c.self.inside.ledger (in_next c.args.caller c.args.moment) c.args.command.now)
     (call_brings c.args.caller c.args.moment c.self.inside.ledger c.args.command.now c.requires.well_made c.requires.opens)
     (omega arith)
     (none_of_none c.self.inside.ledger.draft c.self.inside.ledger.log _ c.self.invariant.1.waiting)
@@ -32,7 +33,7 @@ returns g c =
     let none = up_inside g.K.Keeper.down g.K.Keeper.in_flight laws.flies laws.waits c.self.inside.keeper c.self.inside.fallen c.self.invariant.0.fallen _ _ c.self.view_is refl c.requires.up in
     all_told g.K.Keeper.told g.K.Keeper.kept g.K.Keeper.down g.K.Keeper.in_flight g.K.Keeper.faults g.K.Keeper.moment g.K.Keeper.left_since g.K.Keeper.may_leave laws.safe laws.only_now
     c.args.caller c.self.inside.ledger c.refer-made.new.self c.self.inside.keeper c.refer-made.new.keeper c.self.inside.drafter c.self.inside.dropped c.self.inside.drafts.items c.self.inside.began
-    (λ b. call_on sha256 c.args.caller b c.args.command.now c.args.moment) (right_call c.args.caller c.self.inside.ledger c.args.command.now c.args.moment) 0
+    (λ b. call_on sha256 c.args.caller b c.args.command.now c.args.moment) (right_attempt c.self.inside.ledger (in_next c.args.caller c.args.moment) c.args.command.now) 0
     (call_brings c.args.caller c.args.moment c.self.inside.ledger c.args.command.now c.requires.well_made c.requires.opens)
     c.self.inside.fallen c.tell.new.fallen _ _ c.place-place.result c.refer-made.result c.tell.result none c.tell.ensures.fallen c.self.view_is refl c.place-place.ensures c.tell.ensures.told
     (down_none g.K.Keeper.down c.self.inside.keeper c.self.inside.fallen c.self.invariant.0.fallen none)

@@ -1,19 +1,18 @@
--- Calls in their turns, as calls on occasions: in no draft, or in one that is given.
+-- Calls in their turns, as attempts: in no draft, or in one that is given.
 use Rattle.std.proofs.Common.{◌≡◌, ◌<◌, ℕ, Ok, true, false, not, nat_eq, refl, arith}
 use Rattle.std.proofs.lemmas.Bool.Decides.{nat_tests}
-use Rattle.std.proofs.Math.Nat.{max-zero}
 use Rattle.sha2.specs.Sha256.{sha256}
 use Rattle.cat_model.specs.declared.command.Command.{Command}
 use Rattle.cat_model.specs.declared.command.Command.TheVariants as commands
-use Rattle.cat_model.specs.Book.{Book, call_on}
-use Rattle.cat_model.specs.Calls.{call}
+use Rattle.cat_model.specs.Book.{Book, attempt_on, call_on}
+use Rattle.cat_model.specs.Calls.{attempt, in_draft}
 use Rattle.cat_model.specs.State.{State}
 use Rattle.cat_model.specs.Step.{opening, opens_draft}
 use Rattle.cat_decisions.specs.declared.call.Call.{Call}
 use Rattle.cat_decisions.specs.Builds.{command_of}
 use Rattle.cat_core.specs.declared.ledger.logging.Turn.{Turn}
 use Rattle.cat_core.specs.LoggedLaws.{IsDraftOf, call_opens}
-use Rattle.cat_core.specs.Occasions.{in_draft, made_on, turned}
+use Rattle.cat_core.specs.Turns.{turned}
 
 abbrev pub turn_of : ℕ → ℕ → ℕ → Turn
 turn_of caller moment number = record { caller = caller; draft = number; moment = moment }
@@ -33,8 +32,8 @@ passes state (commands.Merge m) opens = absurd cc
 passes state (commands.Transplant t) opens = absurd cc
 
 pub undrafted : (caller moment : ℕ) (book : Book) (command : Command) → opens_draft command ≡ false → turned book (turn_of caller moment 0) command ≡ call_on sha256 caller book command moment
-unfolding call
-undrafted caller moment book command opens = rw (passes book.state command opens, opens, max-zero book.draft) (rw opens refl)
+unfolding attempt
+undrafted caller moment book command opens = rw (passes book.state command opens, opens) refl
 
 -- ---- in a draft of a number
 
@@ -44,6 +43,6 @@ some_number draft some = grind (arith, nat_tests, some)
 pub number_is : (call : Call) (number : ℕ) → 0 < number → IsDraftOf (command_of call) number
 number_is call number some = rw (call_opens call) (some_number number some)
 
-pub settled : (book : Book) (caller moment number : ℕ) (call : Call) → opening sha256 book.state (command_of call) ≡ Ok tt → turned book (turn_of caller moment number) (command_of call) ≡ made_on book (in_draft caller moment number) (command_of call)
-unfolding made_on
-settled book caller moment number call opened = rw (opened, call_opens call) refl
+pub settled : (book : Book) (caller moment number : ℕ) (call : Call) → opening sha256 book.state (command_of call) ≡ Ok tt → turned book (turn_of caller moment number) (command_of call) ≡ attempt_on sha256 book (in_draft caller moment number) (command_of call)
+unfolding attempt
+settled book caller moment number call opened = rw opened refl

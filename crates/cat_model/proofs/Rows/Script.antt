@@ -1,0 +1,28 @@
+-- Requests of worked cases, one after another.
+use Rattle.std.specs.Prelude.{ℕ, List, [], ◌∷◌, ◌++◌, Result}
+use Rattle.cat_model.specs.declared.limits.Limits.{Limits}
+use Rattle.cat_model.specs.declared.log_entry.LogEntry.{LogEntry}
+use Rattle.cat_model.specs.declared.refusal.Refusal.{Refusal}
+use Rattle.cat_model.specs.declared.refusal.Refused.{Refused}
+use Rattle.cat_model.specs.declared.reply.Told.{Told}
+use Rattle.cat_model.specs.declared.wanted.Wanted.{Wanted}
+use Rattle.cat_model.specs.State.{Digest, first_state}
+use Rattle.cat_model.specs.Requests.{Session, request}
+
+-- the session on an empty catalogue
+abbrev pub first_session : Digest → Limits → Session
+first_session digest limits = record { state = first_state digest limits; draft = 0; readings = 0 }
+
+-- what requests bring: what they are told, the entries, the oldest first, and the session after them
+pub record Outcomes : Type 0 where
+  pub said : List (Result Told Refused)
+  pub logged : List LogEntry
+  pub after : Session
+
+-- one request after another
+unfoldable pub script : Digest → ℕ → (ℕ → ℕ) → Session → List (Result Wanted Refusal) → Outcomes
+script digest caller clock s [] = record { said = []; logged = []; after = s }
+script digest caller clock s (wanted ∷ requests) =
+    let one = request digest caller clock s wanted in
+    let others = script digest caller clock one.after requests in
+    record { said = one.said ∷ others.said; logged = one.logged ++ others.logged; after = others.after }
