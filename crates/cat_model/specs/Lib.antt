@@ -37,4 +37,6 @@ pub mod TurnLaws
 pub mod Later
 pub mod Naming
 pub mod Walks
+pub mod Fronts
+pub mod Cutoffs
 pub mod CauseLaws

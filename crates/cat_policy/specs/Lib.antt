@@ -1,0 +1,3 @@
+pub mod Times
+pub mod GivenCutoffs
+pub mod Policies
