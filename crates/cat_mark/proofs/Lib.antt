@@ -1,0 +1,4 @@
+pub mod Marking
+pub mod Visible
+pub mod Live
+pub mod Rows

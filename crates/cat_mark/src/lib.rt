@@ -1,0 +1,9 @@
+//! The hashes of the contents that are visible at the commits that cutoffs keep. A set of marks
+//! tells of each hash whether it is in it, and marking a head adds what is live from it and
+//! nothing else. That costs the map at the oldest kept commit and one look-up for each change of
+//! the kept commits after it.
+#![tactic(auto)]
+
+mod chains;
+pub mod marks;
+pub mod roots;
