@@ -1,6 +1,7 @@
 mod Steps
 mod Callings
 mod Openings
+mod Spent
 mod Opened
 mod Trails
 mod Telling

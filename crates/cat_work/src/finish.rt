@@ -1,11 +1,12 @@
 //! The last attempt of a call.
-ghost use Rattle.std.specs.Prelude.{◌≡◌, ◌≤◌, ◌<◌, length, IsTrue, vec_len, vec_capacity};
+ghost use Rattle.std.specs.Prelude.{◌≡◌, ◌≤◌, ◌<◌, [], ◌∷◌, ◌++◌, Some, length, IsTrue, vec_len, vec_capacity};
 ghost use Rattle.sha2.specs.Sha256.{sha256};
 ghost use Rattle.cat_decisions.specs.Builds.{IsBuilt, IsGivenBy};
 ghost use Rattle.cat_checks.specs.Histories.{IsLegalFrom};
 ghost use Rattle.cat_core.specs.Drafts.{IsOpen, command_in, open_draft_of};
 ghost use Rattle.cat_core.specs.Stored.{open_of, snap};
 ghost use Rattle.cat_desk.specs.Pass.{IsFree, Keeps, known, seen};
+ghost use Rattle.cat_model.specs.declared.refusal.Refusal.TheVariants.{RetriesSpent};
 ghost use Rattle.cat_model.specs.Drafts.{drafts_of};
 ghost use Rattle.cat_model.specs.Later.{IsLater};
 ghost use Rattle.cat_model.specs.State.{State};
@@ -27,6 +28,24 @@ use cat_names::hash::Hash;
 use std::alloc::Global;
 use std::sync::Wait;
 
+/// The refusal of a call whose branch had moved at each attempt, by the places and heads that these met.
+fn retries_spent(mut pairs: Vec<(u32, Hash)>, place: u32, head: Hash) -> Refused
+    requires room { vec_len pairs < vec_capacity pairs }
+    requires few { vec_len pairs ≤ 64 }
+    ensures { result ≡ record { place = Some place; why = RetriesSpent (pairs.items ++ (place, head) ∷ []) } }
+{
+    let Ok(()) = pairs.push((place, head)) else {
+        unreachable!()
+    };
+    match Seq::from_vec(pairs) {
+        Ok(pairs) => Refused {
+            place: Some(place),
+            why: Refusal::RetriesSpent(pairs),
+        },
+        Err(_) => unreachable!(),
+    }
+}
+
 /// Settles a draft, or drops it where the head has moved again.
 fn settle_or_drop<K: Keeper>(
     alloc: Global,
@@ -34,7 +53,7 @@ fn settle_or_drop<K: Keeper>(
     draft: Draft<'_>,
     built: Built,
     moment: Moment,
-    mut pairs: Vec<(u32, Hash)>,
+    pairs: Vec<(u32, Hash)>,
 ) -> Result<Told, Refused>
     requires well_made { IsTrue (is_well_made sha256 (command_in draft)) }
     requires given { IsGivenBy draft.number draft.call }
@@ -53,16 +72,7 @@ fn settle_or_drop<K: Keeper>(
             let head = draft.head_in(&view);
             drop(view);
             store.drop_draft(draft);
-            let Ok(()) = pairs.push((place, head)) else {
-                unreachable!()
-            };
-            match Seq::from_vec(pairs) {
-                Ok(pairs) => Err(Refused {
-                    place: Some(place),
-                    why: Refusal::RetriesSpent(pairs),
-                }),
-                Err(_) => unreachable!(),
-            }
+            Err(retries_spent(pairs, place, head))
         }
     }
 }
