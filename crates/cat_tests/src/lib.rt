@@ -27,7 +27,13 @@ mod listening;
 #[cfg(test)]
 mod maps;
 #[cfg(test)]
+mod marks;
+#[cfg(test)]
 mod notes;
+#[cfg(test)]
+mod ordered;
+#[cfg(test)]
+mod policies;
 #[cfg(test)]
 mod records;
 #[cfg(test)]
