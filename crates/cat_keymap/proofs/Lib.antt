@@ -1,9 +1,7 @@
-pub mod Found
-pub mod Changes
+pub mod Agreeing
 pub mod Within
-pub mod Searches
 pub mod Ranges
-pub mod Listings
+pub mod Pages
 pub mod Sorting
 pub mod KeyLists
 pub mod Walks

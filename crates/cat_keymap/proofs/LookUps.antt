@@ -16,8 +16,10 @@ use Rattle.cat_keymap.specs.KeyOrder.{key_total, less_is, split3, both_true, and
 use Rattle.cat_keymap.specs.MapLaws.{entry_is, none_above, key_same}
 use Rattle.cat_keymap.specs.Ordered.{no_fall, climbs}
 use Rattle.cat_keymap.specs.Places.{above}
-use Rattle.cat_keymap.specs.Range.{is_among, named}
+use Rattle.cat_keymap.specs.Range.{is_among, named, all_looked_up}
 use Rattle.cat_keymap.proofs.Sorting.{same_is}
+use Rattle.cat_keymap.proofs.Walks.{above_later}
+use Rattle.cat_keymap.proofs.Within.{above_ascends, IsMap-above}
 
 -- the order of the keys is nothing to the pairs
 pub permuted : (xs ys : List Key) (map : Map) → IsPermutation xs ys → named ys map ≡ named xs map
@@ -69,38 +71,35 @@ taken key keys (x ∷ map) up climb =
     let none : entry_of map key ≡ None = entry_is map key ∙ none_above key x.0 map lower t in
     none_of key keys (x ∷ map) (both_true _ _ (rw lower refl) t) ∙ rw (o, none) refl)
 
--- ---- as the code goes
+-- ---- each key looked up by itself
 
-climbs_any : (key : Key) (keys : List Key) → climbs key_cmp (Some key) keys ≡ true → climbs key_cmp None keys ≡ true
-climbs_any key [] up = refl
-climbs_any key (k ∷ keys) up = (and_true (no_fall key_cmp (Some key) k) (climbs key_cmp (Some k) keys) up).1
-
-module _ {A : Type 0} (f : A → Key) (keys : List A) (i : ℕ) (key : A) where
-  next : i < length keys → key ≡ get_or keys i key → drop i keys ≡ key ∷ drop (i + 1) keys
-  next lt e = let k : i + 1 ≡ suc i = omega arith in rw (k, drop-cons keys i key lt, ← e) refl
-
-  climbs_from : i < length keys → key ≡ get_or keys i key → climbs key_cmp None (map f (drop i keys)) ≡ true → climbs key_cmp (Some (f key)) (map f (drop (i + 1) keys)) ≡ true
-  climbs_from lt e up = subst (λ (l : List A). climbs key_cmp None (map f l) ≡ true) (next lt e) up
-
-  pub climbs_on : i < length keys → key ≡ get_or keys i key → climbs key_cmp None (map f (drop i keys)) ≡ true → climbs key_cmp None (map f (drop (i + 1) keys)) ≡ true
-  climbs_on lt e up = climbs_any (f key) _ (climbs_from lt e up)
-
-  -- one key more is looked up
-  pub goes_on : (out new left rest total : Map) → i < length keys → key ≡ get_or keys i key → climbs key_cmp None (map f (drop i keys)) ≡ true → IsMap left
-      → rest ≡ above left (f key) → new ≡ out ++ present (f key, entry_of left (f key))
-      → out ++ named (map f (drop i keys)) left ≡ total → new ++ named (map f (drop (i + 1) keys)) rest ≡ total
-  goes_on out new left rest total lt e up order r n so_far =
-      let others = map f (drop (i + 1) keys) in
-      let more = taken (f key) others left order (climbs_from lt e up) in
-      ap (λ (m : Map). new ++ named others m) r ∙ ap (λ (m : Map). m ++ named others (above left (f key))) n
-      ∙ append_assoc out (present (f key, entry_of left (f key))) (named others (above left (f key)))
-      ∙ ap (λ (m : Map). out ++ m) (sym more) ∙ sym (ap (λ (l : List A). out ++ named (map f l) left) (next lt e)) ∙ so_far
+above_both : (map : Map) (last key : Key) → key_cmp last key ≡ Less → above (above map last) key ≡ above map key
+above_both [] last key lt = refl
+above_both (x ∷ map) last key lt = split3 (key_cmp x.0 last)
+    (λ o. let lower : key_cmp x.0 key ≡ Less = key_total.trans x.0 last key o lt in rw (o, lower) (above_both map last key lt))
+    (λ o. let lower : key_cmp x.0 key ≡ Less = key_total.congr x.0 last key o ∙ lt in rw (o, lower) refl)
+    (λ o. rw o refl)
 
 named_none : (map : Map) → named [] map ≡ []
 named_none [] = refl
 named_none (x ∷ map) = named_none map
 
-pub is_done : {A : Type 0} (f : A → Key) (keys : List A) (i : ℕ) (out left total : Map) → length keys ≤ i → out ++ named (map f (drop i keys)) left ≡ total → out ≡ total
-is_done f keys i out left total le so_far =
-    let none : drop i keys ≡ [] = drop_all i keys le in
-    sym (append-nil out) ∙ ap (λ (m : Map). out ++ m) (sym (named_none left)) ∙ rw none at so_far
+above_last : (last : Key) (keys : List Key) (map : Map) → IsMap map → climbs key_cmp (Some last) keys ≡ true → all_looked_up (Some last) keys map ≡ named keys (above map last)
+above_last last [] map up climb = sym (named_none (above map last))
+above_last last (key ∷ keys) map up climb =
+    let t = and_true (no_fall key_cmp (Some last) key) (climbs key_cmp (Some key) keys) climb in
+    let rest = above_last key keys map up t.1 in
+    split3 (key_cmp last key)
+    (λ o. let found = above_later map last key o in
+    let left = above_both map last key o in
+    rw o (ap (λ (m : Map). present (key, entry_of map key) ++ m) rest)
+    ∙ sym (taken key keys (above map last) (IsMap-above map last up) t.1 ∙ (λ i. present (key, found i) ++ named keys (left i))))
+    (λ o. let one = key_same last key o in
+    rw o rest ∙ ap (λ (k : Key). named keys (above map k)) (sym one)
+    ∙ sym (none_of key keys (above map last) (ascends_alike last key (above map last) o (above_ascends map last up))))
+    (λ o. let back : key_cmp key last ≡ Less = key_total.antisymm key last ∙ ap ordering_reverse o in
+    let no : not (is_lt (key_cmp key last)) ≡ false = rw back refl in absurd cc)
+
+pub all_named : (keys : List Key) (map : Map) → IsMap map → climbs key_cmp None keys ≡ true → all_looked_up None keys map ≡ named keys map
+all_named [] map up climb = sym (named_none map)
+all_named (key ∷ keys) map up climb = ap (λ (m : Map). present (key, entry_of map key) ++ m) (above_last key keys map up climb) ∙ sym (taken key keys map up climb)

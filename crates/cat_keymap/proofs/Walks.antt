@@ -17,19 +17,17 @@ use Rattle.cat_keymap.specs.MapLaws.{entry_is, none_above, none_past, key_same}
 use Rattle.cat_keymap.proofs.KeyLists.{is_in, one_list, rise_lower, rise_filter, set_rises, in_set, in_filter, in_both}
 use Rattle.cat_keymap.specs.Ordered.{rise}
 use Rattle.cat_keymap.specs.Walking.{unless_same, walk}
-use Rattle.cat_keymap.proofs.Changes.{IsMap-above}
-use Rattle.cat_keymap.proofs.Within.{above_ascends}
+use Rattle.cat_keymap.proofs.Within.{above_ascends, IsMap-above}
 
-pub goes_on : (out new : List Key) (a : Map) (i : ℕ) (x : Key × Entry) (left rest : Map) (total : List Key) → i < length a → x ≡ get_or a i x
+-- one pair more is taken up
+pub goes_on : (out new : List Key) (a : Map) (x : Key × Entry) (more left rest : Map) (total : List Key) → a ≡ x ∷ more
     → rest ≡ above left x.0 → new ≡ out ++ (keys_of (below left x.0) ++ unless_same x (entry_of left x.0))
-    → out ++ walk (drop i a) left ≡ total → new ++ walk (drop (i + 1) a) rest ≡ total
-goes_on out new a i x left rest total lt e r n so_far =
-    let k : i + 1 ≡ suc i = omega arith in
-    let next : drop i a ≡ x ∷ drop (i + 1) a = rw (k, drop-cons a i x lt, ← e) refl in
+    → out ++ walk a left ≡ total → new ++ walk more rest ≡ total
+goes_on out new a x more left rest total next r n so_far =
     let front = keys_of (below left x.0) in
     let here = unless_same x (entry_of left x.0) in
-    let later = walk (drop (i + 1) a) (above left x.0) in
-    ap (λ (m : Map). new ++ walk (drop (i + 1) a) m) r ∙ ap (λ (m : List Key). m ++ later) n
+    let later = walk more (above left x.0) in
+    ap (λ (m : Map). new ++ walk more m) r ∙ ap (λ (m : List Key). m ++ later) n
     ∙ append_assoc out (front ++ here) later ∙ ap (λ (m : List Key). out ++ m) (append_assoc front here later) ∙ sym (ap (λ (m : Map). out ++ walk m left) next) ∙ so_far
 
 -- ---- the keys ascend
@@ -97,7 +95,7 @@ below_before (y ∷ map) at key lt up =
     (λ o. rw o (sym (none_after map y key (below_alike at y.0 key (tied_back key_total y.0 at o) lt) t)))
     (λ o. let up_y : key_cmp at y.0 ≡ Less = key_total.antisymm at y.0 ∙ ap ordering_reverse o in rw o (sym (none_after map y key (key_total.trans key at y.0 lt up_y) t)))
 
-above_later : (map : Map) (at key : Key) → key_cmp at key ≡ Less → entry_of (above map at) key ≡ entry_of map key
+pub above_later : (map : Map) (at key : Key) → key_cmp at key ≡ Less → entry_of (above map at) key ≡ entry_of map key
 above_later [] at key lt = refl
 above_later (y ∷ map) at key lt = split3 (key_cmp y.0 at)
     (λ o. let lower : key_cmp y.0 key ≡ Less = key_total.trans y.0 at key o lt in rw (o, lower) (above_later map at key lt))

@@ -142,15 +142,16 @@ first_decides key y rest up = by (is_child y.0 key) refl
         let t = head_tail (Some key) y rest up in
         h ∙ sym (any_skips key y rest h ∙ none_later key y.0 rest (less_is _ t.0) h t.1)
 
-pub first_there : (map : Map) (key : Key) (m : Map) (y : Key × Entry) → IsMap map → m ≡ above map key → 1 ≤ length m → y ≡ get_or m 0 y → is_child y.0 key ≡ has_child map key
-first_there map key [] y up e le at = absurd (omega arith)
-first_there map key (z ∷ rest) y up e le at =
-    let up_all : ascends key_cmp (Some key) (z ∷ rest) ≡ true = subst (λ (m : Map). ascends key_cmp (Some key) m ≡ true) (sym e) (above_ascends map key up) in
-    ap (λ (p : Key × Entry). is_child p.0 key) at ∙ first_decides key z rest up_all ∙ ap (λ (m : Map). has_child m key) e ∙ sym (among_above map key)
+pub IsMap-above : (map : Map) (key : Key) → IsMap map → IsMap (above map key)
+IsMap-above map key up = ascends_any key (above map key) (above_ascends map key up)
 
-pub none_there : (map : Map) (key : Key) (m : Map) → m ≡ above map key → length m < 1 → has_child map key ≡ false
-none_there map key [] e lt = among_above map key ∙ sym (ap (λ (m : Map). has_child m key) e)
-none_there map key (z ∷ rest) e lt = absurd (omega arith)
+pub first_there : (map : Map) (key : Key) (m : Map) (y : Key × Entry) (rest : Map) → IsMap map → m ≡ above map key → m ≡ y ∷ rest → is_child y.0 key ≡ has_child map key
+first_there map key m y rest up e at =
+    let all : y ∷ rest ≡ above map key = sym at ∙ e in
+    first_decides key y rest (subst (λ (m : Map). ascends key_cmp (Some key) m ≡ true) (sym all) (above_ascends map key up)) ∙ ap (λ (m : Map). has_child m key) all ∙ sym (among_above map key)
+
+pub none_there : (map : Map) (key : Key) (m : Map) → m ≡ above map key → m ≡ [] → has_child map key ≡ false
+none_there map key m e none = among_above map key ∙ ap (λ (m : Map). has_child m key) (sym e ∙ none)
 
 -- all elements but the last are the front of that length
 pub parent_is : (key : Key) → take (length key - 1) key ≡ parent key

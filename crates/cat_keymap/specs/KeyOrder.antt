@@ -1,5 +1,5 @@
 -- The order of keys, and lists of pairs that ascend by them.
-use Rattle.std.proofs.Common.{◌≡◌, ℕ, zero, suc, ◌<◌, List, [], ◌∷◌, length, get_or, drop, Option, Some, None, Bool, true, false, ◌&&◌, refl, sym, ap, ◌∙◌, arith}
+use Rattle.std.proofs.Common.{◌≡◌, ℕ, zero, suc, ◌<◌, List, [], ◌∷◌, length, get_or, Option, Some, None, Bool, true, false, ◌&&◌, refl, sym, ap, ◌∙◌, arith}
 use Rattle.std.specs.Ordering.{is_lt, is_eq, ordering_reverse}
 use Rattle.std.specs.Cmp.{IsTotalOrder, nat_cmp_total}
 use Rattle.std.specs.Cmp.Lexicographic.{lists_total}
@@ -69,8 +69,3 @@ module _ {V : Type 0} where
   all_above x (y ∷ map) (suc j) d up lt =
       let a = head_tail (Some x) y map up in
       all_above x map j d (ascends_lower y.0 (Some x) map a.0 a.1) (omega arith)
-
-  pub ascends_drop : (n : ℕ) (map : List (Key × V)) → ascends key_cmp None map ≡ true → ascends key_cmp None (drop n map) ≡ true
-  ascends_drop zero map up = up
-  ascends_drop (suc n) [] up = refl
-  ascends_drop (suc n) (x ∷ map) up = ascends_drop n map (ascends_any x.0 map (head_tail None x map up).1)

@@ -1,21 +1,11 @@
 -- What stands below a key in a map, and what above.
-use Rattle.std.specs.Prelude.{ℕ, suc, List, [], ◌∷◌}
+use Rattle.std.specs.Prelude.{[], ◌∷◌, Option, Some, None, if◌then◌else◌}
+use Rattle.std.specs.Ordering.{is_eq}
 use Rattle.std.specs.declared.cmp.Ordering.{Ordering}
 use Rattle.std.specs.declared.cmp.Ordering.TheVariants.{Less, Equal, Greater}
 use Rattle.cat_names.specs.Fields.{Key, key_cmp}
 use Rattle.cat_model.specs.declared.entry.Entry.{Entry}
 use Rattle.cat_model.specs.Maps.{Map}
-
--- one more where the first key is below
-abbrev pub step : Ordering → ℕ → ℕ
-step Less n = suc n
-step Equal n = 0
-step Greater n = 0
-
--- how many keys are below, up to the first that isn't
-abbrev pub place_of : {V : Type 0} → List (Key × V) → Key → ℕ
-place_of [] key = 0
-place_of (x ∷ map) key = step (key_cmp x.0 key) (place_of map key)
 
 abbrev pub below_by : Ordering → Key × Entry → Map → Map
 below_by Less x rest = x ∷ rest
@@ -36,3 +26,13 @@ above_by Greater x map rest = x ∷ map
 abbrev pub above : Map → Key → Map
 above [] key = []
 above (x ∷ map) key = above_by (key_cmp x.0 key) x map (above map key)
+
+-- the entry of the first pair, if it is the key's
+abbrev pub entry_here : Map → Key → Option Entry
+entry_here [] key = None
+entry_here (x ∷ map) key = if is_eq (key_cmp x.0 key) then Some x.1 else None
+
+-- what follows the key's pair, if that is the first one
+abbrev pub past : Map → Key → Map
+past [] key = []
+past (x ∷ map) key = if is_eq (key_cmp x.0 key) then map else x ∷ map

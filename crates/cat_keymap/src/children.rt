@@ -5,8 +5,7 @@ ghost use Rattle.cat_model.specs.Keys;
 ghost use Rattle.cat_model.specs.Maps.{IsMap};
 ghost use Rattle.cat_model.specs.Namespaces;
 
-use crate::below::{above, place};
-use cat_model::entry::Entry;
+use crate::key_map::KeyMap;
 use cat_names::key::{ContentKey, Element};
 
 /// Whether a key begins with the elements.
@@ -24,13 +23,15 @@ fn is_child(key: &[Element], of: &[Element]) -> bool
     begins_with(key, of) && key != of
 }
 
-/// Whether a key of the pairs is a child: the first key above would be one.
-pub(crate) fn has_child(pairs: &[(ContentKey, Entry)], key: &[Element]) -> bool
-    requires { IsMap pairs.now }
-    ensures { result ≡ Namespaces.has_child pairs.now key.now }
+/// Whether a key of the map is a child: the first key above would be one.
+pub(crate) fn has_child(map: &KeyMap, key: &ContentKey) -> bool
+    requires { IsMap map.now }
+    ensures { result ≡ Namespaces.has_child map.now key.now }
 {
-    match above(pairs, place(pairs, key), key) {
-        [] => false,
-        [first, ..] => is_child(first.0.elements(), key),
+    let mut above = map.walk_from(key);
+    let _ = above.take(key);
+    match above.peek() {
+        None => false,
+        Some((first, _)) => is_child(first.elements(), key.elements()),
     }
 }

@@ -15,7 +15,7 @@ use cat_names::hash::ContentId;
 use cat_names::key::ContentKey;
 use std::alloc::Global;
 
-fn comes_after<K: Ord>(last: Option<&K>, value: &K) -> bool
+pub(crate) fn comes_after<K: Ord>(last: Option<&K>, value: &K) -> bool
     ensures { result ≡ follows K.cmp (option_map (λ k. k.now) last.entry) value.now }
 {
     match last {

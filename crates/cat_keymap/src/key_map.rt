@@ -2,19 +2,21 @@
 
 ghost use Rattle.std.specs.Prelude.{IfOk, IsTrue, ◌≡◌, [], None, length};
 ghost use Rattle.std.specs.Option.{option_map};
+ghost use Rattle.cat_names.specs.Fields.{key_cmp};
+ghost use Rattle.cat_names.specs.Paths.{parent_of};
 ghost use Rattle.cat_model.specs.Changed.{changed_keys};
 ghost use Rattle.cat_model.specs.Distinct.{are_distinct};
 ghost use Rattle.cat_model.specs.Judge.{changes_of};
 ghost use Rattle.cat_model.specs.Maps.{IsMap, entry_of, after_changes};
 ghost use Rattle.cat_model.specs.Namespaces;
+ghost use Rattle.cat_ordered.specs.Maps.{from_key};
 ghost use Rattle.cat_keymap.specs.Ordered.{rise};
-ghost use Rattle.cat_keymap.specs.Shared.{shared};
 ghost use Rattle.cat_keymap.specs.Parents;
 ghost use Rattle.cat_keymap.specs.Parts;
 
-use crate::below::entry_at;
 use crate::changing::changed_pairs;
 use crate::listing::ListingPart;
+use crate::walk::Walk;
 use crate::{children, differing, listing, order};
 use cat_codes::ascending::Ascending;
 use cat_codes::fault::NoMemory;
@@ -23,14 +25,17 @@ use cat_model::entry::{ContentKind, Entry};
 use cat_model::filter::Filter;
 use cat_model::op::Op;
 use cat_names::key::ContentKey;
+use cat_ordered::ordered_map::OrderedMap;
+use cat_ordered::seek::Seek;
 use std::alloc::{AllocError, Global};
+use std::cmp::Ordering;
 use std::marker::Model;
-use std::sync::Arc;
 
-/// The entries of keys, keys ascending. Copies share their pairs.
+/// The entries of keys, keys ascending. Copies share all pairs, and a changed map shares with the
+/// old one all but the blocks that its changes meet.
 #[derive(Drop)]
 pub struct KeyMap {
-    pairs: Option<Arc<Vec<(ContentKey, Entry)>>>,
+    pairs: Option<OrderedMap<ContentKey, Entry>>,
 }
 
 /// What a map has at the parent of a key.
@@ -46,26 +51,39 @@ pub enum ParentState {
     Namespace,
 }
 
+/// The parent of a key, sought without a copy.
+#[derive(Drop)]
+struct Parent<'a> {
+    of: &'a ContentKey,
+}
+
+impl<'a> Seek<ContentKey> for Parent<'a> {
+    ghost sought = { λ p. parent_of p.of.now };
+
+    fn order(&self, key: &ContentKey) -> Ordering {
+        key.elements().cmp(self.of.parent())
+    }
+}
+
 impl Model for KeyMap {
-    ghost use Rattle.cat_model.specs.Maps.{Map, IsMap};
-    ghost use Rattle.cat_keymap.specs.Shared.{shared};
+    ghost use Rattle.cat_model.specs.Maps.{Map};
+    ghost use Rattle.cat_keymap.specs.Shared.{pairs_of};
 
     ghost Value = { Map };
 
-    ghost view = { λ m. shared m.pairs };
-
-    ghost invariant = { λ m. IsMap (shared m.pairs) };
+    ghost view = { λ m. pairs_of m.pairs };
 }
 
 impl Clone for KeyMap {
     ghost is_clone = { λ a b. b ≡ a };
 
-    /// The same map, which shares the pairs; refused only where a count of owners is full.
+    /// The same map, which shares all pairs. It takes memory for one list of owners, unless the map
+    /// is empty: one owner for each 4,096 to 262,144 pairs.
     fn clone(&self) -> Result<KeyMap, AllocError> {
         match &self.pairs {
             None => Ok(KeyMap { pairs: None }),
             Some(pairs) => Ok(KeyMap {
-                pairs: Some(Arc::try_clone(pairs)?),
+                pairs: Some(pairs.clone()?),
             }),
         }
     }
@@ -83,16 +101,8 @@ impl KeyMap {
     pub fn known(&self)
         ensures { IsMap self.now }
     {
-        let _ = &self.pairs;
-    }
-
-    /// The keys and their entries, keys ascending.
-    pub fn pairs(&self) -> &[(ContentKey, Entry)]
-        ensures { result.now ≡ self.now }
-    {
-        match &self.pairs {
-            None => &[],
-            Some(pairs) => pairs.as_slice(),
+        if let Some(pairs) = &self.pairs {
+            pairs.known();
         }
     }
 
@@ -100,15 +110,48 @@ impl KeyMap {
     pub fn len(&self) -> usize
         ensures { result ≡ length self.now }
     {
-        self.pairs().len()
+        match &self.pairs {
+            None => 0,
+            Some(pairs) => pairs.len(),
+        }
+    }
+
+    /// A walk over all keys and their entries, keys ascending.
+    pub fn walk(&self) -> Walk<'_>
+        ensures { result ≡ self.now }
+    {
+        match &self.pairs {
+            None => Walk::none(),
+            Some(pairs) => Walk::over(pairs.walk()),
+        }
+    }
+
+    /// A walk over the keys from one on, and their entries.
+    pub fn walk_from(&self, key: &ContentKey) -> Walk<'_>
+        ensures { result ≡ from_key key_cmp self.now key.now }
+    {
+        match &self.pairs {
+            None => Walk::none(),
+            Some(pairs) => Walk::over(pairs.walk_from(key)),
+        }
+    }
+
+    /// The entry of a key, or of what stands for one.
+    #[tactic(auto, using(crate::proofs::Agreeing::value_is))]
+    fn find<Q: Seek<ContentKey>>(&self, key: &Q) -> Option<Entry>
+        ensures { result ≡ entry_of self.now (Q.sought key.now) }
+    {
+        match &self.pairs {
+            None => None,
+            Some(pairs) => pairs.get_sought(key).copied(),
+        }
     }
 
     /// The entry of a key.
     pub fn get(&self, key: &ContentKey) -> Option<Entry>
         ensures { result ≡ entry_of self.now key.now }
     {
-        self.known();
-        entry_at(self.pairs(), key.elements())
+        self.find(key)
     }
 
     /// The map after changes, each a key and its new entry, or none where the key goes.
@@ -119,10 +162,9 @@ impl KeyMap {
     ) -> Result<KeyMap, NoMemory>
         ensures { IfOk result (λ map. map ≡ after_changes changes.now self.now) }
     {
-        self.known();
         changes.known();
-        let pairs = changed_pairs(alloc, self.pairs(), changes.as_slice())?;
-        shared_map(alloc, pairs)
+        let pairs = changed_pairs(alloc, &self.pairs, changes.as_slice())?;
+        Ok(KeyMap { pairs: Some(pairs) })
     }
 
     /// The map after the operations of a request on distinct keys, in any order.
@@ -144,8 +186,7 @@ impl KeyMap {
     ) -> Result<ListingPart, NoMemory>
         ensures { IfOk result (λ part. part ≡ Parts.part self.now filter.now (option_map (λ key. key.now) after.entry) limit) }
     {
-        self.known();
-        listing::part(alloc, self.pairs(), filter, after, limit)
+        listing::part(alloc, self, filter, after, limit)
     }
 
     /// The keys whose entries differ in another map, ascending.
@@ -155,7 +196,7 @@ impl KeyMap {
     {
         self.known();
         other.known();
-        differing::changed(alloc, self.pairs(), other.pairs())
+        differing::changed(alloc, self.walk(), other.walk())
     }
 
     /// Whether a key of the map is a child of this one.
@@ -163,7 +204,7 @@ impl KeyMap {
         ensures { result ≡ Namespaces.has_child self.now key.now }
     {
         self.known();
-        children::has_child(self.pairs(), key.elements())
+        children::has_child(self, key)
     }
 
     /// What the map has at the parent of a key.
@@ -171,24 +212,14 @@ impl KeyMap {
     pub fn parent_state(&self, key: &ContentKey) -> ParentState
         ensures { result ≡ Parents.parent_state self.now key.now }
     {
-        self.known();
         if key.elements().len() < 2 {
             return ParentState::Root;
         }
-        match entry_at(self.pairs(), key.parent()) {
+        match self.find(&Parent { of: key }) {
             None => ParentState::Absent,
             Some(entry) => state_of(entry.kind),
         }
     }
-}
-
-fn shared_map(alloc: Global, pairs: Vec<(ContentKey, Entry)>) -> Result<KeyMap, NoMemory>
-    requires { IsMap pairs.items }
-    ensures { IfOk result (λ map. map ≡ pairs.items) }
-{
-    Ok(KeyMap {
-        pairs: Some(Arc::new(alloc, pairs)?),
-    })
 }
 
 fn state_of(kind: ContentKind) -> ParentState

@@ -1,14 +1,15 @@
 //! The pairs of the keys that a filter names, each looked up.
 
-ghost use Rattle.std.specs.Prelude.{IfOk, IsTrue, ◌≡◌, ◌++◌, None, map};
+ghost use Rattle.std.specs.Prelude.{IfOk, IsTrue, OnOk, ◌≡◌, ◌++◌, None, map};
 ghost use Rattle.std.specs.List.Sorted.{IsPermutation};
+ghost use Rattle.std.specs.Option.{option_map};
 ghost use Rattle.cat_names.specs.Fields.{key_cmp};
-ghost use Rattle.cat_model.specs.Maps.{IsMap, entry_of, present};
+ghost use Rattle.cat_model.specs.Maps.{IsMap};
 ghost use Rattle.cat_keymap.specs.Ordered.{climbs};
-ghost use Rattle.cat_keymap.specs.Places;
 ghost use Rattle.cat_keymap.specs.Range;
 
-use crate::below::{above, entry_at, place};
+use crate::distinct::comes_after;
+use crate::key_map::KeyMap;
 use cat_codes::fault::NoMemory;
 use cat_model::entry::Entry;
 use cat_names::key::ContentKey;
@@ -33,48 +34,49 @@ fn sorted(alloc: Global, keys: &[ContentKey]) -> Result<Vec<&ContentKey>, NoMemo
     Ok(out)
 }
 
-/// Adds the pair of a key, if there is one, and gives the pairs above.
-fn take_up<'a>(
+/// Adds the pair of a key, if there is one, unless the key comes no later than the last one.
+fn look_up(
     out: &mut Vec<(ContentKey, Entry)>,
-    left: &'a [(ContentKey, Entry)],
+    within: &KeyMap,
+    last: Option<&ContentKey>,
     key: &ContentKey,
-) -> Result<&'a [(ContentKey, Entry)], NoMemory>
-    requires { IsMap left.now }
-    ensures { IfOk result (λ rest. (rest.now ≡ Places.above left.now key.now) × (out.new.items ≡ out.old.items ++ present (key.now, entry_of left.now key.now))) }
+) -> Result<(), NoMemory>
+    ensures { OnOk result (out.new.items ≡ out.old.items ++ Range.looked_up (option_map (λ k. k.now) last.entry) key.now within.now) }
 {
-    if let Some(entry) = entry_at(left, key.elements()) {
+    if !comes_after(last, key) {
+        return Ok(());
+    }
+    if let Some(entry) = within.get(key) {
         out.push((key.clone()?, entry))?;
     }
-    Ok(above(left, place(left, key.elements()), key.elements()))
+    Ok(())
 }
 
-/// A key that comes again finds nothing: only what is above the last is left.
 fn looked_up(
     alloc: Global,
-    pairs: &[(ContentKey, Entry)],
+    within: &KeyMap,
     sorted: &[&ContentKey],
 ) -> Result<Vec<(ContentKey, Entry)>, NoMemory>
-    requires pairs { IsMap pairs.now }
-    requires order { IsTrue (climbs key_cmp None (map (λ k. k.now) sorted.now)) }
-    ensures { IfOk result (λ v. v.items ≡ Range.named (map (λ k. k.now) sorted.now) pairs.now) }
+    ensures { IfOk result (λ v. v.items ≡ Range.all_looked_up None (map (λ k. k.now) sorted.now) within.now) }
 {
     let mut out = Vec::new(alloc);
-    let mut left = pairs;
+    let mut last = None;
     for key in sorted {
-        left = take_up(&mut out, left, *key)?;
+        look_up(&mut out, within, last, *key)?;
+        last = Some(*key);
     }
     Ok(out)
 }
 
-/// The pairs of these keys, in the order of the pairs.
+/// The pairs of these keys, keys ascending. A key that comes again is looked up once.
 pub(crate) fn named_pairs(
     alloc: Global,
-    pairs: &[(ContentKey, Entry)],
+    within: &KeyMap,
     keys: &[ContentKey],
 ) -> Result<Vec<(ContentKey, Entry)>, NoMemory>
-    requires { IsMap pairs.now }
-    ensures { IfOk result (λ v. v.items ≡ Range.named keys.now pairs.now) }
+    ensures { IfOk result (λ v. v.items ≡ Range.named keys.now within.now) }
 {
+    within.known();
     let sorted = sorted(alloc, keys)?;
-    looked_up(alloc, pairs, sorted.as_slice())
+    looked_up(alloc, within, sorted.as_slice())
 }

@@ -1,21 +1,51 @@
-//! The range of a map in which a page lies: it leaves out keys at the front and at the end that do
-//! not pass the filter, or that come no later than the key after which the page goes on.
+//! The range of a map in which a page lies, and what of it is on the page.
 
-ghost use Rattle.std.specs.Prelude.{◌≡◌, true, filter};
+ghost use Rattle.std.specs.Prelude.{◌≡◌, true};
 ghost use Rattle.std.specs.Option.{option_map, option_map_or};
 ghost use Rattle.std.specs.Ordering.{is_le};
 ghost use Rattle.cat_codes.specs.Code.{follows};
 ghost use Rattle.cat_names.specs.Fields.{key_cmp};
-ghost use Rattle.cat_model.specs.Maps.{IsMap};
+ghost use Rattle.cat_model.specs.Keys;
 ghost use Rattle.cat_keymap.specs.Range;
 
-use crate::below::{front_of, rest_of};
 use crate::children::begins_with;
-use cat_model::entry::Entry;
+use crate::key_map::KeyMap;
+use crate::walk::Walk;
 use cat_model::filter::Filter;
 use cat_names::key::ContentKey;
 
-pub(crate) fn is_from(min: &Option<ContentKey>, key: &ContentKey) -> bool
+fn later<'a>(a: Option<&'a ContentKey>, b: Option<&'a ContentKey>) -> Option<&'a ContentKey>
+    ensures { option_map (λ key. key.now) result ≡ Range.later (option_map (λ key. key.now) a.entry) (option_map (λ key. key.now) b.entry) }
+{
+    match (a, b) {
+        (None, _) => b,
+        (Some(_), None) => a,
+        (Some(x), Some(y)) => { if x.cmp(y).is_lt() { b } else { a } }
+    }
+}
+
+/// The key that no key of the page is below, if there is one.
+fn start<'a>(filter: &'a Filter, after: Option<&'a ContentKey>) -> Option<&'a ContentKey>
+    ensures { option_map (λ key. key.now) result ≡ Range.start filter.now (option_map (λ key. key.now) after.entry) }
+{
+    later(later(filter.min.as_ref(), filter.prefix.as_ref()), after)
+}
+
+/// The walk from where the page begins.
+pub(crate) fn from_start<'a>(
+    map: &'a KeyMap,
+    filter: &Filter,
+    after: Option<&ContentKey>,
+) -> Walk<'a>
+    ensures { result ≡ Range.from_start map.now (Range.start filter.now (option_map (λ key. key.now) after.entry)) }
+{
+    match start(filter, after) {
+        None => map.walk(),
+        Some(key) => map.walk_from(key),
+    }
+}
+
+fn is_from(min: &Option<ContentKey>, key: &ContentKey) -> bool
     ensures { result ≡ option_map_or (λ min. is_le (key_cmp min key.now)) min.now true }
 {
     match min {
@@ -24,7 +54,7 @@ pub(crate) fn is_from(min: &Option<ContentKey>, key: &ContentKey) -> bool
     }
 }
 
-pub(crate) fn is_up_to(max: &Option<ContentKey>, key: &ContentKey) -> bool
+fn is_up_to(max: &Option<ContentKey>, key: &ContentKey) -> bool
     ensures { result ≡ option_map_or (λ max. is_le (key_cmp key.now max)) max.now true }
 {
     match max {
@@ -42,6 +72,15 @@ fn is_after(after: Option<&ContentKey>, key: &ContentKey) -> bool
     }
 }
 
+fn has_prefix(prefix: &Option<ContentKey>, key: &ContentKey) -> bool
+    ensures { result ≡ option_map_or (λ prefix. Keys.begins_with key.now prefix) prefix.now true }
+{
+    match prefix {
+        None => true,
+        Some(prefix) => begins_with(key.elements(), prefix.elements()),
+    }
+}
+
 /// Whether a key with the prefix is there or may follow.
 fn may_have_prefix(prefix: &Option<ContentKey>, key: &ContentKey) -> bool
     ensures { result ≡ Range.may_have_prefix prefix.now key.now }
@@ -54,49 +93,19 @@ fn may_have_prefix(prefix: &Option<ContentKey>, key: &ContentKey) -> bool
     }
 }
 
-/// Whether the range has begun at a key.
-fn has_begun(filter: &Filter, after: Option<&ContentKey>, key: &ContentKey) -> bool
-    ensures { result ≡ Range.has_begun filter.now (option_map (λ key. key.now) after.entry) key.now }
-{
-    is_from(&filter.min, key) && is_from(&filter.prefix, key) && is_after(after, key)
-}
-
 /// Whether the range still goes on at a key.
-fn goes_on(filter: &Filter, key: &ContentKey) -> bool
+pub(crate) fn goes_on(filter: &Filter, key: &ContentKey) -> bool
     ensures { result ≡ Range.goes_on filter.now key.now }
 {
     is_up_to(&filter.max, key) && may_have_prefix(&filter.prefix, key)
 }
 
-fn from_begin<'a>(
-    pairs: &'a [(ContentKey, Entry)],
-    filter: &Filter,
-    after: Option<&ContentKey>,
-) -> &'a [(ContentKey, Entry)]
-    requires { IsMap pairs.now }
-    ensures { result.now ≡ Range.from_begin pairs.now filter.now (option_map (λ key. key.now) after.entry) }
+/// Whether a key passes the filter, whatever keys that names, and comes after the one that is given.
+pub(crate) fn admits(filter: &Filter, after: Option<&ContentKey>, key: &ContentKey) -> bool
+    ensures { result ≡ Range.admits filter.now (option_map (λ key. key.now) after.entry) key.now }
 {
-    let at = pairs.partition_point(|pair| !has_begun(filter, after, &pair.0));
-    rest_of(pairs, at)
-}
-
-fn up_to_end<'a>(pairs: &'a [(ContentKey, Entry)], filter: &Filter) -> &'a [(ContentKey, Entry)]
-    requires { IsMap pairs.now }
-    ensures { result.now ≡ Range.up_to_end pairs.now filter.now }
-{
-    let at = pairs.partition_point(|pair| goes_on(filter, &pair.0));
-    front_of(pairs, at)
-}
-
-/// The pairs of the range. Two searches find it.
-#[tactic(auto, using(crate::proofs::Ranges::IsMap_from_begin))]
-pub(crate) fn within<'a>(
-    pairs: &'a [(ContentKey, Entry)],
-    filter: &Filter,
-    after: Option<&ContentKey>,
-) -> &'a [(ContentKey, Entry)]
-    requires { IsMap pairs.now }
-    ensures { result.now ≡ Range.within pairs.now filter.now (option_map (λ key. key.now) after.entry) }
-{
-    up_to_end(from_begin(pairs, filter, after), filter)
+    is_after(after, key)
+        && (is_from(&filter.min, key)
+            && is_up_to(&filter.max, key)
+            && has_prefix(&filter.prefix, key))
 }

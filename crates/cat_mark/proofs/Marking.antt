@@ -128,3 +128,7 @@ module _ {X : Type 0} (f : X → List Hash) where
   -- what each element has is left from this one on
   pub next : (xs : List X) (i : ℕ) (x : X) → i < length xs → x ≡ get_or xs i x → IsParted (flat_map f (drop i xs)) (f x) (flat_map f (drop (i + 1) xs))
   next xs i x lt e = subst (λ (l : List Hash). IsParted l (f x) (flat_map f (drop (i + 1) xs))) (sym (next_is xs i x lt e)) (both (f x) (flat_map f (drop (i + 1) xs)))
+
+  -- what the first has is left, and what the others have
+  pub first : (xs : List X) (x : X) (rest : List X) → xs ≡ x ∷ rest → IsParted (flat_map f xs) (f x) (flat_map f rest)
+  first xs x rest e = subst (λ (l : List X). IsParted (flat_map f l) (f x) (flat_map f rest)) (sym e) (both (f x) (flat_map f rest))

@@ -89,8 +89,9 @@ impl Marks {
         ensures ok { OnOk result (AddsAll self.old self.new (hashes map.now)) }
         ensures err { OnErr result (AddsSome self.old self.new (hashes map.now)) }
     {
-        for pair in map.pairs() {
-            self.add(pair.1.hash)?;
+        let mut rest = map.walk();
+        while let Some((_, entry)) = rest.next() {
+            self.add(entry.hash)?;
         }
         Ok(())
     }

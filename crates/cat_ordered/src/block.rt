@@ -13,6 +13,7 @@ ghost use Rattle.cat_ordered.specs.Shared.{values};
 use crate::change::Change;
 use crate::pair::Pair;
 use crate::piece::{MOST, Made, Piece};
+use crate::seek::Seek;
 use std::alloc::{AllocError, Global};
 use std::sync::Arc;
 
@@ -22,22 +23,22 @@ pub(crate) struct Block<K, V> {
     pairs: Vec<Pair<K, V>>,
 }
 
-fn is_below<K: Ord, V>(pair: &Pair<K, V>, key: &K) -> bool
-    ensures { result ≡ is_lt (K.cmp pair.now.0 key.now) }
+fn is_below<K: Ord, V, Q: Seek<K>>(pair: &Pair<K, V>, key: &Q) -> bool
+    ensures { result ≡ is_lt (K.cmp pair.now.0 (Q.sought key.now)) }
 {
-    pair.key().cmp(key).is_lt()
+    key.order(pair.key()).is_lt()
 }
 
-fn has_key<K: Ord, V>(pair: &Pair<K, V>, key: &K) -> bool
-    ensures { result ≡ is_eq (K.cmp pair.now.0 key.now) }
+fn has_key<K: Ord, V, Q: Seek<K>>(pair: &Pair<K, V>, key: &Q) -> bool
+    ensures { result ≡ is_eq (K.cmp pair.now.0 (Q.sought key.now)) }
 {
-    pair.key().cmp(key).is_eq()
+    key.order(pair.key()).is_eq()
 }
 
 /// How many keys are below this one, and how many keys it was compared with.
-fn place<K: Ord, V>(pairs: &[Pair<K, V>], key: &K) -> (usize, u32)
+fn place<K: Ord, V, Q: Seek<K>>(pairs: &[Pair<K, V>], key: &Q) -> (usize, u32)
     requires { IsMap K.cmp pairs.now }
-    ensures place { result.0 ≡ place_of K.cmp pairs.now key.now }
+    ensures place { result.0 ≡ place_of K.cmp pairs.now (Q.sought key.now) }
     ensures bound { result.0 ≤ length pairs.now }
     ensures cost { 0 < length pairs.now → 2 ^ result.1 ≤ 2 * length pairs.now }
 {
@@ -57,9 +58,9 @@ fn place<K: Ord, V>(pairs: &[Pair<K, V>], key: &K) -> (usize, u32)
 }
 
 /// The value of a key, and how many keys it was compared with.
-fn value_at<'a, K: Ord, V>(pairs: &'a [Pair<K, V>], key: &K) -> (Option<&'a V>, u32)
+fn value_at<'a, K: Ord, V, Q: Seek<K>>(pairs: &'a [Pair<K, V>], key: &Q) -> (Option<&'a V>, u32)
     requires { IsMap K.cmp pairs.now }
-    ensures value { option_map (λ v. v.now) result.0 ≡ value_of K.cmp pairs.now key.now }
+    ensures value { option_map (λ v. v.now) result.0 ≡ value_of K.cmp pairs.now (Q.sought key.now) }
     ensures cost { 2 ^ result.1 ≤ (length pairs.now + 1) * (length pairs.now + 1) }
     ensures most { 0 < length pairs.now → length pairs.now ≤ 64 → 2 ^ result.1 ≤ 16 * 16 }
 {
@@ -247,7 +248,7 @@ impl<K: Ord + Drop, V: Drop> Piece<K, V> for Block<K, V> {
         self.pairs[0].key()
     }
 
-    fn get(&self, key: &K) -> (Option<&V>, u32) {
+    fn get<Q: Seek<K>>(&self, key: &Q) -> (Option<&V>, u32) {
         value_at(self.pairs.as_slice(), key)
     }
 

@@ -14,4 +14,5 @@ pub mod pair;
 mod piece;
 mod pieces;
 mod run;
+pub mod seek;
 pub mod walk;

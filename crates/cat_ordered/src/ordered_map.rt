@@ -10,6 +10,7 @@ use crate::block::Block;
 use crate::change::Change;
 use crate::pair::Pair;
 use crate::run::Run;
+use crate::seek::Seek;
 use crate::walk::Walk;
 use crate::{growing, pieces};
 use std::alloc::{AllocError, Global};
@@ -86,8 +87,8 @@ impl<K: Ord + Drop, V: Drop> OrderedMap<K, V> {
 
     /// The value of a key, and with how many keys it was compared: at most `2 * log2(n + 1)` for a
     /// map of n keys.
-    pub fn get_counted(&self, key: &K) -> (Option<&V>, u32)
-        ensures value { option_map (λ v. v.now) result.0 ≡ value_of K.cmp self.now key.now }
+    pub fn get_counted<Q: Seek<K>>(&self, key: &Q) -> (Option<&V>, u32)
+        ensures value { option_map (λ v. v.now) result.0 ≡ value_of K.cmp self.now (Q.sought key.now) }
         ensures cost { 2 ^ result.1 ≤ (length self.now + 1) ^ 2 }
     {
         pieces::found(self.root.as_slice(), key)
@@ -96,6 +97,13 @@ impl<K: Ord + Drop, V: Drop> OrderedMap<K, V> {
     /// The value of a key.
     pub fn get(&self, key: &K) -> Option<&V>
         ensures { option_map (λ v. v.now) result ≡ value_of K.cmp self.now key.now }
+    {
+        self.get_counted(key).0
+    }
+
+    /// The value of a key that is sought by something that stands for it.
+    pub fn get_sought<Q: Seek<K>>(&self, key: &Q) -> Option<&V>
+        ensures { option_map (λ v. v.now) result ≡ value_of K.cmp self.now (Q.sought key.now) }
     {
         self.get_counted(key).0
     }

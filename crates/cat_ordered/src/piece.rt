@@ -10,6 +10,7 @@ ghost use Rattle.cat_ordered.specs.Shared.{values};
 
 use crate::change::Change;
 use crate::pair::Pair;
+use crate::seek::Seek;
 use std::alloc::{AllocError, Global};
 use std::sync::Arc;
 
@@ -59,9 +60,9 @@ pub(crate) trait Piece<K: Ord, V>: Drop {
         ensures { first_key (entries self.now) ≡ Some result.now };
 
     /// The value of a key, and how many keys it was compared with.
-    fn get(&self, key: &K) -> (Option<&V>, u32)
+    fn get<Q: Seek<K>>(&self, key: &Q) -> (Option<&V>, u32)
         requires { IsMap K.cmp (entries self.now) }
-        ensures value { option_map (λ v. v.now) result.0 ≡ value_of K.cmp (entries self.now) key.now }
+        ensures value { option_map (λ v. v.now) result.0 ≡ value_of K.cmp (entries self.now) (Q.sought key.now) }
         ensures cost { 2 ^ result.1 ≤ (length (entries self.now) + 1) * (length (entries self.now) + 1) }
         ensures most { 0 < size self.now → size self.now ≤ 64 → 2 ^ result.1 ≤ least * least };
 

@@ -12,24 +12,25 @@ ghost use Rattle.cat_ordered.specs.Shared.{values};
 
 use crate::pair::Pair;
 use crate::piece::Piece;
+use crate::seek::Seek;
 use std::sync::Arc;
 
 /// Whether a piece begins with a key that isn't above this one.
-pub(crate) fn begins_by<K: Ord, V, P: Piece<K, V>>(piece: &Arc<P>, key: &K) -> bool
+pub(crate) fn begins_by<K: Ord, V, P: Piece<K, V>, Q: Seek<K>>(piece: &Arc<P>, key: &Q) -> bool
     requires { 0 < length (P.entries (arc_value piece.now)) }
-    ensures { result ≡ Maps.begins_by K.cmp (P.entries (arc_value piece.now)) key.now }
+    ensures { result ≡ Maps.begins_by K.cmp (P.entries (arc_value piece.now)) (Q.sought key.now) }
 {
-    piece.first().cmp(key).is_le()
+    key.order(piece.first()).is_le()
 }
 
 /// The last piece whose first key isn't above a key, or the first one, and how many keys it was
 /// compared with.
-fn seat<K: Ord, V, P: Piece<K, V>>(pieces: &[Arc<P>], key: &K) -> (usize, u32)
+fn seat<K: Ord, V, P: Piece<K, V>, Q: Seek<K>>(pieces: &[Arc<P>], key: &Q) -> (usize, u32)
     requires some { 0 < length pieces.now }
     requires fine { AreFine P.entries P.size P.least (values pieces.now) }
     ensures within { result.0 < length pieces.now }
-    ensures before { (result.0 ≡ 0) ⊎ (Maps.begins_by K.cmp (flat_map P.entries (drop result.0 (values pieces.now))) key.now ≡ true) }
-    ensures after { Maps.begins_by K.cmp (flat_map P.entries (drop (result.0 + 1) (values pieces.now))) key.now ≡ false }
+    ensures before { (result.0 ≡ 0) ⊎ (Maps.begins_by K.cmp (flat_map P.entries (drop result.0 (values pieces.now))) (Q.sought key.now) ≡ true) }
+    ensures after { Maps.begins_by K.cmp (flat_map P.entries (drop (result.0 + 1) (values pieces.now))) (Q.sought key.now) ≡ false }
     ensures cost { 2 ^ result.1 < 2 * length pieces.now }
 {
     let mut low = 0;
@@ -48,13 +49,13 @@ fn seat<K: Ord, V, P: Piece<K, V>>(pieces: &[Arc<P>], key: &K) -> (usize, u32)
 }
 
 /// The value of a key, and how many keys it was compared with.
-pub(crate) fn found<'a, K: Ord, V, P: Piece<K, V>>(
+pub(crate) fn found<'a, K: Ord, V, P: Piece<K, V>, Q: Seek<K>>(
     pieces: &'a [Arc<P>],
-    key: &K,
+    key: &Q,
 ) -> (Option<&'a V>, u32)
     requires fine { AreFine P.entries P.size P.least (values pieces.now) }
     requires map { IsMap K.cmp (flat_map P.entries (values pieces.now)) }
-    ensures value { option_map (λ v. v.now) result.0 ≡ value_of K.cmp (flat_map P.entries (values pieces.now)) key.now }
+    ensures value { option_map (λ v. v.now) result.0 ≡ value_of K.cmp (flat_map P.entries (values pieces.now)) (Q.sought key.now) }
     ensures cost { 2 ^ result.1 ≤ (length (flat_map P.entries (values pieces.now)) + 1) * (length (flat_map P.entries (values pieces.now)) + 1) }
     ensures most { 0 < length pieces.now → length pieces.now ≤ 64 → 2 ^ result.1 ≤ 16 * P.least * (16 * P.least) }
 {

@@ -8,6 +8,7 @@ ghost use Rattle.cat_ordered.specs.Shared.{values};
 use crate::change::Change;
 use crate::pair::Pair;
 use crate::piece::{MOST, Made, Piece};
+use crate::seek::Seek;
 use crate::{growing, pieces};
 use std::alloc::{AllocError, Global};
 use std::marker::{Model, PhantomData};
@@ -102,7 +103,7 @@ impl<K: Ord, V, P: Piece<K, V>> Piece<K, V> for Run<K, V, P> {
         self.pieces[0].first()
     }
 
-    fn get(&self, key: &K) -> (Option<&V>, u32) {
+    fn get<Q: Seek<K>>(&self, key: &Q) -> (Option<&V>, u32) {
         pieces::found(self.pieces.as_slice(), key)
     }
 

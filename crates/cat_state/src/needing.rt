@@ -12,6 +12,7 @@ use crate::contents::find_content;
 use crate::failure::Failure;
 use cat_codes::fault::NoMemory;
 use cat_codes::seq::Seq;
+use cat_keymap::walk::Walk;
 use cat_model::entry::Entry;
 use cat_model::refusal::Refusal;
 use cat_names::hash::Hash;
@@ -53,16 +54,13 @@ impl Catalogue {
 
     /// The keys whose contents the catalogue doesn't hold, by one walk.
     #[tactic(auto, unfolding(cat_model::specs::Records::expired_keys))]
-    fn expired_keys(
-        &self,
-        alloc: Global,
-        pairs: &[(ContentKey, Entry)],
-    ) -> Result<Seq<ContentKey>, NoMemory>
-        ensures { IfOk result (λ keys. keys ≡ expired_keys self.now pairs.now) }
+    fn expired_keys(&self, alloc: Global, pairs: Walk<'_>) -> Result<Seq<ContentKey>, NoMemory>
+        ensures { IfOk result (λ keys. keys ≡ expired_keys self.now pairs.entry) }
     {
         let mut keys = Seq::new(alloc);
-        for (key, entry) in pairs {
-            if self.is_expired(entry) {
+        let mut rest = pairs;
+        while let Some((key, entry)) = rest.next() {
+            if self.is_expired(&entry) {
                 keys.push(key.clone()?)?;
             }
         }
@@ -78,7 +76,7 @@ impl Catalogue {
     {
         self.contents_are_held();
         let map = self.map_at(hash)?;
-        let keys = self.expired_keys(alloc, map.pairs())?;
+        let keys = self.expired_keys(alloc, map.walk())?;
         needs_none(keys, self.place())
     }
 }

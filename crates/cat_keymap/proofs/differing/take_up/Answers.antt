@@ -1,23 +1,19 @@
-use Rattle.std.proofs.Common.{◌≡◌, ◌++◌, ◌∙◌, ℕ, List, ap, take, append_assoc, Option}
-use Rattle.cat_model.specs.declared.entry.Entry.{Entry}
-use Rattle.cat_names.specs.Fields.{Key}
-use Rattle.cat_model.specs.Maps.{Map, entry_of}
-use Rattle.cat_keymap.specs.Places.{below}
+use Rattle.std.proofs.Common.{◌≡◌, ◌++◌, ◌∙◌, ap, append_assoc}
 use Rattle.cat_model.specs.Changed.{keys_of}
+use Rattle.cat_model.specs.Maps.{Map, entry_of}
+use Rattle.cat_keymap.specs.Places.{below, entry_here, past}
 use Rattle.cat_keymap.specs.Walking.{unless_same}
-use Rattle.cat_keymap.proofs.Changes.{take_place}
+use Rattle.cat_keymap.proofs.Agreeing.{here_is, past_is}
 use Rattle.cat_keymap.proofs.differing.take_up.Goals as goal
 
-pub returns : goal.returns
-returns c =
-    let map = c.args.left.now in
-    let key = c.args.pair.now.0 in
-    let front : c.front_of.result.now ≡ below map key =
-    c.front_of.ensures ∙ ap (λ (n : ℕ). take n map) c.place-at.ensures.place ∙ rw c.elements.ensures (take_place map key) in
-    let other : c.entry_at-other.result ≡ entry_of map key = rw c.elements-2.ensures at c.entry_at-other.ensures in
-    let out = c.args.out.now in (
-      rw c.elements-3.ensures at c.above.ensures,
-      c.in_ok-add_unless_same.ensures ∙ ap (λ (m : List Key). m ++ unless_same c.args.pair.now c.entry_at-other.result) (c.in_ok-add_keys.ensures ∙ ap (λ (m : Map). out ++ keys_of m) front)
-          ∙ append_assoc out (keys_of (below map key)) (unless_same c.args.pair.now c.entry_at-other.result)
-          ∙ ap (λ (o : Option Entry). out ++ (keys_of (below map key) ++ unless_same c.args.pair.now o)) other,
-    )
+pub returns-clause-keys : goal.returns-clause-keys
+returns-clause-keys c =
+    let left = c.args.left.now in
+    let key = c.args.key.now in
+    let out = c.args.out.now in
+    let front = c.in_ok-add_below.ensures.keys in
+    let other : c.take-other.result ≡ entry_of left key = c.take-other.ensures.entry ∙ ap (λ (m : Map). entry_here m key) c.in_ok-add_below.ensures.left ∙ here_is left key c.requires in
+    c.in_ok-add_unless_same.ensures ∙ (λ i. front i ++ unless_same (key, c.args.entry) (other i)) ∙ append_assoc out (keys_of (below left key)) (unless_same (key, c.args.entry) (entry_of left key))
+
+pub returns-clause-left : goal.returns-clause-left
+returns-clause-left c = c.take-other.ensures.left ∙ ap (λ (m : Map). past m c.args.key.now) c.in_ok-add_below.ensures.left ∙ past_is c.args.left.now c.args.key.now

@@ -1,13 +1,7 @@
-use Rattle.std.proofs.Common.{◌≡◌, ◌++◌, drop, map, None, true}
-use Rattle.cat_names.specs.Fields.{key_cmp}
-use Rattle.cat_model.specs.Maps.{IsMap}
-use Rattle.cat_keymap.specs.Ordered.{climbs}
-use Rattle.cat_keymap.specs.Range.{named}
+use Rattle.std.proofs.Common.{◌≡◌, ◌++◌, drop, map, None}
+use Rattle.std.specs.Option.{option_map}
+use Rattle.cat_keymap.specs.Range.{all_looked_up}
 use Rattle.cat_keymap.proofs.named.looked_up.Given as goal
 
 abbrev pub invariant-loop-key : goal.invariant-loop-key
-invariant-loop-key l = record {
-  order : IsMap l.left;
-  climb : climbs key_cmp None (map (λ k. k.now) (drop l.key-index l.sorted)) ≡ true;
-  whole : l.out.items ++ named (map (λ k. k.now) (drop l.key-index l.sorted)) l.left ≡ named (map (λ k. k.now) l.sorted) l.pairs;
-}
+invariant-loop-key l = l.out.items ++ all_looked_up (option_map (λ k. k.now) l.last) (map (λ k. k.now) (drop l.key-index l.sorted)) l.within ≡ all_looked_up None (map (λ k. k.now) l.sorted) l.within

@@ -6,8 +6,8 @@ abbrev pub invariant-loop-low : goal.invariant-loop-low
 invariant-loop-low g l = record {
   order : l.low ≤ l.high;
   within : l.high ≤ length l.pairs;
-  from : l.low ≤ place_of g.K.Ord.cmp l.pairs l.key;
-  to : place_of g.K.Ord.cmp l.pairs l.key ≤ l.high;
+  from : l.low ≤ place_of g.K.Ord.cmp l.pairs (g.Q.Seek.sought l.key);
+  to : place_of g.K.Ord.cmp l.pairs (g.Q.Seek.sought l.key) ≤ l.high;
   spare : 2 ^ l.count * (l.high - l.low) ≤ length l.pairs;
   cost : 0 < length l.pairs → 2 ^ l.count ≤ 2 * length l.pairs;
 }

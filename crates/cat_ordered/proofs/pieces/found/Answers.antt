@@ -32,8 +32,8 @@ returns g c =
     let one : 2 ^ c.get-compared.result.1 ≤ (length (g.P.Piece.entries (arc_value x)) + 1) * (length (g.P.Piece.entries (arc_value x)) + 1) = rw c.deref.ensures at c.get-compared.ensures.cost in
     record {
       value =
-          c.get-compared.ensures.value ∙ ap (λ (p : g.row.P.Denot). value_of g.K.Ord.cmp (g.P.Piece.entries p) c.args.key.now) c.deref.ensures
-          ∙ sym (value_in g.K.Ord.cmp g.met.K.Ord.total g.P.Piece.entries g.P.Piece.size g.P.Piece.least c.args.pieces.now _ x c.args.key.now c.requires.map c.seat-at.ensures.within c.index-pieces-at.is c.seat-at.ensures.before c.seat-at.ensures.after);
+          c.get-compared.ensures.value ∙ ap (λ (p : g.row.P.Denot). value_of g.K.Ord.cmp (g.P.Piece.entries p) (g.Q.Seek.sought c.args.key.now)) c.deref.ensures
+          ∙ sym (value_in g.K.Ord.cmp g.met.K.Ord.total g.P.Piece.entries g.P.Piece.size g.P.Piece.least c.args.pieces.now _ x (g.Q.Seek.sought c.args.key.now) c.requires.map c.seat-at.ensures.within c.index-pieces-at.is c.seat-at.ensures.before c.seat-at.ensures.after);
       cost = found_cost g.P.Piece.entries g.P.Piece.size g.P.Piece.least c.args.pieces.now _ x c.seat-at.result.1 c.get-compared.result.1 c.saturating_add.result c.requires.fine c.seat-at.ensures.within c.index-pieces-at.is (omega arith) c.seat-at.ensures.cost one most;
       most = λ some few. le_trans (summed c.seat-at.result.1 c.get-compared.result.1 c.saturating_add.result (omega arith)) (among_few (2 ^ c.seat-at.result.1) (2 ^ c.get-compared.result.1) (length c.args.pieces.now) g.P.Piece.least c.seat-at.ensures.cost few most);
     }

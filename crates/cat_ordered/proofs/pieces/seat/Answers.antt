@@ -8,7 +8,7 @@ loop-high-init g c = record {
   order = omega arith;
   within = omega arith;
   before = inl refl;
-  after = none_begins g.K.Ord.cmp g.P.Piece.entries c.args.pieces.now _ c.args.key.now (omega arith);
+  after = none_begins g.K.Ord.cmp g.P.Piece.entries c.args.pieces.now _ (g.Q.Seek.sought c.args.key.now) (omega arith);
   spare = omega arith;
   cost = omega arith;
 }
@@ -24,7 +24,7 @@ loop-high-preserved-then-begins_by g c =
     record {
       order = omega arith;
       within = c.loop-high.invariant.within;
-      before = inr (begins_at g.K.Ord.cmp g.met.K.Ord.total g.P.Piece.entries g.P.Piece.size g.P.Piece.least c.args.pieces.now _ c.index-pieces-middle.result c.args.key.now c.requires.fine (omega arith) c.index-pieces-middle.is ∙ sym c.begins_by.ensures ∙ c.if-begins_by.true);
+      before = inr (begins_at g.K.Ord.cmp g.met.K.Ord.total g.P.Piece.entries g.P.Piece.size g.P.Piece.least c.args.pieces.now _ c.index-pieces-middle.result (g.Q.Seek.sought c.args.key.now) c.requires.fine (omega arith) c.index-pieces-middle.is ∙ sym c.begins_by.ensures ∙ c.if-begins_by.true);
       after = c.loop-high.invariant.after;
       spare = step.0;
       cost = omega (arith, step.1);
@@ -39,7 +39,7 @@ loop-high-preserved g c =
       order = omega arith;
       within = omega arith;
       before = c.loop-high.invariant.before;
-      after = begins_at g.K.Ord.cmp g.met.K.Ord.total g.P.Piece.entries g.P.Piece.size g.P.Piece.least c.args.pieces.now _ c.index-pieces-middle.result c.args.key.now c.requires.fine (omega arith) c.index-pieces-middle.is ∙ sym c.begins_by.ensures ∙ c.if-begins_by.false;
+      after = begins_at g.K.Ord.cmp g.met.K.Ord.total g.P.Piece.entries g.P.Piece.size g.P.Piece.least c.args.pieces.now _ c.index-pieces-middle.result (g.Q.Seek.sought c.args.key.now) c.requires.fine (omega arith) c.index-pieces-middle.is ∙ sym c.begins_by.ensures ∙ c.if-begins_by.false;
       spare = step.0;
       cost = omega (arith, step.1);
     }

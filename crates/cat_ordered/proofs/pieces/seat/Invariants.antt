@@ -8,8 +8,8 @@ abbrev pub invariant-loop-high : goal.invariant-loop-high
 invariant-loop-high g l = record {
   order : l.low < l.high;
   within : l.high ≤ length l.pieces;
-  before : (l.low ≡ 0) ⊎ (begins_by g.K.Ord.cmp (flat_map g.P.Piece.entries (drop l.low (values l.pieces))) l.key ≡ true);
-  after : begins_by g.K.Ord.cmp (flat_map g.P.Piece.entries (drop l.high (values l.pieces))) l.key ≡ false;
+  before : (l.low ≡ 0) ⊎ (begins_by g.K.Ord.cmp (flat_map g.P.Piece.entries (drop l.low (values l.pieces))) (g.Q.Seek.sought l.key) ≡ true);
+  after : begins_by g.K.Ord.cmp (flat_map g.P.Piece.entries (drop l.high (values l.pieces))) (g.Q.Seek.sought l.key) ≡ false;
   spare : 2 ^ l.count * (l.high - l.low - 1) ≤ length l.pieces - 1;
   cost : 2 ^ l.count < 2 * length l.pieces;
 }

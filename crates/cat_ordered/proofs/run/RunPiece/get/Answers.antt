@@ -11,7 +11,7 @@ pub found-requires-clause-map : goal.found-requires-clause-map
 found-requires-clause-map g c = rw c.as_slice.ensures.value (map_inside g.P.Piece.entries g.P.Piece.size g.P.Piece.least g.K.Ord.cmp c.self.inside.pieces.items _ c.self.view_is c.requires)
 
 pub returns-clause-value : goal.returns-clause-value
-returns-clause-value g c = (rw c.as_slice.ensures.value at c.found.ensures.value) ∙ ap (λ (r : Shape g.row.K.Denot g.row.V.Denot). value_of g.K.Ord.cmp r.entries c.args.key.now) c.self.view_is
+returns-clause-value g c = (rw c.as_slice.ensures.value at c.found.ensures.value) ∙ ap (λ (r : Shape g.row.K.Denot g.row.V.Denot). value_of g.K.Ord.cmp r.entries (g.Q.Seek.sought c.args.key.now)) c.self.view_is
 
 pub returns-clause-cost : goal.returns-clause-cost
 returns-clause-cost g c =

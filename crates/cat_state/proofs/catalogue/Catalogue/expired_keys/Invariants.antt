@@ -1,6 +1,9 @@
-use Rattle.std.proofs.Common.{◌≡◌, take, map, filter, is_none}
-use Rattle.cat_model.specs.State.{content_at}
+use Rattle.std.proofs.Common.{◌≡◌, ◌++◌, length}
+use Rattle.cat_model.specs.Records.{expired_keys}
 use Rattle.cat_state.proofs.catalogue.Catalogue.expired_keys.Given as goal
 
 abbrev pub invariant-loop-key : goal.invariant-loop-key
-invariant-loop-key l = l.keys ≡ map (λ x. x.0) (filter (λ x. is_none (content_at l.self.present x.1.hash)) (take l.key-index l.pairs))
+invariant-loop-key l = l.keys ++ expired_keys l.self l.rest ≡ expired_keys l.self l.fn.pairs
+
+abbrev pub decreases-loop-key : goal.decreases-loop-key
+decreases-loop-key l = length l.rest
