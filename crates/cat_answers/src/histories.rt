@@ -66,7 +66,8 @@ fn operations_of(
     with_operations: bool,
     commit: &Commit,
 ) -> Result<Option<Seq<Change>>, NoMemory>
-    ensures { IfOk result (λ changes. changes ≡ answers.operations_of contents.now.list with_operations commit.now) }
+    ensures { IfOk result
+        (λ changes. changes ≡ answers.operations_of contents.now.list with_operations commit.now) }
 {
     if !with_operations {
         return Ok(None);
@@ -82,7 +83,9 @@ fn history_item(
     hash: &Hash,
     commit: &Commit,
 ) -> Result<HistoryItem, NoMemory>
-    ensures { IfOk result (λ item. item ≡ answers.history_item contents.now.list with_operations (hash.now, commit.now)) }
+    ensures { IfOk result
+        (λ item. item
+        ≡ answers.history_item contents.now.list with_operations (hash.now, commit.now)) }
 {
     let meta = copy_meta(&commit.meta)?;
     let operations = operations_of(alloc, contents, with_operations, commit)?;
@@ -103,7 +106,9 @@ pub(crate) fn history_items(
     with_operations: bool,
     commits: &[(&Hash, &Commit)],
 ) -> Result<Seq<HistoryItem>, NoMemory>
-    ensures { IfOk result (λ items. items ≡ map (answers.history_item contents.now.list with_operations) (values commits.now)) }
+    ensures { IfOk result
+        (λ items. items
+        ≡ map (answers.history_item contents.now.list with_operations) (values commits.now)) }
 {
     let mut items = Seq::new(alloc);
     for (hash, commit) in commits {

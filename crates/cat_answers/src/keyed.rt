@@ -34,7 +34,8 @@ fn keyed_content(
     map: &KeyMap,
     key: &ContentKey,
 ) -> Result<Option<(ContentKey, Content)>, NoMemory>
-    ensures { IfOk result (λ keyed. keyed ≡ answers.keyed_content contents.now.list map.now key.now) }
+    ensures { IfOk result
+        (λ keyed. keyed ≡ answers.keyed_content contents.now.list map.now key.now) }
 {
     match content_of_key(contents, map, key) {
         None => Ok(None),
@@ -49,7 +50,10 @@ fn add_keyed(
     map: &KeyMap,
     key: &ContentKey,
 ) -> Result<(), NoMemory>
-    ensures { OnOk result (found.new ≡ found.old ++ filter_map (answers.keyed_content contents.now.list map.now) (key.now ∷ [])) }
+    ensures { OnOk result
+        (found.new
+        ≡ found.old
+        ++ filter_map (answers.keyed_content contents.now.list map.now) (key.now ∷ [])) }
 {
     if let Some(keyed) = keyed_content(contents, map, key)? {
         found.push(keyed)?;
@@ -64,7 +68,8 @@ pub(crate) fn keyed_contents(
     map: &KeyMap,
     keys: &[ContentKey],
 ) -> Result<Seq<(ContentKey, Content)>, NoMemory>
-    ensures { IfOk result (λ found. found ≡ filter_map (answers.keyed_content contents.now.list map.now) keys.now) }
+    ensures { IfOk result
+        (λ found. found ≡ filter_map (answers.keyed_content contents.now.list map.now) keys.now) }
 {
     let mut found = Seq::new(alloc);
     for key in keys {

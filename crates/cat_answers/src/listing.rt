@@ -26,7 +26,8 @@ pub(crate) fn references_part(
     catalogue: &Catalogue,
     ask: &ReferencesAsk,
 ) -> Result<ReferencesPage, NoMemory>
-    ensures { IfOk result (λ page. page ≡ answers.references_page catalogue.now.references ask.now) }
+    ensures { IfOk result
+        (λ page. page ≡ answers.references_page catalogue.now.references ask.now) }
 {
     let page = references_page(alloc, catalogue.references(), ask.after.as_ref(), ask.limit)?;
     Ok(ReferencesPage {
@@ -44,8 +45,16 @@ pub(crate) fn entries_part(
     hash: Hash,
     ask: &EntriesAsk,
 ) -> Result<EntriesPage, NoMemory>
-    ensures { let left = entries_after (listing (entries catalogue.now.commits hash) ask.now.filter) (option_map (λ x. x.1) ask.now.after) in
-        IfOk result (λ page. page ≡ record { effective = answers.effective_at (option_copied reference.entry) hash; items = take ask.now.limit left; next = option_map (λ x. (hash, x.0)) (last_shown ask.now.limit left) }) }
+    ensures { let left = entries_after
+        (listing (entries catalogue.now.commits hash) ask.now.filter)
+        (option_map (λ x. x.1) ask.now.after) in
+        IfOk result
+        (λ page. page
+        ≡ record {
+          effective = answers.effective_at (option_copied reference.entry) hash;
+          items = take ask.now.limit left;
+          next = option_map (λ x. (hash, x.0)) (last_shown ask.now.limit left);
+        }) }
 {
     let map = catalogue.map_at(&hash)?;
     let after = key_before(&ask.after);
@@ -66,7 +75,13 @@ pub(crate) fn history_part(
     ask: &HistoryAsk,
 ) -> Result<HistoryPage, NoMemory>
     ensures { let left = history catalogue.now.commits hash.now ask.now.until in
-        IfOk result (λ page. page ≡ record { items = map (answers.history_item catalogue.now.present ask.now.with_operations) (take ask.now.limit left); next = option_map (λ x. x.0) (first (drop ask.now.limit left)) }) }
+        IfOk result
+        (λ page. page
+        ≡ record {
+          items = map (answers.history_item catalogue.now.present ask.now.with_operations)
+              (take ask.now.limit left);
+          next = option_map (λ x. x.0) (first (drop ask.now.limit left));
+        }) }
 {
     let page = history_page(alloc, catalogue.commits(), hash, &ask.until, ask.limit)?;
     let items = history_items(

@@ -23,7 +23,10 @@ use std::marker::{Brand, Send};
 
 #[tactic(auto, unfolding(crate::specs::Lines::counts_line))]
 fn counts_line(alloc: Global, counts: &Counts, head: &str) -> Result<String, AllocError>
-    ensures { IfOk result (λ line. string_bytes line ≡ counts_line counts.now.place counts.now.references counts.now.commits counts.now.contents head.now) }
+    ensures { IfOk result
+        (λ line. string_bytes line
+        ≡ counts_line counts.now.place counts.now.references counts.now.commits
+        counts.now.contents head.now) }
 {
     let Counts {
         place,
@@ -48,7 +51,8 @@ fn check_line<J: Keeper>(alloc: Global, store: &Store<J>) -> Result<String, NoMe
 
 // Tells the line.
 fn tell_counts<K: Sink>(line: &str, sink: &mut K) -> Status
-    ensures told { CountedKnown line.now (K.held sink.old) result (K.held sink.new) (K.faults sink.old) (K.faults sink.new) }
+    ensures told { CountedKnown line.now (K.held sink.old) result (K.held sink.new)
+        (K.faults sink.old) (K.faults sink.new) }
     ensures fault { result ≢ Status.DiskFault }
     ensures write { result ≡ Status.WriteFault → Rose (K.faults sink.old) (K.faults sink.new) }
     ensures stays { IsTrue (tells_all result) → K.faults sink.new ≡ K.faults sink.old }
@@ -65,14 +69,21 @@ fn tell_counts<K: Sink>(line: &str, sink: &mut K) -> Status
 // The line of the journal of a disk, or why there is none. The disk comes back. It is watched what a
 // crash might have left of it since it was given here.
 fn line_on<B: Since + Send, D: Disk + Send>(alloc: Global, disk: D) -> (D, Result<String, Unopened>)
-    requires begun { IsBegun B.since B.least B.before (D.told disk) (D.moment disk) (D.may_leave disk) }
+    requires begun { IsBegun B.since B.least B.before (D.told disk) (D.moment disk)
+        (D.may_leave disk) }
     requires fresh { D.faults disk ≡ 0 }
-    ensures line { IfOk result.1 (λ line. (book : Book) × (string_bytes line ≡ check_line book) × Opens (D.told disk) (D.told result.0) (images_of D.may_leave D.moment D.left_since disk result.0) book) }
+    ensures line { IfOk result.1
+        (λ line. (book : Book) × (string_bytes line ≡ check_line book)
+        × Opens (D.told disk) (D.told result.0)
+        (images_of D.may_leave D.moment D.left_since disk result.0) book) }
     ensures reason { IfErr result.1 (λ why. IsReason (D.told disk) why) }
     ensures stands { IfErr result.1 (λ _. StandsFor (D.told disk) (D.told result.0)) }
-    ensures spared { IfErr result.1 (λ _. Spared (D.told disk) (D.told result.0) (images_of D.may_leave D.moment D.left_since disk result.0)) }
+    ensures spared { IfErr result.1
+        (λ _. Spared (D.told disk) (D.told result.0)
+        (images_of D.may_leave D.moment D.left_since disk result.0)) }
     ensures cause { IfErr result.1 (λ why. why ≡ Unopened.Fault → Rose 0 (D.faults result.0)) }
-    ensures level { MatchResult result.1 (λ _. D.faults result.0 ≡ 0) (λ why. why ≢ Unopened.Fault → D.faults result.0 ≡ 0) }
+    ensures level { MatchResult result.1 (λ _. D.faults result.0 ≡ 0)
+        (λ why. why ≢ Unopened.Fault → D.faults result.0 ≡ 0) }
 {
     match store_on::<B, D>(alloc, disk) {
         Ok(store) => {
@@ -94,17 +105,23 @@ pub(crate) fn check<O: Disks, K: Sink>(
     disks: &mut O,
     sink: &mut K,
 ) -> Status
-    ensures checked { ChecksKnown (DisksFell (O.refuses disks.old path.now) O.D.faults (O.at_path disks.new path.now) (O.faults disks.old) (O.faults disks.new))
-        (O.faults disks.new ≡ O.faults disks.old) (K.held sink.old) result (K.held sink.new) (K.faults sink.old) (K.faults sink.new)
-        (told_at O.D.told (O.at_path disks.old path.now)) (told_at O.D.told (O.at_path disks.new path.now))
-        (images_at O.D.may_leave O.D.moment O.D.left_since (O.at_path disks.old path.now) (O.at_path disks.new path.now)) }
+    ensures checked { ChecksKnown
+        (DisksFell (O.refuses disks.old path.now) O.D.faults (O.at_path disks.new path.now)
+        (O.faults disks.old) (O.faults disks.new)) (O.faults disks.new ≡ O.faults disks.old)
+        (K.held sink.old) result (K.held sink.new) (K.faults sink.old) (K.faults sink.new)
+        (told_at O.D.told (O.at_path disks.old path.now))
+        (told_at O.D.told (O.at_path disks.new path.now))
+        (images_at O.D.may_leave O.D.moment O.D.left_since (O.at_path disks.old path.now)
+        (O.at_path disks.new path.now)) }
     ensures taken { result ≢ Status.Usage }
     ensures unread { result ≢ Status.ReadFault }
     ensures unheard { result ≢ Status.ListenerFault }
     ensures write { result ≡ Status.WriteFault → Rose (K.faults sink.old) (K.faults sink.new) }
     ensures sink_stays { IsTrue (tells_all result) → K.faults sink.new ≡ K.faults sink.old }
     ensures disks_stay { IsTrue (spares_disks result) → O.faults disks.new ≡ O.faults disks.old }
-    ensures disk { result ≡ Status.DiskFault → DisksFell (O.refuses disks.old path.now) O.D.faults (O.at_path disks.new path.now) (O.faults disks.old) (O.faults disks.new) }
+    ensures disk { result ≡ Status.DiskFault
+        → DisksFell (O.refuses disks.old path.now) O.D.faults (O.at_path disks.new path.now)
+        (O.faults disks.old) (O.faults disks.new) }
     ensures back { IsBack (O.at_path disks.old path.now) (O.at_path disks.new path.now) }
     ensures others { OthersStay path.now (O.at_path disks.old) (O.at_path disks.new) }
 {

@@ -22,14 +22,23 @@ pub(crate) fn store_on<B: Since + Send, D: Disk + Send>(
     alloc: Global,
     disk: D,
 ) -> Result<Store<Watched<B, Journal<D>>>, (D, Unopened)>
-    requires begun { IsBegun B.since B.least B.before (D.told disk) (D.moment disk) (D.may_leave disk) }
-    ensures stored { IfOk result (λ store. IsStored (D.told disk) store.book (⟦<Journal<D> as Keeper>⟧.down store.keeper)) }
-    ensures fresh { IfOk result (λ store. (store.left_open ≡ nothing_open) × (store.mark.fault ≡ None) × (store.began ≡ ⟦<Journal<D> as Keeper>⟧.faults store.keeper)) }
+    requires begun { IsBegun B.since B.least B.before (D.told disk) (D.moment disk)
+        (D.may_leave disk) }
+    ensures stored { IfOk result
+        (λ store. IsStored (D.told disk) store.book (⟦<Journal<D> as Keeper>⟧.down store.keeper)) }
+    ensures fresh { IfOk result
+        (λ store. (store.left_open ≡ nothing_open)
+        × (store.mark.fault ≡ None)
+        × (store.began ≡ ⟦<Journal<D> as Keeper>⟧.faults store.keeper)) }
     ensures reason { IfErr result (λ e. IsReason (D.told disk) e.1) }
     ensures stands { IfErr result (λ e. StandsFor (D.told disk) (D.told e.0)) }
-    ensures spared { IfErr result (λ e. Spared (D.told disk) (D.told e.0) (images_of D.may_leave D.moment D.left_since disk e.0)) }
+    ensures spared { IfErr result
+        (λ e. Spared (D.told disk) (D.told e.0)
+        (images_of D.may_leave D.moment D.left_since disk e.0)) }
     ensures cause { IfErr result (λ e. e.1 ≡ Unopened.Fault → Rose (D.faults disk) (D.faults e.0)) }
-    ensures level { MatchResult result (λ store. ⟦<Journal<D> as Keeper>⟧.faults store.keeper ≡ D.faults disk) (λ e. e.1 ≢ Unopened.Fault → D.faults e.0 ≡ D.faults disk) }
+    ensures level { MatchResult result
+        (λ store. ⟦<Journal<D> as Keeper>⟧.faults store.keeper ≡ D.faults disk)
+        (λ e. e.1 ≢ Unopened.Fault → D.faults e.0 ≡ D.faults disk) }
 {
     match Journal::open(alloc, disk) {
         Ok(journal) => {
@@ -47,8 +56,11 @@ pub(crate) fn store_on<B: Since + Send, D: Disk + Send>(
 
 /// The disk of a store. It has the log, and so has what a crash leaves of it.
 pub(crate) fn disk_of<B: Since + Send, D: Disk + Send>(store: Store<Watched<B, Journal<D>>>) -> D
-    ensures holds { HoldsLog ⟦<Journal<D> as Keeper>⟧.in_flight store.keeper store.book (D.told result) }
-    ensures leaves { KeepsThrough B.since B.least B.before (D.may_leave result) (D.left_since result) ⟦<Journal<D> as Keeper>⟧.in_flight store.keeper store.book (D.told result) }
+    ensures holds { HoldsLog ⟦<Journal<D> as Keeper>⟧.in_flight store.keeper store.book
+        (D.told result) }
+    ensures leaves { KeepsThrough B.since B.least B.before (D.may_leave result)
+        (D.left_since result) ⟦<Journal<D> as Keeper>⟧.in_flight store.keeper store.book
+        (D.told result) }
     ensures faults { D.faults result ≡ ⟦<Journal<D> as Keeper>⟧.faults store.keeper }
 {
     store.log_is_kept();

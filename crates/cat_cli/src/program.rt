@@ -47,56 +47,118 @@ pub fn run<R: Threads + Wait + Sync, O: Disks, S: Source, K: Sink, C: Clock + Dr
 ) -> Status
     // The status for usage comes exactly where the words aren't a command's, want of memory aside.
     ensures usage { result ≡ Status.Usage → asked (map (λ word. word.now) words.now) ≡ None }
-    ensures refused { asked (map (λ word. word.now) words.now) ≡ None → (result ≡ Status.Usage) ⊎ (result ≡ Status.NoMemory) }
-    ensures usage_line { result ≡ Status.Usage → TellsKnown usage_line (K.held sink.old) (K.held sink.new) (K.faults sink.old) (K.faults sink.new) }
-    ensures memory_line { asked (map (λ word. word.now) words.now) ≡ None → result ≡ Status.NoMemory
-        → TellsKnown no_memory_line (K.held sink.old) (K.held sink.new) (K.faults sink.old) (K.faults sink.new) }
+    ensures refused { asked (map (λ word. word.now) words.now) ≡ None
+        → (result ≡ Status.Usage) ⊎ (result ≡ Status.NoMemory) }
+    ensures usage_line { result ≡ Status.Usage
+        → TellsKnown usage_line (K.held sink.old) (K.held sink.new) (K.faults sink.old)
+        (K.faults sink.new) }
+    ensures memory_line { asked (map (λ word. word.now) words.now) ≡ None
+        → result ≡ Status.NoMemory
+        → TellsKnown no_memory_line (K.held sink.old) (K.held sink.new) (K.faults sink.old)
+        (K.faults sink.new) }
     // What a script writes are the replies to the requests in the bytes of the source, the journal has the entries of all that they changed, and the clock stands where their moments left it. Where a read failed, no whole request was read that isn't answered. A crash at any moment leaves a journal with the old entries and a front of these, or what one might have left before.
-    ensures replies { (journal : List ℕ) → asked (map (λ word. word.now) words.now) ≡ Some (script journal)
-        → SaysKnown (DisksFell (O.refuses disks.old journal) O.D.faults (O.at_path disks.new journal) (O.faults disks.old) (O.faults disks.new))
-        (RoseBy (O.faults disks.old) (O.faults disks.new)) (O.faults disks.new ≡ O.faults disks.old)
-        (C.ahead clock.old) (C.ahead clock.new) (S.left source.old) (S.left source.new) (K.held sink.old) result (K.held sink.new) (K.faults sink.old) (K.faults sink.new)
-        (told_at O.D.told (O.at_path disks.old journal)) (told_at O.D.told (O.at_path disks.new journal))
-        (images_at O.D.may_leave O.D.moment O.D.left_since (O.at_path disks.old journal) (O.at_path disks.new journal)) }
+    ensures replies { (journal : List ℕ)
+        → asked (map (λ word. word.now) words.now) ≡ Some (script journal)
+        → SaysKnown
+        (DisksFell (O.refuses disks.old journal) O.D.faults (O.at_path disks.new journal)
+        (O.faults disks.old) (O.faults disks.new))
+        (RoseBy (O.faults disks.old) (O.faults disks.new))
+        (O.faults disks.new ≡ O.faults disks.old) (C.ahead clock.old) (C.ahead clock.new)
+        (S.left source.old) (S.left source.new) (K.held sink.old) result (K.held sink.new)
+        (K.faults sink.old) (K.faults sink.new) (told_at O.D.told (O.at_path disks.old journal))
+        (told_at O.D.told (O.at_path disks.new journal))
+        (images_at O.D.may_leave O.D.moment O.D.left_since (O.at_path disks.old journal)
+        (O.at_path disks.new journal)) }
     // What a check writes is the line of the catalogue that the journal's entries lead to.
-    ensures checked { (journal : List ℕ) → asked (map (λ word. word.now) words.now) ≡ Some (check journal)
-        → ChecksKnown (DisksFell (O.refuses disks.old journal) O.D.faults (O.at_path disks.new journal) (O.faults disks.old) (O.faults disks.new))
-        (O.faults disks.new ≡ O.faults disks.old) (K.held sink.old) result (K.held sink.new) (K.faults sink.old) (K.faults sink.new)
-        (told_at O.D.told (O.at_path disks.old journal)) (told_at O.D.told (O.at_path disks.new journal))
-        (images_at O.D.may_leave O.D.moment O.D.left_since (O.at_path disks.old journal) (O.at_path disks.new journal)) }
+    ensures checked { (journal : List ℕ)
+        → asked (map (λ word. word.now) words.now) ≡ Some (check journal)
+        → ChecksKnown
+        (DisksFell (O.refuses disks.old journal) O.D.faults (O.at_path disks.new journal)
+        (O.faults disks.old) (O.faults disks.new)) (O.faults disks.new ≡ O.faults disks.old)
+        (K.held sink.old) result (K.held sink.new) (K.faults sink.old) (K.faults sink.new)
+        (told_at O.D.told (O.at_path disks.old journal))
+        (told_at O.D.told (O.at_path disks.new journal))
+        (images_at O.D.may_leave O.D.moment O.D.left_since (O.at_path disks.old journal)
+        (O.at_path disks.new journal)) }
     // What a drill writes is the line of the catalogue that its seed and its steps make.
-    ensures drilled { (seed commits : ℕ) → asked (map (λ word. word.now) words.now) ≡ Some (drill seed commits)
-        → DrillsKnown (drill_line seed commits) (K.held sink.old) result (K.held sink.new) (K.faults sink.old) (K.faults sink.new) }
-    ensures drill_ends { (seed commits : ℕ) → asked (map (λ word. word.now) words.now) ≡ Some (drill seed commits) → IsTrue (ends_drill result) }
+    ensures drilled { (seed commits : ℕ)
+        → asked (map (λ word. word.now) words.now) ≡ Some (drill seed commits)
+        → DrillsKnown (drill_line seed commits) (K.held sink.old) result (K.held sink.new)
+        (K.faults sink.old) (K.faults sink.new) }
+    ensures drill_ends { (seed commits : ℕ)
+        → asked (map (λ word. word.now) words.now) ≡ Some (drill seed commits)
+        → IsTrue (ends_drill result) }
     // On the catalogue of the journal so many workers serve the connections of the address: each session on a pass of one desk, and what its pass had seen is a beginning of the one legal log that the journal has at the end, which begins with the log that was opened. A crash at any moment leaves a journal with the old entries and a front of what was added, or what one might have left before. Where no call of the listener failed its own connections were all given, and stand served.
-    ensures served { (journal address : List ℕ) (workers attempts connections : ℕ) → asked (map (λ word. word.now) words.now) ≡ Some (serve journal address workers attempts connections)
-        → ServesKnown (ends_of L.In.left L.In.faults L.Out.held L.Out.faults) (DisksFell (O.refuses disks.old journal) O.D.faults (O.at_path disks.new journal) (O.faults disks.old) (O.faults disks.new))
-        (RoseBy (O.faults disks.old) (O.faults disks.new)) (O.faults disks.new ≡ O.faults disks.old) ((listener.new ≡ listener.old) × (clock.new ≡ clock.old)) (clock.new ≡ clock.old)
-        (record { address = address; connections = connections; workers = workers; attempts = attempts })
-        (heard_of L.tells L.listens L.waiting L.returned L.rejoined L.out L.twins L.faults listener.old) (heard_of L.tells L.listens L.waiting L.returned L.rejoined L.out L.twins L.faults listener.new)
-        (record { held = K.held sink.old; after = K.held sink.new; before = K.faults sink.old; now = K.faults sink.new })
-        (told_at O.D.told (O.at_path disks.old journal)) (told_at O.D.told (O.at_path disks.new journal))
-        (images_at O.D.may_leave O.D.moment O.D.left_since (O.at_path disks.old journal) (O.at_path disks.new journal)) result }
+    ensures served { (journal address : List ℕ) (workers attempts connections : ℕ)
+        → asked (map (λ word. word.now) words.now)
+        ≡ Some (serve journal address workers attempts connections)
+        → ServesKnown (ends_of L.In.left L.In.faults L.Out.held L.Out.faults)
+        (DisksFell (O.refuses disks.old journal) O.D.faults (O.at_path disks.new journal)
+        (O.faults disks.old) (O.faults disks.new))
+        (RoseBy (O.faults disks.old) (O.faults disks.new))
+        (O.faults disks.new ≡ O.faults disks.old)
+        ((listener.new ≡ listener.old) × (clock.new ≡ clock.old)) (clock.new ≡ clock.old)
+        (record {
+          address = address;
+          connections = connections;
+          workers = workers;
+          attempts = attempts;
+        })
+        (heard_of L.tells L.listens L.waiting L.returned L.rejoined L.out L.twins L.faults
+        listener.old)
+        (heard_of L.tells L.listens L.waiting L.returned L.rejoined L.out L.twins L.faults
+        listener.new)
+        (record {
+          held = K.held sink.old;
+          after = K.held sink.new;
+          before = K.faults sink.old;
+          now = K.faults sink.new;
+        }) (told_at O.D.told (O.at_path disks.old journal))
+        (told_at O.D.told (O.at_path disks.new journal))
+        (images_at O.D.may_leave O.D.moment O.D.left_since (O.at_path disks.old journal)
+        (O.at_path disks.new journal)) result }
     // A fault comes only where the count of faults rose; the disks' only at the journal's path, by an open that they refuse or by a failed call of its disk.
     ensures read { result ≡ Status.ReadFault → Rose (S.faults source.old) (S.faults source.new) }
     ensures write { result ≡ Status.WriteFault → Rose (K.faults sink.old) (K.faults sink.new) }
-    ensures disk { result ≡ Status.DiskFault → (journal : List ℕ) × (option_and_then journal_of (asked (map (λ word. word.now) words.now)) ≡ Some journal)
-        × DisksFell (O.refuses disks.old journal) O.D.faults (O.at_path disks.new journal) (O.faults disks.old) (O.faults disks.new) }
-    ensures listener_fault { result ≡ Status.ListenerFault → Rose (L.faults listener.old) (L.faults listener.new) }
+    ensures disk { result ≡ Status.DiskFault
+        → (journal : List ℕ)
+        × (option_and_then journal_of (asked (map (λ word. word.now) words.now)) ≡ Some journal)
+        × DisksFell (O.refuses disks.old journal) O.D.faults (O.at_path disks.new journal)
+        (O.faults disks.old) (O.faults disks.new) }
+    ensures listener_fault { result ≡ Status.ListenerFault
+        → Rose (L.faults listener.old) (L.faults listener.new) }
     // The source's count stays unless a read failed, the sink's where it took all that was written, and the disks' where no fault of theirs was to be told.
     ensures source_stays { result ≢ Status.ReadFault → S.faults source.new ≡ S.faults source.old }
     ensures sink_stays { IsTrue (tells_all result) → K.faults sink.new ≡ K.faults sink.old }
     ensures disks_stay { IsTrue (spares_disks result) → O.faults disks.new ≡ O.faults disks.old }
-    ensures listener_stays { IsTrue (spares_listener result) → CountStays (L.faults listener.old) (L.faults listener.new) }
+    ensures listener_stays { IsTrue (spares_listener result)
+        → CountStays (L.faults listener.old) (L.faults listener.new) }
     // The journal's disk goes back where it stood, and no other is touched.
-    ensures back { (journal : List ℕ) → option_and_then journal_of (asked (map (λ word. word.now) words.now)) ≡ Some journal
-        → IsBack (O.at_path disks.old journal) (O.at_path disks.new journal) × OthersStay journal (O.at_path disks.old) (O.at_path disks.new) }
-    ensures untouched { option_and_then journal_of (asked (map (λ word. word.now) words.now)) ≡ None → disks.new ≡ disks.old }
+    ensures back { (journal : List ℕ)
+        → option_and_then journal_of (asked (map (λ word. word.now) words.now)) ≡ Some journal
+        → IsBack (O.at_path disks.old journal) (O.at_path disks.new journal)
+        × OthersStay journal (O.at_path disks.old) (O.at_path disks.new) }
+    ensures untouched { option_and_then journal_of (asked (map (λ word. word.now) words.now))
+        ≡ None
+        → disks.new ≡ disks.old }
     // Only a script reads the source, only a script or serving the clock, and only serving listens.
-    ensures still { ((journal : List ℕ) → asked (map (λ word. word.now) words.now) ≡ Some (script journal) → ⊥) → source.new ≡ source.old }
-    ensures clock { ((journal : List ℕ) → asked (map (λ word. word.now) words.now) ≡ Some (script journal) → ⊥)
-        → ((journal address : List ℕ) (workers attempts connections : ℕ) → asked (map (λ word. word.now) words.now) ≡ Some (serve journal address workers attempts connections) → ⊥) → clock.new ≡ clock.old }
-    ensures listener { ((journal address : List ℕ) (workers attempts connections : ℕ) → asked (map (λ word. word.now) words.now) ≡ Some (serve journal address workers attempts connections) → ⊥) → listener.new ≡ listener.old }
+    ensures still { ((journal : List ℕ)
+        → asked (map (λ word. word.now) words.now) ≡ Some (script journal)
+        → ⊥)
+        → source.new ≡ source.old }
+    ensures clock { ((journal : List ℕ)
+        → asked (map (λ word. word.now) words.now) ≡ Some (script journal)
+        → ⊥)
+        → ((journal address : List ℕ) (workers attempts connections : ℕ)
+        → asked (map (λ word. word.now) words.now)
+        ≡ Some (serve journal address workers attempts connections)
+        → ⊥)
+        → clock.new ≡ clock.old }
+    ensures listener { ((journal address : List ℕ) (workers attempts connections : ℕ)
+        → asked (map (λ word. word.now) words.now)
+        ≡ Some (serve journal address workers attempts connections)
+        → ⊥)
+        → listener.new ≡ listener.old }
 {
     match asked_of(alloc, words) {
         Ok(Asked::Script(journal)) => script(rt, alloc, journal, disks, source, sink, clock),
@@ -130,7 +192,8 @@ pub fn run<R: Threads + Wait + Sync, O: Disks, S: Source, K: Sink, C: Clock + Dr
 // The line of a drill.
 fn drilled<R: Wait, K: Sink>(rt: &R, alloc: Global, seed: u64, commits: u64, sink: &mut K) -> Status
     requires { commits ≤ 1000000 }
-    ensures drilled { DrillsKnown (drill_line seed commits) (K.held sink.old) result (K.held sink.new) (K.faults sink.old) (K.faults sink.new) }
+    ensures drilled { DrillsKnown (drill_line seed commits) (K.held sink.old) result
+        (K.held sink.new) (K.faults sink.old) (K.faults sink.new) }
     ensures ends { IsTrue (ends_drill result) }
     ensures write { result ≡ Status.WriteFault → Rose (K.faults sink.old) (K.faults sink.new) }
     ensures stays { IsTrue (tells_all result) → K.faults sink.new ≡ K.faults sink.old }

@@ -53,13 +53,21 @@ fn hold_session<R: Wait, K0: Keeper, S: Source, K: Sink, C: Clock>(
 ) -> Result<(Store<K0>, Session), (Store<K0>, NoMemory)>
     requires closed { store.left_open ≡ nothing_open }
     requires up { store.mark.fault ≡ None }
-    ensures ends { IfOk result (λ t. RunsKnown K0.down K0.in_flight store (C.ahead clock.old) (S.left source.old) (S.left source.new) (K.held sink.old) t.1 t.0 (C.ahead clock.new) (K.held sink.new)) }
+    ensures ends { IfOk result
+        (λ t. RunsKnown K0.down K0.in_flight store (C.ahead clock.old) (S.left source.old)
+        (S.left source.new) (K.held sink.old) t.1 t.0 (C.ahead clock.new) (K.held sink.new)) }
     ensures later { IfOk result (λ t. store.began ≤ K0.faults t.0.keeper) }
-    ensures rose { IfOk result (λ t. (c : ℕ) → K0.down t.0.keeper ≡ Some c → Rose store.began c × (c ≤ K0.faults t.0.keeper)) }
-    ensures read { IfOk result (λ t. t.1 ≡ Session.ReadFault → Rose (S.faults source.old) (S.faults source.new)) }
-    ensures write { IfOk result (λ t. t.1 ≡ Session.WriteFault → Rose (K.faults sink.old) (K.faults sink.new)) }
-    ensures source_stays { IfOk result (λ t. t.1 ≢ Session.ReadFault → S.faults source.new ≡ S.faults source.old) }
-    ensures sink_stays { IfOk result (λ t. t.1 ≢ Session.WriteFault → K.faults sink.new ≡ K.faults sink.old) }
+    ensures rose { IfOk result
+        (λ t. (c : ℕ) → K0.down t.0.keeper ≡ Some c
+        → Rose store.began c × (c ≤ K0.faults t.0.keeper)) }
+    ensures read { IfOk result
+        (λ t. t.1 ≡ Session.ReadFault → Rose (S.faults source.old) (S.faults source.new)) }
+    ensures write { IfOk result
+        (λ t. t.1 ≡ Session.WriteFault → Rose (K.faults sink.old) (K.faults sink.new)) }
+    ensures source_stays { IfOk result
+        (λ t. t.1 ≢ Session.ReadFault → S.faults source.new ≡ S.faults source.old) }
+    ensures sink_stays { IfOk result
+        (λ t. t.1 ≢ Session.WriteFault → K.faults sink.new ≡ K.faults sink.old) }
     ensures back { IfErr result (λ e. e.0 ≡ store) }
     ensures untold { IfErr result (λ _. sink.new ≡ sink.old) }
     ensures unread { IfErr result (λ _. (source.new ≡ source.old) × (clock.new ≡ clock.old)) }
@@ -89,17 +97,27 @@ fn session_on<B: Since + Send, R: Wait, D: Disk + Send, S: Source, K: Sink, C: C
     sink: &mut K,
     clock: &mut C,
 ) -> (D, Result<Session, Unopened>)
-    requires begun { IsBegun B.since B.least B.before (D.told disk) (D.moment disk) (D.may_leave disk) }
+    requires begun { IsBegun B.since B.least B.before (D.told disk) (D.moment disk)
+        (D.may_leave disk) }
     requires fresh { D.faults disk ≡ 0 }
-    ensures ran { IfOk result.1 (λ end. RanKnown (CountedBy (D.faults result.0)) (C.ahead clock.old) (C.ahead clock.new) (S.left source.old) (S.left source.new) (K.held sink.old) (K.held sink.new) (K.faults sink.old) (K.faults sink.new)
-        (D.told disk) (D.told result.0) (images_of D.may_leave D.moment D.left_since disk result.0) end) }
-    ensures read { IfOk result.1 (λ end. end ≡ Session.ReadFault → Rose (S.faults source.old) (S.faults source.new)) }
-    ensures write { IfOk result.1 (λ end. end ≡ Session.WriteFault → Rose (K.faults sink.old) (K.faults sink.new)) }
-    ensures source_stays { IfOk result.1 (λ end. end ≢ Session.ReadFault → S.faults source.new ≡ S.faults source.old) }
-    ensures sink_stays { IfOk result.1 (λ end. end ≢ Session.WriteFault → K.faults sink.new ≡ K.faults sink.old) }
+    ensures ran { IfOk result.1
+        (λ end. RanKnown (CountedBy (D.faults result.0)) (C.ahead clock.old) (C.ahead clock.new)
+        (S.left source.old) (S.left source.new) (K.held sink.old) (K.held sink.new)
+        (K.faults sink.old) (K.faults sink.new) (D.told disk) (D.told result.0)
+        (images_of D.may_leave D.moment D.left_since disk result.0) end) }
+    ensures read { IfOk result.1
+        (λ end. end ≡ Session.ReadFault → Rose (S.faults source.old) (S.faults source.new)) }
+    ensures write { IfOk result.1
+        (λ end. end ≡ Session.WriteFault → Rose (K.faults sink.old) (K.faults sink.new)) }
+    ensures source_stays { IfOk result.1
+        (λ end. end ≢ Session.ReadFault → S.faults source.new ≡ S.faults source.old) }
+    ensures sink_stays { IfOk result.1
+        (λ end. end ≢ Session.WriteFault → K.faults sink.new ≡ K.faults sink.old) }
     ensures reason { IfErr result.1 (λ why. IsReason (D.told disk) why) }
     ensures stands { IfErr result.1 (λ _. StandsFor (D.told disk) (D.told result.0)) }
-    ensures spared { IfErr result.1 (λ _. Spared (D.told disk) (D.told result.0) (images_of D.may_leave D.moment D.left_since disk result.0)) }
+    ensures spared { IfErr result.1
+        (λ _. Spared (D.told disk) (D.told result.0)
+        (images_of D.may_leave D.moment D.left_since disk result.0)) }
     ensures cause { IfErr result.1 (λ why. why ≡ Unopened.Fault → Rose 0 (D.faults result.0)) }
     ensures level { IfErr result.1 (λ why. why ≢ Unopened.Fault → D.faults result.0 ≡ 0) }
     ensures untold { IfErr result.1 (λ _. sink.new ≡ sink.old) }
@@ -125,11 +143,16 @@ pub(crate) fn script<R: Wait, O: Disks, S: Source, K: Sink, C: Clock>(
     sink: &mut K,
     clock: &mut C,
 ) -> Status
-    ensures replies { SaysKnown (DisksFell (O.refuses disks.old path.now) O.D.faults (O.at_path disks.new path.now) (O.faults disks.old) (O.faults disks.new))
-        (RoseBy (O.faults disks.old) (O.faults disks.new)) (O.faults disks.new ≡ O.faults disks.old)
-        (C.ahead clock.old) (C.ahead clock.new) (S.left source.old) (S.left source.new) (K.held sink.old) result (K.held sink.new) (K.faults sink.old) (K.faults sink.new)
-        (told_at O.D.told (O.at_path disks.old path.now)) (told_at O.D.told (O.at_path disks.new path.now))
-        (images_at O.D.may_leave O.D.moment O.D.left_since (O.at_path disks.old path.now) (O.at_path disks.new path.now)) }
+    ensures replies { SaysKnown
+        (DisksFell (O.refuses disks.old path.now) O.D.faults (O.at_path disks.new path.now)
+        (O.faults disks.old) (O.faults disks.new))
+        (RoseBy (O.faults disks.old) (O.faults disks.new))
+        (O.faults disks.new ≡ O.faults disks.old) (C.ahead clock.old) (C.ahead clock.new)
+        (S.left source.old) (S.left source.new) (K.held sink.old) result (K.held sink.new)
+        (K.faults sink.old) (K.faults sink.new) (told_at O.D.told (O.at_path disks.old path.now))
+        (told_at O.D.told (O.at_path disks.new path.now))
+        (images_at O.D.may_leave O.D.moment O.D.left_since (O.at_path disks.old path.now)
+        (O.at_path disks.new path.now)) }
     ensures taken { result ≢ Status.Usage }
     ensures unheard { result ≢ Status.ListenerFault }
     ensures read { result ≡ Status.ReadFault → Rose (S.faults source.old) (S.faults source.new) }
@@ -137,7 +160,9 @@ pub(crate) fn script<R: Wait, O: Disks, S: Source, K: Sink, C: Clock>(
     ensures source_stays { result ≢ Status.ReadFault → S.faults source.new ≡ S.faults source.old }
     ensures sink_stays { IsTrue (tells_all result) → K.faults sink.new ≡ K.faults sink.old }
     ensures disks_stay { IsTrue (spares_disks result) → O.faults disks.new ≡ O.faults disks.old }
-    ensures disk { result ≡ Status.DiskFault → DisksFell (O.refuses disks.old path.now) O.D.faults (O.at_path disks.new path.now) (O.faults disks.old) (O.faults disks.new) }
+    ensures disk { result ≡ Status.DiskFault
+        → DisksFell (O.refuses disks.old path.now) O.D.faults (O.at_path disks.new path.now)
+        (O.faults disks.old) (O.faults disks.new) }
     ensures back { IsBack (O.at_path disks.old path.now) (O.at_path disks.new path.now) }
     ensures others { OthersStay path.now (O.at_path disks.old) (O.at_path disks.new) }
 {

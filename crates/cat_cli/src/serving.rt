@@ -60,13 +60,24 @@ fn serve_at<R: Threads + Wait + Sync, K0: Keeper, L: Listener, C: Clock + Drop>(
     requires alone { IsAlone pass.old }
     requires spare { spare_of pass.old ≡ 4294967294 }
     requires few { IsFew options.workers × IsFew options.attempts }
-    ensures comes { Comes (WorksOn (ends_of L.In.left L.In.faults L.Out.held L.Out.faults) (service_of options.entry) (heard_of L.tells L.listens L.waiting L.returned L.rejoined L.out L.twins L.faults listener.old)
-        (heard_of L.tells L.listens L.waiting L.returned L.rejoined L.out L.twins L.faults listener.new) desk.now pass.old pass.new) (Remembers pass.old pass.new × (clock.new ≡ clock.old))
-        (service_of options.entry) (heard_of L.tells L.listens L.waiting L.returned L.rejoined L.out L.twins L.faults listener.old) (heard_of L.tells L.listens L.waiting L.returned L.rejoined L.out L.twins L.faults listener.new) result }
+    ensures comes { Comes
+        (WorksOn (ends_of L.In.left L.In.faults L.Out.held L.Out.faults)
+        (service_of options.entry)
+        (heard_of L.tells L.listens L.waiting L.returned L.rejoined L.out L.twins L.faults
+        listener.old)
+        (heard_of L.tells L.listens L.waiting L.returned L.rejoined L.out L.twins L.faults
+        listener.new) desk.now pass.old pass.new)
+        (Remembers pass.old pass.new × (clock.new ≡ clock.old)) (service_of options.entry)
+        (heard_of L.tells L.listens L.waiting L.returned L.rejoined L.out L.twins L.faults
+        listener.old)
+        (heard_of L.tells L.listens L.waiting L.returned L.rejoined L.out L.twins L.faults
+        listener.new) result }
     ensures ready { IsReady desk.now pass.new }
     ensures alone { IsAlone pass.new }
-    ensures cause { result ≡ Served.ListenerFault → Rose (L.faults listener.old) (L.faults listener.new) }
-    ensures stays { result ≢ Served.ListenerFault → CountStays (L.faults listener.old) (L.faults listener.new) }
+    ensures cause { result ≡ Served.ListenerFault
+        → Rose (L.faults listener.old) (L.faults listener.new) }
+    ensures stays { result ≢ Served.ListenerFault
+        → CountStays (L.faults listener.old) (L.faults listener.new) }
 {
     let settings = Settings {
         attempts: options.attempts,
@@ -98,16 +109,34 @@ fn hold_serving<R: Threads + Wait + Sync, K0: Keeper, L: Listener, C: Clock + Dr
 ) -> Result<(Store<K0>, Served), (Store<K0>, NoMemory)>
     requires closed { store.left_open ≡ nothing_open }
     requires few { IsFew options.workers × IsFew options.attempts }
-    ensures comes { IfOk result (λ t. Comes (Hosts (ends_of L.In.left L.In.faults L.Out.held L.Out.faults) (service_of options.entry) (heard_of L.tells L.listens L.waiting L.returned L.rejoined L.out L.twins L.faults listener.old)
-        (heard_of L.tells L.listens L.waiting L.returned L.rejoined L.out L.twins L.faults listener.new) store t.0) (IsAsBefore store t.0 × (clock.new ≡ clock.old))
-        (service_of options.entry) (heard_of L.tells L.listens L.waiting L.returned L.rejoined L.out L.twins L.faults listener.old) (heard_of L.tells L.listens L.waiting L.returned L.rejoined L.out L.twins L.faults listener.new) t.1) }
-    ensures fallen { IfOk result (λ t. K0.down t.0.keeper ≡ option_map (λ (x : FailedAppend). x.count) t.0.mark.fault) }
-    ensures flies { IfOk result (λ t. K0.in_flight t.0.keeper ≡ option_map (λ (x : FailedAppend). x.payload) t.0.mark.fault) }
-    ensures counted { IfOk result (λ t. (x : FailedAppend) → t.0.mark.fault ≡ Some x → Rose store.began x.count × (x.count ≤ K0.faults t.0.keeper)) }
-    ensures cause { IfOk result (λ t. t.1 ≡ Served.ListenerFault → Rose (L.faults listener.old) (L.faults listener.new)) }
-    ensures stays { IfOk result (λ t. t.1 ≢ Served.ListenerFault → CountStays (L.faults listener.old) (L.faults listener.new)) }
+    ensures comes { IfOk result
+        (λ t. Comes
+        (Hosts (ends_of L.In.left L.In.faults L.Out.held L.Out.faults) (service_of options.entry)
+        (heard_of L.tells L.listens L.waiting L.returned L.rejoined L.out L.twins L.faults
+        listener.old)
+        (heard_of L.tells L.listens L.waiting L.returned L.rejoined L.out L.twins L.faults
+        listener.new) store t.0) (IsAsBefore store t.0 × (clock.new ≡ clock.old))
+        (service_of options.entry)
+        (heard_of L.tells L.listens L.waiting L.returned L.rejoined L.out L.twins L.faults
+        listener.old)
+        (heard_of L.tells L.listens L.waiting L.returned L.rejoined L.out L.twins L.faults
+        listener.new) t.1) }
+    ensures fallen { IfOk result
+        (λ t. K0.down t.0.keeper ≡ option_map (λ (x : FailedAppend). x.count) t.0.mark.fault) }
+    ensures flies { IfOk result
+        (λ t. K0.in_flight t.0.keeper
+        ≡ option_map (λ (x : FailedAppend). x.payload) t.0.mark.fault) }
+    ensures counted { IfOk result
+        (λ t. (x : FailedAppend) → t.0.mark.fault ≡ Some x
+        → Rose store.began x.count × (x.count ≤ K0.faults t.0.keeper)) }
+    ensures cause { IfOk result
+        (λ t. t.1 ≡ Served.ListenerFault → Rose (L.faults listener.old) (L.faults listener.new)) }
+    ensures stays { IfOk result
+        (λ t. t.1 ≢ Served.ListenerFault
+        → CountStays (L.faults listener.old) (L.faults listener.new)) }
     ensures back { IfErr result (λ e. e.0 ≡ store) }
-    ensures untouched { IfErr result (λ _. (listener.new ≡ listener.old) × (clock.new ≡ clock.old)) }
+    ensures untouched { IfErr result
+        (λ _. (listener.new ≡ listener.old) × (clock.new ≡ clock.old)) }
 {
     match hold(alloc, store) {
         Ok((desk, mut pass)) => {
@@ -136,21 +165,39 @@ fn serve_on<
     listener: &mut L,
     clock: &mut C,
 ) -> (D, Result<Served, Unopened>)
-    requires begun { IsBegun B.since B.least B.before (D.told disk) (D.moment disk) (D.may_leave disk) }
+    requires begun { IsBegun B.since B.least B.before (D.told disk) (D.moment disk)
+        (D.may_leave disk) }
     requires fresh { D.faults disk ≡ 0 }
     requires few { IsFew options.workers × IsFew options.attempts }
-    ensures comes { IfOk result.1 (λ end. Comes (Hosted (ends_of L.In.left L.In.faults L.Out.held L.Out.faults) (CountedBy (D.faults result.0)) (service_of options.entry)
-        (heard_of L.tells L.listens L.waiting L.returned L.rejoined L.out L.twins L.faults listener.old) (heard_of L.tells L.listens L.waiting L.returned L.rejoined L.out L.twins L.faults listener.new)
-        (D.told disk) (D.told result.0) (images_of D.may_leave D.moment D.left_since disk result.0)) (OpenedOnly (clock.new ≡ clock.old) (D.told disk) (D.told result.0) (images_of D.may_leave D.moment D.left_since disk result.0))
-        (service_of options.entry) (heard_of L.tells L.listens L.waiting L.returned L.rejoined L.out L.twins L.faults listener.old) (heard_of L.tells L.listens L.waiting L.returned L.rejoined L.out L.twins L.faults listener.new) end) }
-    ensures listener_cause { IfOk result.1 (λ end. end ≡ Served.ListenerFault → Rose (L.faults listener.old) (L.faults listener.new)) }
-    ensures listener_stays { IfOk result.1 (λ end. end ≢ Served.ListenerFault → CountStays (L.faults listener.old) (L.faults listener.new)) }
+    ensures comes { IfOk result.1
+        (λ end. Comes
+        (Hosted (ends_of L.In.left L.In.faults L.Out.held L.Out.faults)
+        (CountedBy (D.faults result.0)) (service_of options.entry)
+        (heard_of L.tells L.listens L.waiting L.returned L.rejoined L.out L.twins L.faults
+        listener.old)
+        (heard_of L.tells L.listens L.waiting L.returned L.rejoined L.out L.twins L.faults
+        listener.new) (D.told disk) (D.told result.0)
+        (images_of D.may_leave D.moment D.left_since disk result.0))
+        (OpenedOnly (clock.new ≡ clock.old) (D.told disk) (D.told result.0)
+        (images_of D.may_leave D.moment D.left_since disk result.0)) (service_of options.entry)
+        (heard_of L.tells L.listens L.waiting L.returned L.rejoined L.out L.twins L.faults
+        listener.old)
+        (heard_of L.tells L.listens L.waiting L.returned L.rejoined L.out L.twins L.faults
+        listener.new) end) }
+    ensures listener_cause { IfOk result.1
+        (λ end. end ≡ Served.ListenerFault → Rose (L.faults listener.old) (L.faults listener.new)) }
+    ensures listener_stays { IfOk result.1
+        (λ end. end ≢ Served.ListenerFault
+        → CountStays (L.faults listener.old) (L.faults listener.new)) }
     ensures reason { IfErr result.1 (λ why. IsReason (D.told disk) why) }
     ensures stands { IfErr result.1 (λ _. StandsFor (D.told disk) (D.told result.0)) }
-    ensures spared { IfErr result.1 (λ _. Spared (D.told disk) (D.told result.0) (images_of D.may_leave D.moment D.left_since disk result.0)) }
+    ensures spared { IfErr result.1
+        (λ _. Spared (D.told disk) (D.told result.0)
+        (images_of D.may_leave D.moment D.left_since disk result.0)) }
     ensures cause { IfErr result.1 (λ why. why ≡ Unopened.Fault → Rose 0 (D.faults result.0)) }
     ensures level { IfErr result.1 (λ why. why ≢ Unopened.Fault → D.faults result.0 ≡ 0) }
-    ensures untouched { IfErr result.1 (λ _. (listener.new ≡ listener.old) × (clock.new ≡ clock.old)) }
+    ensures untouched { IfErr result.1
+        (λ _. (listener.new ≡ listener.old) × (clock.new ≡ clock.old)) }
 {
     match store_on::<B, D>(alloc, disk) {
         Ok(store) => match hold_serving(rt, alloc, store, options, listener, clock) {
@@ -164,7 +211,14 @@ fn serve_on<
 // The status after serving, by whether the disk failed. A fault of the listener is told, and want of
 // memory.
 fn tell_end<K: Sink>(end: Served, failed: bool, sink: &mut K) -> Status
-    ensures told { (wrote : Bool) × (result ≡ status_after end failed wrote) × IsToldOf end wrote (record { held = K.held sink.old; after = K.held sink.new; before = K.faults sink.old; now = K.faults sink.new }) }
+    ensures told { (wrote : Bool) × (result ≡ status_after end failed wrote)
+        × IsToldOf end wrote
+        (record {
+          held = K.held sink.old;
+          after = K.held sink.new;
+          before = K.faults sink.old;
+          now = K.faults sink.new;
+        }) }
     ensures write { result ≡ Status.WriteFault → Rose (K.faults sink.old) (K.faults sink.new) }
     ensures stays { IsTrue (tells_all result) → K.faults sink.new ≡ K.faults sink.old }
     ensures taken { result ≢ Status.Usage }
@@ -192,20 +246,37 @@ pub(crate) fn serve<R: Threads + Wait + Sync, O: Disks, K: Sink, C: Clock + Drop
 ) -> Status
     requires few { IsFew options.workers × IsFew options.attempts }
     ensures served { ServesKnown (ends_of L.In.left L.In.faults L.Out.held L.Out.faults)
-        (DisksFell (O.refuses disks.old path.now) O.D.faults (O.at_path disks.new path.now) (O.faults disks.old) (O.faults disks.new))
-        (RoseBy (O.faults disks.old) (O.faults disks.new)) (O.faults disks.new ≡ O.faults disks.old) ((listener.new ≡ listener.old) × (clock.new ≡ clock.old)) (clock.new ≡ clock.old)
-        (service_of options.entry) (heard_of L.tells L.listens L.waiting L.returned L.rejoined L.out L.twins L.faults listener.old) (heard_of L.tells L.listens L.waiting L.returned L.rejoined L.out L.twins L.faults listener.new)
-        (record { held = K.held sink.old; after = K.held sink.new; before = K.faults sink.old; now = K.faults sink.new })
-        (told_at O.D.told (O.at_path disks.old path.now)) (told_at O.D.told (O.at_path disks.new path.now))
-        (images_at O.D.may_leave O.D.moment O.D.left_since (O.at_path disks.old path.now) (O.at_path disks.new path.now)) result }
+        (DisksFell (O.refuses disks.old path.now) O.D.faults (O.at_path disks.new path.now)
+        (O.faults disks.old) (O.faults disks.new))
+        (RoseBy (O.faults disks.old) (O.faults disks.new))
+        (O.faults disks.new ≡ O.faults disks.old)
+        ((listener.new ≡ listener.old) × (clock.new ≡ clock.old)) (clock.new ≡ clock.old)
+        (service_of options.entry)
+        (heard_of L.tells L.listens L.waiting L.returned L.rejoined L.out L.twins L.faults
+        listener.old)
+        (heard_of L.tells L.listens L.waiting L.returned L.rejoined L.out L.twins L.faults
+        listener.new)
+        (record {
+          held = K.held sink.old;
+          after = K.held sink.new;
+          before = K.faults sink.old;
+          now = K.faults sink.new;
+        }) (told_at O.D.told (O.at_path disks.old path.now))
+        (told_at O.D.told (O.at_path disks.new path.now))
+        (images_at O.D.may_leave O.D.moment O.D.left_since (O.at_path disks.old path.now)
+        (O.at_path disks.new path.now)) result }
     ensures taken { result ≢ Status.Usage }
     ensures unread { result ≢ Status.ReadFault }
     ensures write { result ≡ Status.WriteFault → Rose (K.faults sink.old) (K.faults sink.new) }
     ensures sink_stays { IsTrue (tells_all result) → K.faults sink.new ≡ K.faults sink.old }
     ensures disks_stay { IsTrue (spares_disks result) → O.faults disks.new ≡ O.faults disks.old }
-    ensures disk { result ≡ Status.DiskFault → DisksFell (O.refuses disks.old path.now) O.D.faults (O.at_path disks.new path.now) (O.faults disks.old) (O.faults disks.new) }
-    ensures listener_fault { result ≡ Status.ListenerFault → Rose (L.faults listener.old) (L.faults listener.new) }
-    ensures listener_stays { IsTrue (spares_listener result) → CountStays (L.faults listener.old) (L.faults listener.new) }
+    ensures disk { result ≡ Status.DiskFault
+        → DisksFell (O.refuses disks.old path.now) O.D.faults (O.at_path disks.new path.now)
+        (O.faults disks.old) (O.faults disks.new) }
+    ensures listener_fault { result ≡ Status.ListenerFault
+        → Rose (L.faults listener.old) (L.faults listener.new) }
+    ensures listener_stays { IsTrue (spares_listener result)
+        → CountStays (L.faults listener.old) (L.faults listener.new) }
     ensures back { IsBack (O.at_path disks.old path.now) (O.at_path disks.new path.now) }
     ensures others { OthersStay path.now (O.at_path disks.old) (O.at_path disks.new) }
 {

@@ -14,7 +14,8 @@ use cat_serve::Served;
 
 /// Writes a line, as far as the sink takes it.
 pub(crate) fn tell<K: Sink>(sink: &mut K, line: &[u8])
-    ensures { TellsKnown line.now (K.held sink.old) (K.held sink.new) (K.faults sink.old) (K.faults sink.new) }
+    ensures { TellsKnown line.now (K.held sink.old) (K.held sink.new) (K.faults sink.old)
+        (K.faults sink.new) }
 {
     let _ = write_all(sink, line);
 }
@@ -22,7 +23,8 @@ pub(crate) fn tell<K: Sink>(sink: &mut K, line: &[u8])
 /// Tells that memory ran out, as far as the sink takes the line.
 pub fn tell_no_memory<K: Sink>(sink: &mut K) -> Status
     ensures status { result ≡ Status.NoMemory }
-    ensures told { TellsKnown no_memory_line (K.held sink.old) (K.held sink.new) (K.faults sink.old) (K.faults sink.new) }
+    ensures told { TellsKnown no_memory_line (K.held sink.old) (K.held sink.new)
+        (K.faults sink.old) (K.faults sink.new) }
 {
     tell(sink, b"nessie: no memory\n");
     Status::NoMemory
@@ -30,7 +32,8 @@ pub fn tell_no_memory<K: Sink>(sink: &mut K) -> Status
 
 /// Tells that a disk failed.
 pub(crate) fn tell_disk_fault<K: Sink>(sink: &mut K) -> Status
-    ensures told { FaultKnown (K.held sink.old) result (K.held sink.new) (K.faults sink.old) (K.faults sink.new) }
+    ensures told { FaultKnown (K.held sink.old) result (K.held sink.new) (K.faults sink.old)
+        (K.faults sink.new) }
     ensures write { result ≡ Status.WriteFault → Rose (K.faults sink.old) (K.faults sink.new) }
     ensures stays { IsTrue (tells_all result) → K.faults sink.new ≡ K.faults sink.old }
     ensures ends { (result ≡ Status.DiskFault) ⊎ (result ≡ Status.WriteFault) }
@@ -47,7 +50,13 @@ pub(crate) fn tell_disk_fault<K: Sink>(sink: &mut K) -> Status
 /// Tells that the listener failed. The status is the disk's where that failed too.
 pub(crate) fn tell_listener_fault<K: Sink>(failed: bool, sink: &mut K) -> Status
     ensures told { (wrote : Bool) × (result ≡ status_after Served.ListenerFault failed wrote)
-        × IsWritten wrote listener_fault_line (record { held = K.held sink.old; after = K.held sink.new; before = K.faults sink.old; now = K.faults sink.new }) }
+        × IsWritten wrote listener_fault_line
+        (record {
+          held = K.held sink.old;
+          after = K.held sink.new;
+          before = K.faults sink.old;
+          now = K.faults sink.new;
+        }) }
     ensures write { result ≡ Status.WriteFault → Rose (K.faults sink.old) (K.faults sink.new) }
     ensures stays { IsTrue (tells_all result) → K.faults sink.new ≡ K.faults sink.old }
     ensures taken { result ≢ Status.Usage }

@@ -80,7 +80,8 @@ fn line(alloc: Global, why: Unopened) -> Result<String, AllocError>
 // Tells what keeps a journal from being read.
 fn tell_unreadable<K: Sink>(alloc: Global, why: Unopened, sink: &mut K) -> Status
     requires { is_unreadable why ≡ true }
-    ensures told { RefusedKnown why (K.held sink.old) result (K.held sink.new) (K.faults sink.old) (K.faults sink.new) }
+    ensures told { RefusedKnown why (K.held sink.old) result (K.held sink.new) (K.faults sink.old)
+        (K.faults sink.new) }
     ensures reason { EndsFor why result }
     ensures fault { result ≢ Status.DiskFault }
     ensures write { result ≢ Status.WriteFault }
@@ -100,11 +101,13 @@ fn tell_unreadable<K: Sink>(alloc: Global, why: Unopened, sink: &mut K) -> Statu
 
 /// Tells why no journal is opened.
 pub(crate) fn refuse<K: Sink>(alloc: Global, why: Unopened, sink: &mut K) -> Status
-    ensures told { RefusedKnown why (K.held sink.old) result (K.held sink.new) (K.faults sink.old) (K.faults sink.new) }
+    ensures told { RefusedKnown why (K.held sink.old) result (K.held sink.new) (K.faults sink.old)
+        (K.faults sink.new) }
     ensures reason { EndsFor why result }
     ensures fault { result ≡ Status.DiskFault → why ≡ Unopened.Fault }
     ensures write { result ≡ Status.WriteFault → Rose (K.faults sink.old) (K.faults sink.new) }
-    ensures ends { why ≡ Unopened.Fault → (result ≡ Status.DiskFault) ⊎ (result ≡ Status.WriteFault) }
+    ensures ends { why ≡ Unopened.Fault
+        → (result ≡ Status.DiskFault) ⊎ (result ≡ Status.WriteFault) }
     ensures stays { IsTrue (tells_all result) → K.faults sink.new ≡ K.faults sink.old }
     ensures taken { result ≢ Status.Usage }
     ensures unread { result ≢ Status.ReadFault }

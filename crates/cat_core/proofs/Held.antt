@@ -4,6 +4,7 @@ use Rattle.std.proofs.lemmas.List.{map-append}
 use Rattle.std.specs.List.{filter}
 use Rattle.std.specs.Prelude.{is_err, is_ok, if◌then◌else◌}
 use Rattle.sha2.specs.Sha256.{sha256}
+use Rattle.cat_keeper.specs.declared.keeper.Keeper.{Ghosts}
 use Rattle.cat_decisions.specs.declared.building.Built.{Built}
 use Rattle.cat_decisions.specs.declared.call.Call.{Call}
 use Rattle.cat_decisions.specs.Builds.{HasHead, IsBuilt, command_of}
@@ -68,9 +69,9 @@ sound_held book after faults left_open held t c sound takes next is =
     let same : record book { draft = t.number } ≡ after = ap (λ (m : ℕ). record book { draft = m }) (sym n) ∙ sym takes in
     subst (λ (b : Book). IsSound b faults held) same (subst (IsSound (record book { draft = t.number }) faults) (sym is) (sound_taken book faults left_open (held_for t c) sound next))
 
-pub step_held : {K : Type 0} (told : K → Option (List (List ℕ))) (kept : K → ℕ) (down : K → Option ℕ) (faults : K → ℕ) (book after : Book) (keeper : K) (fallen : Option Fallen) (began number : ℕ) → after ≡ taking book number → IsInStep told kept down faults book keeper fallen began → IsInStep told kept down faults after keeper fallen began
-step_held {K} told kept down faults book after keeper fallen began number takes was =
-    subst (λ (b : Book). IsInStep told kept down faults b keeper fallen began) (sym takes) record { payloads = was.payloads; number = was.number; fallen = was.fallen; later = was.later; rose = was.rose; counted = was.counted }
+pub step_held : {K : Type 0} (members : Ghosts K) (book after : Book) (keeper : K) (fallen : Option Fallen) (began number : ℕ) → after ≡ taking book number → IsInStep members book keeper fallen began → IsInStep members after keeper fallen began
+step_held {K} members book after keeper fallen began number takes was =
+    subst (λ (b : Book). IsInStep members b keeper fallen began) (sym takes) record { payloads = was.payloads; number = was.number; fallen = was.fallen; later = was.later; rose = was.rose; counted = was.counted }
 
 -- what is left then
 pub held_as : {K : Type 0} (book after : Book) (keeper : K) (fault : Option FailedAppend) (drafter : ℕ) (dropped : Option Ticket) (xs ys : List OpenDraft) (began : ℕ) (t : Ticket) (c : Command) (x : Stored K) → after ≡ taking book t.number → t.number ≡ book.draft + 1 → map draft_held ys ≡ map draft_held xs ++ held_for t c ∷ []

@@ -4,6 +4,7 @@ use Rattle.std.proofs.lemmas.List.{append-nil, reverse-append, map-append}
 use Rattle.sha2.specs.Sha256.{sha256}
 use Rattle.cat_io.specs.Causes.{Rose}
 use Rattle.cat_io.specs.Crashes as crashes
+use Rattle.cat_keeper.specs.declared.keeper.Keeper.{Ghosts}
 use Rattle.cat_model.specs.declared.command.Command.{Command}
 use Rattle.cat_model.specs.declared.log_entry.LogEntry.{LogEntry}
 use Rattle.cat_model.specs.declared.refusal.Refused.{Refused}
@@ -75,21 +76,21 @@ still told old new before after same log is =
 rose_since : (began old new : ℕ) → began ≤ old → Rose old new → Rose began new
 rose_since began old new later rose = omega (arith, later, rose)
 
-module _ {K : Type 0} (told : K → Option (List (List ℕ))) (kept : K → ℕ) (down : K → Option ℕ) (in_flight : K → Option (List ℕ)) (faults : K → ℕ) (moment : K → ℕ) (left_since : K → ℕ → Option (List (List ℕ)) → Type 0) (may_leave : K → Option (List (List ℕ)) → Type 0) where
-  module _ (old new : K) (caller : ℕ) (called : Called) (before after : Book) (began : ℕ) (right : LogsRight called) (was : IsInStep told kept down faults before old None began) (number : kept new ≡ after.state.place) where
-    stayed : after.log ≡ before.log → Stayed told kept down in_flight faults moment left_since may_leave old new → IsInStep told kept down faults after new None began
+module _ {K : Type 0} (members : Ghosts K) where
+  module _ (old new : K) (caller : ℕ) (called : Called) (before after : Book) (began : ℕ) (right : LogsRight called) (was : IsInStep members before old None began) (number : members.kept new ≡ after.state.place) where
+    stayed : after.log ≡ before.log → Stayed members old new → IsInStep members after new None began
     stayed log keeps =
-        let later : began ≤ faults old = was.later in
-        let more : faults old ≤ faults new = keeps.later in
-        record { payloads = still told old new before after keeps.payloads log was.payloads; number = number; fallen = keeps.fallen ∙ was.fallen; later = omega arith; rose = tt; counted = tt }
+        let later : began ≤ members.faults old = was.later in
+        let more : members.faults old ≤ members.faults new = keeps.later in
+        record { payloads = still members.told old new before after keeps.payloads log was.payloads; number = number; fallen = keeps.fallen ∙ was.fallen; later = omega arith; rose = tt; counted = tt }
 
     -- after a call
-    pub in_step : (made : Result Told Unmade) → Runs called before after made → Keeps told kept down in_flight faults moment left_since may_leave old new called.logged made → IsInStep told kept down faults after new (fallen_by caller (faults new) None made) began
+    pub in_step : (made : Result Told Unmade) → Runs called before after made → Keeps members old new called.logged made → IsInStep members after new (fallen_by caller (members.faults new) None made) began
     in_step (Ok told_is) runs keeps =
-        let later : began ≤ faults old = was.later in
-        let more : faults old ≤ faults new = keeps.later in
+        let later : began ≤ members.faults old = was.later in
+        let more : members.faults old ≤ members.faults new = keeps.later in
         record {
-          payloads = subst (λ (b : Book). IfSome (told new) (λ ps. ps ≡ spellings (reverse b.log))) (sym runs.book) (told_more (told old) (told new) before.log _ right.few was.payloads keeps.payloads);
+          payloads = subst (λ (b : Book). IfSome (members.told new) (λ ps. ps ≡ spellings (reverse b.log))) (sym runs.book) (told_more (members.told old) (members.told new) before.log _ right.few was.payloads keeps.payloads);
           number = number;
           fallen = keeps.up;
           later = omega arith;
@@ -97,15 +98,15 @@ module _ {K : Type 0} (told : K → Option (List (List ℕ))) (kept : K → ℕ)
           counted = tt;
         }
     in_step (Err NotKept) runs keeps =
-        let later : began ≤ faults old = was.later in
-        let more : faults old ≤ faults new = keeps.later in
+        let later : began ≤ members.faults old = was.later in
+        let more : members.faults old ≤ members.faults new = keeps.later in
         record {
-          payloads = subst (λ (l : List LogEntry). IfSome (told new) (λ ps. ps ≡ spellings (reverse l))) (sym runs.log) (told_same (told old) (told new) before.log was.payloads keeps.payloads);
+          payloads = subst (λ (l : List LogEntry). IfSome (members.told new) (λ ps. ps ≡ spellings (reverse l))) (sym runs.log) (told_same (members.told old) (members.told new) before.log was.payloads keeps.payloads);
           number = number;
           fallen = keeps.fallen;
           later = omega arith;
-          rose = rose_since began (faults old) (faults new) was.later keeps.rose;
-          counted = (rose_since began (faults old) (faults new) was.later keeps.rose, le_refl (faults new));
+          rose = rose_since began (members.faults old) (members.faults new) was.later keeps.rose;
+          counted = (rose_since began (members.faults old) (members.faults new) was.later keeps.rose, le_refl (members.faults new));
         }
     in_step (Err (Failed failures.NoMemory)) runs keeps = stayed runs.log keeps
     in_step (Err (Failed (failures.Refused why))) runs keeps = stayed (ap (λ (b : Book). b.log) runs.1.book ∙ ap (λ (l : List LogEntry). l ++ before.log) (right.none _ runs.1.said)) keeps

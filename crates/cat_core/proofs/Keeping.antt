@@ -1,5 +1,6 @@
 -- What calls do to what keeps the log, by what was told.
 use Rattle.std.proofs.Common.{◌≡◌, ℕ, List, Option, Some, None, Result, Ok, Err, true, false, refl, subst}
+use Rattle.cat_keeper.specs.declared.keeper.Keeper.{Ghosts}
 use Rattle.cat_model.specs.declared.log_entry.LogEntry.{LogEntry}
 use Rattle.cat_model.specs.declared.refusal.Refusal.{Refusal}
 use Rattle.cat_model.specs.declared.refusal.Refusal.TheVariants.{Fault}
@@ -19,18 +20,18 @@ use Rattle.cat_core.specs.Made.{told_at}
 pub not_fault : (why : Refusal) → IsOther why → why ≡ Fault → ⊥
 not_fault why other is = let no : false ≡ true = subst (λ (w : Refusal). is_other w ≡ true) is other in cc
 
-module _ {K : Type 0} (told : K → Option (List (List ℕ))) (kept : K → ℕ) (down : K → Option ℕ) (in_flight : K → Option (List ℕ)) (faults : K → ℕ) (moment : K → ℕ) (left_since : K → ℕ → Option (List (List ℕ)) → Type 0) (may_leave : K → Option (List (List ℕ)) → Type 0)
-    (safe : (k : K) (ps : List (List ℕ)) (c : Option (List (List ℕ))) → down k ≡ None → told k ≡ Some ps → may_leave k c → c ≡ Some ps)
-    (only_now : (k : K) (c : Option (List (List ℕ))) → left_since k (moment k) c → may_leave k c) where
+module _ {K : Type 0} (members : Ghosts K)
+    (safe : (k : K) (ps : List (List ℕ)) (c : Option (List (List ℕ))) → members.down k ≡ None → members.told k ≡ Some ps → members.may_leave k c → c ≡ Some ps)
+    (only_now : (k : K) (c : Option (List (List ℕ))) → members.left_since k (members.moment k) c → members.may_leave k c) where
   -- what was told
-  pub keeps_told : (old new : K) (called : Called) (before after : Book) (place : ℕ) (made : Result Told Unmade) → Runs called before after made → Keeps told kept down in_flight faults moment left_since may_leave old new called.logged made
-      → KeepsTold told kept down in_flight faults moment left_since may_leave old new called.logged (told_at place made)
+  pub keeps_told : (old new : K) (called : Called) (before after : Book) (place : ℕ) (made : Result Told Unmade) → Runs called before after made → Keeps members old new called.logged made
+      → KeepsTold members old new called.logged (told_at place made)
   keeps_told old new called before after place (Ok told_is) runs keeps = record { done = keeps; fault = tt; other = tt }
   keeps_told old new called before after place (Err NotKept) runs keeps = record { done = tt; fault = λ is. keeps; other = λ no. absurd (no refl) }
   keeps_told old new called before after place (Err (Failed failures.NoMemory)) runs keeps = record { done = tt; fault = λ is. absurd cc; other = λ no. keeps }
   keeps_told old new called before after place (Err (Failed (failures.Refused why))) runs keeps = record { done = tt; fault = λ is. absurd (not_fault why runs.0 is); other = λ no. keeps }
 
-  pub leaves_made : {T : Type 0} (old new : K) (logged : List LogEntry) (result : Result T Unmade) → down old ≡ None → Keeps told kept down in_flight faults moment left_since may_leave old new logged result → Leaves told moment left_since may_leave old new logged
+  pub leaves_made : {T : Type 0} (old new : K) (logged : List LogEntry) (result : Result T Unmade) → members.down old ≡ None → Keeps members old new logged result → Leaves members old new logged
   leaves_made old new logged (Ok x) up keeps = keeps.crash
   leaves_made old new logged (Err NotKept) up keeps = keeps.crash
-  leaves_made old new logged (Err (Failed failure)) up keeps = leaves_any told kept down in_flight faults moment left_since may_leave safe only_now old new logged up keeps.crash
+  leaves_made old new logged (Err (Failed failure)) up keeps = leaves_any members safe only_now old new logged up keeps.crash

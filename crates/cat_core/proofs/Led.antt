@@ -5,6 +5,7 @@ use Rattle.std.specs.Result.{IsErrOf}
 use Rattle.sha2.specs.Sha256.{sha256}
 use Rattle.cat_io.specs.Causes.{Rose}
 use Rattle.cat_io.specs.Crashes as crashes
+use Rattle.cat_keeper.specs.declared.keeper.Keeper.{Ghosts}
 use Rattle.cat_keeper.specs.Moments.{followed, started}
 use Rattle.cat_checks.specs.Legal.{replayed}
 use Rattle.cat_model.specs.declared.limits.Limits.{Limits}
@@ -90,41 +91,41 @@ same_told None (Some y) same = absurd same
 same_told (Some x) None same = absurd same
 same_told {A} (Some x) (Some y) same = ap (λ (z : A). Some z) same
 
-module _ {K : Type 0} (told : K → Option (List (List ℕ))) (kept : K → ℕ) (down : K → Option ℕ) (in_flight : K → Option (List ℕ)) (faults : K → ℕ) (moment : K → ℕ) (left_since : K → ℕ → Option (List (List ℕ)) → Type 0) (may_leave : K → Option (List (List ℕ)) → Type 0) where
+module _ {K : Type 0} (members : Ghosts K) where
   -- where nothing was done
-  pub stays_still : ((k : K) (c : Option (List (List ℕ))) → left_since k (moment k) c → may_leave k c) → (k : K) → Stayed told kept down in_flight faults moment left_since may_leave k k
-  stays_still only_now k = record { payloads = refl; number = refl; fallen = refl; flies = refl; later = omega arith; crash = started moment left_since k (may_leave k) (only_now k) }
+  pub stays_still : ((k : K) (c : Option (List (List ℕ))) → members.left_since k (members.moment k) c → members.may_leave k c) → (k : K) → Stayed members k k
+  stays_still only_now k = record { payloads = refl; number = refl; fallen = refl; flies = refl; later = omega arith; crash = started members.moment members.left_since k (members.may_leave k) (only_now k) }
 
   -- after one more that changed nothing
-  pub stays_on : ((k : K) (t : ℕ) (c : Option (List (List ℕ))) → t ≤ moment k → may_leave k c → left_since k t c) → (old mid new : K)
-      → Stayed told kept down in_flight faults moment left_since may_leave old mid → Stayed told kept down in_flight faults moment left_since may_leave mid new → Stayed told kept down in_flight faults moment left_since may_leave old new
+  pub stays_on : ((k : K) (t : ℕ) (c : Option (List (List ℕ))) → t ≤ members.moment k → members.may_leave k c → members.left_since k t c) → (old mid new : K)
+      → Stayed members old mid → Stayed members mid new → Stayed members old new
   stays_on counts_now old mid new one two = record {
     payloads = two.payloads ∙ one.payloads;
     number = two.number ∙ one.number;
     fallen = two.fallen ∙ one.fallen;
     flies = two.flies ∙ one.flies;
     later = omega (arith, one.later, two.later);
-    crash = followed moment left_since old mid new (may_leave old) (may_leave mid) (may_leave old) one.crash two.crash (λ c now. now) (λ c now. one.crash.each c (counts_now mid (moment old) c one.crash.later now));
+    crash = followed members.moment members.left_since old mid new (members.may_leave old) (members.may_leave mid) (members.may_leave old) one.crash two.crash (λ c now. now) (λ c now. one.crash.each c (counts_now mid (members.moment old) c one.crash.later now));
   }
 
   -- a fault after calls that changed nothing
-  pub rose_on : (old mid new : K) → Stayed told kept down in_flight faults moment left_since may_leave old mid → Rose (faults mid) (faults new) → Rose (faults old) (faults new)
+  pub rose_on : (old mid new : K) → Stayed members old mid → Rose (members.faults mid) (members.faults new) → Rose (members.faults old) (members.faults new)
   rose_on old mid new one rose = omega (arith, one.later, rose)
 
-  module _ (counted : (k : K) (ps : List (List ℕ)) → told k ≡ Some ps → length ps ≡ kept k) (old now : K) (stayed : Stayed told kept down in_flight faults moment left_since may_leave old now) (limits : Limits) (i : ℕ) (there : i < kept old)
-      (before : Book) (so_far : IsLedSoFar (told old) limits i before) where
-    as_before : (payload : List ℕ) → IsPayloadAt (told now) i payload → IsPayloadAt (told old) i payload
+  module _ (counted : (k : K) (ps : List (List ℕ)) → members.told k ≡ Some ps → length ps ≡ members.kept k) (old now : K) (stayed : Stayed members old now) (limits : Limits) (i : ℕ) (there : i < members.kept old)
+      (before : Book) (so_far : IsLedSoFar (members.told old) limits i before) where
+    as_before : (payload : List ℕ) → IsPayloadAt (members.told now) i payload → IsPayloadAt (members.told old) i payload
     as_before payload is = subst (λ (t : Option (List (List ℕ))). IsPayloadAt t i payload) stayed.payloads is
 
     -- the next of its payloads was added
-    pub next_added : (after : Book) → (payload : List ℕ) × IsPayloadAt (told now) i payload × IsAdded before after payload → IsLedSoFar (told old) limits (i + 1) after
-    next_added after one = one_more (told old) limits i (kept old) (counted old) there before one.0 so_far (as_before one.0 one.1) after one.2
+    pub next_added : (after : Book) → (payload : List ℕ) × IsPayloadAt (members.told now) i payload × IsAdded before after payload → IsLedSoFar (members.told old) limits (i + 1) after
+    next_added after one = one_more (members.told old) limits i (members.kept old) (counted old) there before one.0 so_far (as_before one.0 one.1) after one.2
 
     -- the next of its payloads leads to no book
-    pub next_refused : (place : ℕ) → (place ≡ i + 1) × ((payload : List ℕ) × IsPayloadAt (told now) i payload × (next_by before payload ≡ None)) → IsIllegalAt (told old) limits place
-    next_refused place one = illegal_here (told old) limits i (kept old) (counted old) there before one.1.0 so_far (as_before one.1.0 one.1.1) place one.0 one.1.2
+    pub next_refused : (place : ℕ) → (place ≡ i + 1) × ((payload : List ℕ) × IsPayloadAt (members.told now) i payload × (next_by before payload ≡ None)) → IsIllegalAt (members.told old) limits place
+    next_refused place one = illegal_here (members.told old) limits i (members.kept old) (counted old) there before one.1.0 so_far (as_before one.1.0 one.1.1) place one.0 one.1.2
 
   -- the keeper has the log that its payloads led to
-  pub opened_payloads : (old new : K) (limits : Limits) (book : Book) → IsLedTo (told old) (kept old) limits book → Stayed told kept down in_flight faults moment left_since may_leave old new → IfSome (told new) (λ ps. ps ≡ spellings (reverse book.log))
+  pub opened_payloads : (old new : K) (limits : Limits) (book : Book) → IsLedTo (members.told old) (members.kept old) limits book → Stayed members old new → IfSome (members.told new) (λ ps. ps ≡ spellings (reverse book.log))
   opened_payloads old new limits book led stayed = subst (λ (t : Option (List (List ℕ))). IfSome t (λ ps. ps ≡ spellings (reverse book.log))) (sym stayed.payloads)
-      (if_told (told old) _ (λ ps here. told_if (told old) (λ ps. ps ≡ led.payloads) ps here led.are ∙ led.spelled))
+      (if_told (members.told old) _ (λ ps here. told_if (members.told old) (λ ps. ps ≡ led.payloads) ps here led.are ∙ led.spelled))

@@ -3,6 +3,7 @@ use Rattle.std.proofs.Common.{◌≡◌, ◌≤◌, ℕ, arith, List, [], ◌++�
 use Rattle.std.specs.Option.{option_map}
 use Rattle.std.specs.Prelude.{IfSome}
 use Rattle.cat_io.specs.Causes.{Rose}
+use Rattle.cat_keeper.specs.declared.keeper.Keeper.{Ghosts}
 use Rattle.cat_model.specs.declared.log_entry.LogEntry.{LogEntry}
 use Rattle.cat_model.specs.declared.refusal.Refusal.{Refusal}
 use Rattle.cat_model.specs.declared.refusal.Refusal.TheVariants.{BadRequest, RefNotFound, RefExists, ContentNotFound, Conflicts, Expired, RetriesSpent, SweepOpen, Limit, Collision, Fault, Down, NoMemory, NoRoute, WrongMethod, TooLarge, Encoding}
@@ -109,12 +110,12 @@ counted_at began now (Some f) (Some payload) counted x is = let same : f.count �
 
 -- ---- calls
 
-module _ {K : Type 0} (told : K → Option (List (List ℕ))) (kept : K → ℕ) (down : K → Option ℕ) (in_flight : K → Option (List ℕ)) (faults : K → ℕ) (moment : K → ℕ) (left_since : K → ℕ → Option (List (List ℕ)) → Type 0) (may_leave : K → Option (List (List ℕ)) → Type 0)
-    (safe : (k : K) (ps : List (List ℕ)) (c : Option (List (List ℕ))) → down k ≡ None → told k ≡ Some ps → may_leave k c → c ≡ Some ps)
-    (only_now : (k : K) (c : Option (List (List ℕ))) → left_since k (moment k) c → may_leave k c) where
+module _ {K : Type 0} (members : Ghosts K)
+    (safe : (k : K) (ps : List (List ℕ)) (c : Option (List (List ℕ))) → members.down k ≡ None → members.told k ≡ Some ps → members.may_leave k c → c ≡ Some ps)
+    (only_now : (k : K) (c : Option (List (List ℕ))) → members.left_since k (members.moment k) c → members.may_leave k c) where
   -- a store as it is held
   abbrev pub stored_at : Book → K → Option Fallen → ℕ → Option Ticket → List OpenDraft → ℕ → Stored K
-  stored_at book keeper fallen drafter dropped held began = record { book = book; keeper = keeper; mark = held_mark book.draft drafter dropped (failed fallen (in_flight keeper)); left_open = held_open held; began = began }
+  stored_at book keeper fallen drafter dropped held began = record { book = book; keeper = keeper; mark = held_mark book.draft drafter dropped (failed fallen (members.in_flight keeper)); left_open = held_open held; began = began }
 
   module _ (caller : ℕ) (before after : Book) (old new : K) (drafter : ℕ) (dropped : Option Ticket) (held : List OpenDraft) (began : ℕ) (call : Book → Called) (right : LogsRight (call before)) (number : ℕ) (is : IsCallIn caller number before (call before)) where
     abbrev called : Called
@@ -138,19 +139,19 @@ module _ {K : Type 0} (told : K → Option (List (List ℕ))) (kept : K → ℕ)
     as_before : after.state ≡ before.state → after.log ≡ before.log → after.draft ≡ before.draft → after ≡ before
     as_before state log draft = λ i. record { state = state i; draft = draft i; log = log i }
 
-    falls_as : (payload : List ℕ) → in_flight new ≡ Some payload → after ≡ before
-        → left (Some (record { caller = caller; count = faults new })) ≡ record s { keeper = new; mark = record (s.mark) { fault = Some (record { caller = caller; count = faults new; payload = payload }) }; left_open = s.left_open }
-    falls_as payload flies same = λ i. record { book = same i; keeper = new; mark = held_mark (same i).draft drafter dropped (failed (Some (record { caller = caller; count = faults new })) (flies i)); left_open = held_open held; began = began }
+    falls_as : (payload : List ℕ) → members.in_flight new ≡ Some payload → after ≡ before
+        → left (Some (record { caller = caller; count = members.faults new })) ≡ record s { keeper = new; mark = record (s.mark) { fault = Some (record { caller = caller; count = members.faults new; payload = payload }) }; left_open = s.left_open }
+    falls_as payload flies same = λ i. record { book = same i; keeper = new; mark = held_mark (same i).draft drafter dropped (failed (Some (record { caller = caller; count = members.faults new })) (flies i)); left_open = held_open held; began = began }
 
-    refers_as : (made : Result Told Unmade) → Runs called before after made → Keeps told kept down in_flight faults moment left_since may_leave old new called.logged made → IfErr made (λ why. unmade_expired why ≡ false)
-        → Refers called caller s (left (fallen_by caller (faults new) None made)) (told_at before.state.place made)
+    refers_as : (made : Result Told Unmade) → Runs called before after made → Keeps members old new called.logged made → IfErr made (λ why. unmade_expired why ≡ false)
+        → Refers called caller s (left (fallen_by caller (members.faults new) None made)) (told_at before.state.place made)
     refers_as (Ok told_is) runs keeps there = record { up = refl; said = runs.said; after = goes_as runs.book }
     refers_as (Err NotKept) runs keeps there = record {
       up = refl;
       place = refl;
       entry = keeps.entry;
       logged = keeps.one;
-      fault = record { caller = caller; count = faults new; payload = spelling keeps.entry };
+      fault = record { caller = caller; count = members.faults new; payload = spelling keeps.entry };
       caller_is = refl;
       payload = refl;
       after = falls_as (spelling keeps.entry) keeps.flies (as_before runs.state runs.log (runs.draft ∙ is.draft));
@@ -168,20 +169,20 @@ module _ {K : Type 0} (told : K → Option (List (List ℕ))) (kept : K → ℕ)
         refuses called caller s _ (left None) s.left_open why runs.0 there (record { up = refl; said = runs.1.said; none = none; after = stays_as (as_before state log draft) })
 
     -- all that is told
-    pub all_told : (fallen after_fallen : Option Fallen) (x y : Stored K) (place : ℕ) (made : Result Told Unmade) (result : Result Told Refused) → fallen ≡ None → after_fallen ≡ fallen_by caller (faults new) fallen made
-        → stored_at before old fallen drafter dropped held began ≡ x → left after_fallen ≡ y → place ≡ before.state.place → result ≡ told_at place made → down old ≡ None
-        → Runs called before after made → Keeps told kept down in_flight faults moment left_since may_leave old new called.logged made → IfErr made (λ why. unmade_expired why ≡ false)
-        → IsTold told kept down in_flight faults moment left_since may_leave caller x y (call x.book) result
+    pub all_told : (fallen after_fallen : Option Fallen) (x y : Stored K) (place : ℕ) (made : Result Told Unmade) (result : Result Told Refused) → fallen ≡ None → after_fallen ≡ fallen_by caller (members.faults new) fallen made
+        → stored_at before old fallen drafter dropped held began ≡ x → left after_fallen ≡ y → place ≡ before.state.place → result ≡ told_at place made → members.down old ≡ None
+        → Runs called before after made → Keeps members old new called.logged made → IfErr made (λ why. unmade_expired why ≡ false)
+        → IsTold members caller x y (call x.book) result
     all_told fallen after_fallen x y place made result none fell x_is y_is place_is result_is up runs keeps there =
-        let ended : Stored K = left (fallen_by caller (faults new) None made) in
-        let whole : IsTold told kept down in_flight faults moment left_since may_leave caller s ended (call before) (told_at before.state.place made) = record {
+        let ended : Stored K = left (fallen_by caller (members.faults new) None made) in
+        let whole : IsTold members caller s ended (call before) (told_at before.state.place made) = record {
           refers = refers_as made runs keeps there;
-          keeps = keeps_told told kept down in_flight faults moment left_since may_leave safe only_now old new called before after before.state.place made runs keeps;
-          crash = leaves_made told kept down in_flight faults moment left_since may_leave safe only_now old new called.logged made up keeps;
+          keeps = keeps_told members safe only_now old new called before after before.state.place made runs keeps;
+          crash = leaves_made members safe only_now old new called.logged made up keeps;
         } in
         let answer : told_at before.state.place made ≡ result = ap (λ (p : ℕ). told_at p made) (sym place_is) ∙ sym result_is in
-        let last : ended ≡ y = ap left (sym (fell ∙ ap (λ (f : Option Fallen). fallen_by caller (faults new) f made) none)) ∙ y_is in
+        let last : ended ≡ y = ap left (sym (fell ∙ ap (λ (f : Option Fallen). fallen_by caller (members.faults new) f made) none)) ∙ y_is in
         let first : s ≡ x = ap (λ (f : Option Fallen). stored_at before old f drafter dropped held began) (sym none) ∙ x_is in
-        subst (λ (z : Stored K). IsTold told kept down in_flight faults moment left_since may_leave caller z y (call z.book) result) first
-        (subst (λ (z : Stored K). IsTold told kept down in_flight faults moment left_since may_leave caller s z (call before) result) last
-        (subst (λ (r : Result Told Refused). IsTold told kept down in_flight faults moment left_since may_leave caller s ended (call before) r) answer whole))
+        subst (λ (z : Stored K). IsTold members caller z y (call z.book) result) first
+        (subst (λ (z : Stored K). IsTold members caller s z (call before) result) last
+        (subst (λ (r : Result Told Refused). IsTold members caller s ended (call before) r) answer whole))

@@ -1,6 +1,7 @@
 -- What settling a draft comes to, by how far it gets.
 use Rattle.std.proofs.Common.{◌≡◌, ℕ, List, [], Option, Some, None, Result, Ok, Err, true, false, refl, sym, ap, ◌∙◌, subst}
 use Rattle.sha2.specs.Sha256.{sha256}
+use Rattle.cat_keeper.specs.declared.keeper.Keeper.{Ghosts}
 use Rattle.cat_names.specs.declared.hash.Hash.{Hash}
 use Rattle.cat_model.specs.declared.command.Command.{Command}
 use Rattle.cat_model.specs.declared.log_entry.LogEntry.{LogEntry}
@@ -117,19 +118,19 @@ up_not_down s count up down = up_of down.0 (sym up ∙ down.1)
 err_not_ok : (t : Tested) (why : Refusal) → t ≡ Err why → t ≡ Ok tt → ⊥
 err_not_ok t why e o = cc
 
-module _ {K : Type 0} (told : K → Option (List (List ℕ))) (kept : K → ℕ) (down : K → Option ℕ) (in_flight : K → Option (List ℕ)) (faults : K → ℕ) (moment : K → ℕ) (left_since : K → ℕ → Option (List (List ℕ)) → Type 0) (may_leave : K → Option (List (List ℕ)) → Type 0)
-    (safe : (k : K) (ps : List (List ℕ)) (c : Option (List (List ℕ))) → down k ≡ None → told k ≡ Some ps → may_leave k c → c ≡ Some ps)
-    (only_now : (k : K) (c : Option (List (List ℕ))) → left_since k (moment k) c → may_leave k c) where
+module _ {K : Type 0} (members : Ghosts K)
+    (safe : (k : K) (ps : List (List ℕ)) (c : Option (List (List ℕ))) → members.down k ≡ None → members.told k ≡ Some ps → members.may_leave k c → c ≡ Some ps)
+    (only_now : (k : K) (c : Option (List (List ℕ))) → members.left_since k (members.moment k) c → members.may_leave k c) where
   -- the keeper wasn't touched
-  still : (k k' : K) → k' ≡ k → Stayed told kept down in_flight faults moment left_since may_leave k k'
-  still k k' same = subst (λ (x : K). Stayed told kept down in_flight faults moment left_since may_leave k x) (sym same) (stays told kept down in_flight faults moment left_since may_leave safe only_now k)
+  still : (k k' : K) → k' ≡ k → Stayed members k k'
+  still k k' same = subst (λ (x : K). Stayed members k x) (sym same) (stays members safe only_now k)
 
-  still_leaves : (k k' : K) (logged : List LogEntry) → k' ≡ k → down k ≡ None → Leaves told moment left_since may_leave k k' logged
-  still_leaves k k' logged same up = leaves_any told kept down in_flight faults moment left_since may_leave safe only_now k k' logged up (still k k' same).crash
+  still_leaves : (k k' : K) (logged : List LogEntry) → k' ≡ k → members.down k ≡ None → Leaves members k k' logged
+  still_leaves k k' logged same up = leaves_any members safe only_now k k' logged up (still k k' same).crash
 
-  module _ (s s' : Stored K) (d : Draft) (built : Built) (at : ℕ) (is_up : IsUp s → down s.keeper ≡ None) where
+  module _ (s s' : Stored K) (d : Draft) (built : Built) (at : ℕ) (is_up : IsUp s → members.down s.keeper ≡ None) where
     abbrev It : Settled → Type 0
-    It result = IsSettled told kept down in_flight faults moment left_since may_leave s s' d built at result
+    It result = IsSettled members s s' d built at result
 
     abbrev called : Called
     called = called_in s d at
@@ -140,7 +141,7 @@ module _ {K : Type 0} (told : K → Option (List (List ℕ))) (kept : K → ℕ)
     same_as : s' ≡ record s { left_open = closed s d } → s' ≡ record s { keeper = s'.keeper; left_open = closed s d }
     same_as left = left ∙ ap (λ (k : K). record s { keeper = k; left_open = closed s d }) (sym (keeper_same left))
 
-    crash_same : s'.keeper ≡ s.keeper → IsUp s → Leaves told moment left_since may_leave s.keeper s'.keeper called.logged
+    crash_same : s'.keeper ≡ s.keeper → IsUp s → Leaves members s.keeper s'.keeper called.logged
     crash_same same up = still_leaves s.keeper s'.keeper called.logged same (is_up up)
 
     -- an append had failed
@@ -184,10 +185,10 @@ module _ {K : Type 0} (told : K → Option (List (List ℕ))) (kept : K → ℕ)
 
     -- the call is made
     pub settled_told : (shut : Stored K) (result : Result Told Refused) → IsOn s d built → shut ≡ record s { left_open = closed s d }
-        → IsTold told kept down in_flight faults moment left_since may_leave d.caller shut s' (attempt_on sha256 shut.book (in_draft d.caller at d.number) (command_in d)) result → It (settled_as result)
+        → IsTold members d.caller shut s' (attempt_on sha256 shut.book (in_draft d.caller at d.number) (command_in d)) result → It (settled_as result)
     settled_told shut result on left is =
-        by result (subst (λ (x : Stored K). IsTold told kept down in_flight faults moment left_since may_leave d.caller x s' (attempt_on sha256 x.book (in_draft d.caller at d.number) (command_in d)) result) left is)
+        by result (subst (λ (x : Stored K). IsTold members d.caller x s' (attempt_on sha256 x.book (in_draft d.caller at d.number) (command_in d)) result) left is)
       where
-        by : (result : Result Told Refused) → IsTold told kept down in_flight faults moment left_since may_leave d.caller (record s { left_open = closed s d }) s' called result → It (settled_as result)
+        by : (result : Result Told Refused) → IsTold members d.caller (record s { left_open = closed s d }) s' called result → It (settled_as result)
         by (Ok x) is = record { settles = (on, record { up = is.refers.up; said = is.refers.said; after = is.refers.after }); keeps = λ u. is.keeps; crash = λ u. is.crash }
         by (Err r) is = record { settles = (λ u p no. on, refused_on s called d.caller r s' (closed s d) r.why is.refers); keeps = λ u. is.keeps; crash = λ u. is.crash }

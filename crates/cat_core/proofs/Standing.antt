@@ -1,5 +1,6 @@
 -- What holds of a store holds of it after a call.
 use Rattle.std.proofs.Common.{◌≡◌, ◌≤◌, ℕ, arith, List, Option, None, Result, Ok, Err, sym, ap, subst, ◌∙◌}
+use Rattle.cat_keeper.specs.declared.keeper.Keeper.{Ghosts}
 use Rattle.cat_model.specs.declared.reply.Told.{Told}
 use Rattle.cat_model.specs.Book.{Book}
 use Rattle.cat_model.specs.Calls.{Called}
@@ -33,14 +34,14 @@ sound_made caller number before after faults open_drafts called (Err (Failed fai
 sound_made caller number before after faults open_drafts called (Err (Failed (failures.Refused why))) runs is below sound none =
     subst (λ (b : Book). IsSound b faults open_drafts) (sym runs.1.book) (sound_called caller number before faults open_drafts open_drafts sound below sound.waiting none called is)
 
-module _ {K : Type 0} (told : K → Option (List (List ℕ))) (kept : K → ℕ) (down : K → Option ℕ) (in_flight : K → Option (List ℕ)) (faults : K → ℕ) (moment : K → ℕ) (left_since : K → ℕ → Option (List (List ℕ)) → Type 0) (may_leave : K → Option (List (List ℕ)) → Type 0) where
+module _ {K : Type 0} (members : Ghosts K) where
   -- and the keeper is in step
   pub stands : (old new : K) (caller number : ℕ) (called : Called) (before after : Book) (began : ℕ) (open_drafts : List OpenDraft) (fallen after_fallen : Option Fallen) (made : Result Told Unmade) → LogsRight called → IsCallIn caller number before called → number ≤ before.draft → IsNumberOfNone number open_drafts
-      → fallen ≡ None → after_fallen ≡ fallen_by caller (faults new) fallen made → kept new ≡ after.state.place → Runs called before after made → Keeps told kept down in_flight faults moment left_since may_leave old new called.logged made
-      → IsInStep told kept down faults before old fallen began × IsSound before began open_drafts → IsInStep told kept down faults after new after_fallen began × IsSound after began open_drafts
+      → fallen ≡ None → after_fallen ≡ fallen_by caller (members.faults new) fallen made → members.kept new ≡ after.state.place → Runs called before after made → Keeps members old new called.logged made
+      → IsInStep members before old fallen began × IsSound before began open_drafts → IsInStep members after new after_fallen began × IsSound after began open_drafts
   stands old new caller number called before after began open_drafts fallen after_fallen made right is below no_number none fell number_is runs keeps was =
-      let was_up : IsInStep told kept down faults before old None began = subst (λ (f : Option Fallen). IsInStep told kept down faults before old f began) none was.0 in
-      let now : IsInStep told kept down faults after new (fallen_by caller (faults new) None made) began = in_step told kept down in_flight faults moment left_since may_leave old new caller called before after began right was_up number_is made runs keeps in (
-        subst (λ (f : Option Fallen). IsInStep told kept down faults after new f began) (sym (fell ∙ ap (λ (f : Option Fallen). fallen_by caller (faults new) f made) none)) now,
+      let was_up : IsInStep members before old None began = subst (λ (f : Option Fallen). IsInStep members before old f began) none was.0 in
+      let now : IsInStep members after new (fallen_by caller (members.faults new) None made) began = in_step members old new caller called before after began right was_up number_is made runs keeps in (
+        subst (λ (f : Option Fallen). IsInStep members after new f began) (sym (fell ∙ ap (λ (f : Option Fallen). fallen_by caller (members.faults new) f made) none)) now,
         sound_made caller number before after began open_drafts called made runs is below was.1 no_number,
       )

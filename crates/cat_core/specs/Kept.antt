@@ -1,5 +1,6 @@
 -- What a call does to what keeps the log, by what was told.
 use Rattle.std.specs.Prelude.{◌≡◌, ℕ, List, Option, Result, Ok, Err, IfErr, OnOk}
+use Rattle.cat_keeper.specs.declared.keeper.Keeper.{Ghosts}
 use Rattle.cat_model.specs.Calls.{Called}
 use Rattle.cat_model.specs.declared.log_entry.LogEntry.{LogEntry}
 use Rattle.cat_model.specs.declared.refusal.Refusal.TheVariants.{Fault}
@@ -14,25 +15,25 @@ use Rattle.cat_core.specs.Drafts.{Refers, Settles, called_in}
 use Rattle.cat_core.specs.Stored.{IsUp, Stored}
 
 -- what a call that brings these entries did: where the refusal is for a fault, the entry fell
-pub record KeepsTold {K : Type 0} (told : K → Option (List (List ℕ))) (kept : K → ℕ) (down : K → Option ℕ) (in_flight : K → Option (List ℕ)) (faults : K → ℕ) (moment : K → ℕ) (left_since : K → ℕ → Option (List (List ℕ)) → Type 0) (may_leave : K → Option (List (List ℕ)) → Type 0) (old new : K) (logged : List LogEntry) (result : Result Told Refused) : Type 0 where
-  pub done : OnOk result (Grew told kept down in_flight faults moment left_since may_leave old new logged)
-  pub fault : IfErr result (λ refused. refused.why ≡ Fault → Fell told kept down in_flight faults moment left_since may_leave old new logged)
-  pub other : IfErr result (λ refused. (refused.why ≡ Fault → ⊥) → Stayed told kept down in_flight faults moment left_since may_leave old new)
+pub record KeepsTold {K : Type 0} (members : Ghosts K) (old new : K) (logged : List LogEntry) (result : Result Told Refused) : Type 0 where
+  pub done : OnOk result (Grew members old new logged)
+  pub fault : IfErr result (λ refused. refused.why ≡ Fault → Fell members old new logged)
+  pub other : IfErr result (λ refused. (refused.why ≡ Fault → ⊥) → Stayed members old new)
 
 -- what settling did
-abbrev pub KeepsSettled : {K : Type 0} → (K → Option (List (List ℕ))) → (K → ℕ) → (K → Option ℕ) → (K → Option (List ℕ)) → (K → ℕ) → (K → ℕ) → (K → ℕ → Option (List (List ℕ)) → Type 0) → (K → Option (List (List ℕ)) → Type 0) → K → K → List LogEntry → Settled → Type 0
-KeepsSettled told kept down in_flight faults moment left_since may_leave old new logged (settled.Done x) = KeepsTold told kept down in_flight faults moment left_since may_leave old new logged (Ok x)
-KeepsSettled told kept down in_flight faults moment left_since may_leave old new logged (settled.Refused r) = KeepsTold told kept down in_flight faults moment left_since may_leave old new logged (Err r)
-KeepsSettled told kept down in_flight faults moment left_since may_leave old new logged (settled.Moved d view) = Stayed told kept down in_flight faults moment left_since may_leave old new
+abbrev pub KeepsSettled : {K : Type 0} → Ghosts K → K → K → List LogEntry → Settled → Type 0
+KeepsSettled members old new logged (settled.Done x) = KeepsTold members old new logged (Ok x)
+KeepsSettled members old new logged (settled.Refused r) = KeepsTold members old new logged (Err r)
+KeepsSettled members old new logged (settled.Moved d view) = Stayed members old new
 
 -- all that is told of a call of a store that is up
-pub record IsTold {K : Type 0} (told : K → Option (List (List ℕ))) (kept : K → ℕ) (down : K → Option ℕ) (in_flight : K → Option (List ℕ)) (faults : K → ℕ) (moment : K → ℕ) (left_since : K → ℕ → Option (List (List ℕ)) → Type 0) (may_leave : K → Option (List (List ℕ)) → Type 0) (caller : ℕ) (s s' : Stored K) (called : Called) (result : Result Told Refused) : Type 0 where
+pub record IsTold {K : Type 0} (members : Ghosts K) (caller : ℕ) (s s' : Stored K) (called : Called) (result : Result Told Refused) : Type 0 where
   pub refers : Refers called caller s s' result
-  pub keeps : KeepsTold told kept down in_flight faults moment left_since may_leave s.keeper s'.keeper called.logged result
-  pub crash : Leaves told moment left_since may_leave s.keeper s'.keeper called.logged
+  pub keeps : KeepsTold members s.keeper s'.keeper called.logged result
+  pub crash : Leaves members s.keeper s'.keeper called.logged
 
 -- all that is told of settling a draft
-pub record IsSettled {K : Type 0} (told : K → Option (List (List ℕ))) (kept : K → ℕ) (down : K → Option ℕ) (in_flight : K → Option (List ℕ)) (faults : K → ℕ) (moment : K → ℕ) (left_since : K → ℕ → Option (List (List ℕ)) → Type 0) (may_leave : K → Option (List (List ℕ)) → Type 0) (s s' : Stored K) (d : Draft) (built : Built) (at : ℕ) (result : Settled) : Type 0 where
+pub record IsSettled {K : Type 0} (members : Ghosts K) (s s' : Stored K) (d : Draft) (built : Built) (at : ℕ) (result : Settled) : Type 0 where
   pub settles : Settles s d built at result s'
-  pub keeps : IsUp s → KeepsSettled told kept down in_flight faults moment left_since may_leave s.keeper s'.keeper (called_in s d at).logged result
-  pub crash : IsUp s → Leaves told moment left_since may_leave s.keeper s'.keeper (called_in s d at).logged
+  pub keeps : IsUp s → KeepsSettled members s.keeper s'.keeper (called_in s d at).logged result
+  pub crash : IsUp s → Leaves members s.keeper s'.keeper (called_in s d at).logged

@@ -6,6 +6,7 @@ use Rattle.cat_io.specs.Causes.{Rose}
 use Rattle.cat_checks.specs.Histories.{IsLegalFrom, book_at}
 use Rattle.cat_checks.specs.HistoryLaws.{AreAtMost}
 use Rattle.cat_checks.specs.Legal.{draft_is_new}
+use Rattle.cat_keeper.specs.declared.keeper.Keeper.{Ghosts}
 use Rattle.cat_model.specs.declared.log_entry.LogEntry.{LogEntry}
 use Rattle.cat_model.specs.Book.{Book}
 use Rattle.cat_model.specs.Drafts as drafts
@@ -80,13 +81,13 @@ held_open left_open = record { drafts = map draft_held left_open; sweep = None }
 -- ---- what holds of it
 
 -- the keeper has the entries of the log, the oldest first, as far as its payloads are told; and it is known at which count an append failed
-pub record IsInStep {K : Type 0} (told : K → Option (List (List ℕ))) (kept : K → ℕ) (down : K → Option ℕ) (faults : K → ℕ) (book : Book) (keeper : K) (fell : Option Fallen) (began : ℕ) : Type 0 where
-  pub payloads : IfSome (told keeper) (λ ps. ps ≡ spellings (reverse book.log))
-  pub number : kept keeper ≡ book.state.place
-  pub fallen : down keeper ≡ option_map (λ (f : Fallen). f.count) fell
-  pub later : began ≤ faults keeper
-  pub rose : IfSome fell (λ f. Rose began (faults keeper))
-  pub counted : IfSome fell (λ f. Rose began f.count × (f.count ≤ faults keeper))
+pub record IsInStep {K : Type 0} (members : Ghosts K) (book : Book) (keeper : K) (fell : Option Fallen) (began : ℕ) : Type 0 where
+  pub payloads : IfSome (members.told keeper) (λ ps. ps ≡ spellings (reverse book.log))
+  pub number : members.kept keeper ≡ book.state.place
+  pub fallen : members.down keeper ≡ option_map (λ (f : Fallen). f.count) fell
+  pub later : began ≤ members.faults keeper
+  pub rose : IfSome fell (λ f. Rose began (members.faults keeper))
+  pub counted : IfSome fell (λ f. Rose began f.count × (f.count ≤ members.faults keeper))
 
 -- none has the number
 abbrev pub IsNumberOfNone : ℕ → List drafts.OpenDraft → Type 0

@@ -59,7 +59,12 @@ impl<'a> Draft<'a> {
 
 /// The ticket of a draft.
 pub(crate) fn ticket_of(draft: &Draft<'_>) -> Ticket
-    ensures { result ≡ record { number = draft.now.number; caller = draft.now.caller; place = draft.now.place } }
+    ensures { result
+        ≡ record {
+          number = draft.now.number;
+          caller = draft.now.caller;
+          place = draft.now.place;
+        } }
 {
     Ticket {
         number: draft.number,

@@ -90,7 +90,8 @@ impl<K: Keeper> Store<K> {
         requires well_made { IsTrue (is_well_made sha256 command.now) }
         requires opens { opens_draft command.now ≡ true }
         ensures opened { IfOk result (λ t. IsOpening caller command.now self.old self.new t.0 t.1) }
-        ensures refused { IfErr result (λ r. (self.new ≡ self.old) × NotOpened self.old command.now r r.why) }
+        ensures refused { IfErr result
+            (λ r. (self.new ≡ self.old) × NotOpened self.old command.now r r.why) }
         ensures acts { Acts IsLegalFrom caller (snap self.old) (snap self.new) }
     {
         self.is_sound();
@@ -144,7 +145,8 @@ impl<K: Keeper> Store<K> {
     fn is_built_now(&self, call: &Call<'_>, built: &Built)
         requires opened { opening sha256 self.now.book.state (command_of call.now) ≡ Ok tt }
         requires head { HasHead self.now.book.state (command_of call.now) built.now.head }
-        requires built { (v : State) × IsLater v self.now.book.state × IsBuilt v call.now built.now }
+        requires built { (v : State) × IsLater v self.now.book.state
+            × IsBuilt v call.now built.now }
         ensures { IsBuilt self.now.book.state call.now built.now }
     {
         self.ledger.catalogue().commits_are_linked();
@@ -166,7 +168,9 @@ impl<K: Keeper> Store<K> {
         requires free { IsFree number self.old }
         requires opened { opening sha256 self.old.book.state (command_of call) ≡ Ok tt }
         requires built { IsBuilt self.old.book.state call built }
-        ensures { IsTold K.told K.kept K.down K.in_flight K.faults K.moment K.left_since K.may_leave caller self.old self.new (attempt_on sha256 self.old.book (in_draft caller moment number) (command_of call.entry)) result }
+        ensures { IsTold K.Keeper caller self.old self.new
+            (attempt_on sha256 self.old.book (in_draft caller moment number)
+            (command_of call.entry)) result }
     {
         let place = self.ledger.place();
         let made = self.ledger.settle(alloc, &mut self.keeper, caller, moment, number, call, built);
@@ -197,9 +201,10 @@ impl<K: Keeper> Store<K> {
     ) -> Settled<'a>
         requires well_made { IsTrue (is_well_made sha256 (command_in draft)) }
         requires given { IsGivenBy draft.number draft.call }
-        requires is_open { IsOpen (open_draft_of draft) (drafts_of draft.caller self.old.left_open.drafts) }
+        requires is_open { IsOpen (open_draft_of draft)
+            (drafts_of draft.caller self.old.left_open.drafts) }
         requires built { (v : State) × IsLater v self.old.book.state × IsBuilt v draft.call built }
-        ensures { IsSettled K.told K.kept K.down K.in_flight K.faults K.moment K.left_since K.may_leave self.old self.new draft.entry built moment result }
+        ensures { IsSettled K.Keeper self.old self.new draft.entry built moment result }
     {
         let place = self.ledger.place();
         if let Some(count) = self.down() {
@@ -237,12 +242,17 @@ impl<K: Keeper> Store<K> {
     ) -> Settled<'a>
         requires well_made { IsTrue (is_well_made sha256 (command_in draft)) }
         requires given { IsGivenBy draft.number draft.call }
-        requires is_open { IsOpen (open_draft_of draft) (drafts_of draft.caller self.old.left_open.drafts) }
+        requires is_open { IsOpen (open_draft_of draft)
+            (drafts_of draft.caller self.old.left_open.drafts) }
         requires built { (v : State) × IsLater v self.old.book.state × IsBuilt v draft.call built }
         ensures settles { Settles self.old draft.entry built moment result self.new }
         ensures acts { Acts IsLegalFrom draft.entry.caller (snap self.old) (snap self.new) }
-        ensures keeps { IsUp self.old → KeepsSettled K.told K.kept K.down K.in_flight K.faults K.moment K.left_since K.may_leave self.old.keeper self.new.keeper (called_in self.old draft.entry moment).logged result }
-        ensures crash { IsUp self.old → Leaves K.told K.moment K.left_since K.may_leave self.old.keeper self.new.keeper (called_in self.old draft.entry moment).logged }
+        ensures keeps { IsUp self.old
+            → KeepsSettled K.Keeper self.old.keeper self.new.keeper
+            (called_in self.old draft.entry moment).logged result }
+        ensures crash { IsUp self.old
+            → Leaves K.Keeper self.old.keeper self.new.keeper
+            (called_in self.old draft.entry moment).logged }
     {
         self.is_sound();
         self.settled(alloc, draft, built, moment)
@@ -260,7 +270,8 @@ impl<K: Keeper> Store<K> {
 
     /// Closes a draft that is given up.
     pub fn drop_draft(&mut self, draft: Draft<'_>)
-        requires is_open { IsOpen (open_draft_of draft) (drafts_of draft.caller self.old.left_open.drafts) }
+        requires is_open { IsOpen (open_draft_of draft)
+            (drafts_of draft.caller self.old.left_open.drafts) }
         ensures dropped { self.new ≡ dropping self.old draft.entry }
         ensures acts { Acts IsLegalFrom draft.entry.caller (snap self.old) (snap self.new) }
     {

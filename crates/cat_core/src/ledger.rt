@@ -48,7 +48,11 @@ impl Model for Ledger {
 
     ghost use Rattle.std.specs.Prelude.{reverse};
 
-    ghost view = { λ s. record { state = s.catalogue; draft = s.draft; log = reverse s.log.items } };
+    ghost view = { λ s. record {
+      state = s.catalogue;
+      draft = s.draft;
+      log = reverse s.log.items;
+    } };
 }
 
 impl Ledger {

@@ -48,12 +48,19 @@ fn add_payload<K: Keeper>(
 ) -> Result<(), StoreFault>
     requires there { i < K.kept keeper.old }
     requires drafts { AreDrafts replay.old.drafts.keys replay.old.ledger.log }
-    ensures added { OnOk result ((payload : List ℕ) × IsPayloadAt (K.told keeper.old) i payload × IsAdded replay.old.ledger replay.new.ledger payload) }
+    ensures added { OnOk result
+        ((payload : List ℕ) × IsPayloadAt (K.told keeper.old) i payload
+        × IsAdded replay.old.ledger replay.new.ledger payload) }
     ensures drafts { OnOk result (AreDrafts replay.new.drafts.keys replay.new.ledger.log) }
-    ensures illegal { (place : ℕ) → IsErrOf result (StoreFault.Illegal place) → (place ≡ i + 1) × ((payload : List ℕ) × IsPayloadAt (K.told keeper.old) i payload × (next_by replay.old.ledger payload ≡ None)) }
-    ensures fault { IsErrOf result StoreFault.Fault → Rose (K.faults keeper.old) (K.faults keeper.new) }
-    ensures level { (IsErrOf result StoreFault.Fault → ⊥) → K.faults keeper.new ≡ K.faults keeper.old }
-    ensures stays { Stayed K.told K.kept K.down K.in_flight K.faults K.moment K.left_since K.may_leave keeper.old keeper.new }
+    ensures illegal { (place : ℕ) → IsErrOf result (StoreFault.Illegal place)
+        → (place ≡ i + 1)
+        × ((payload : List ℕ) × IsPayloadAt (K.told keeper.old) i payload
+        × (next_by replay.old.ledger payload ≡ None)) }
+    ensures fault { IsErrOf result StoreFault.Fault
+        → Rose (K.faults keeper.old) (K.faults keeper.new) }
+    ensures level { (IsErrOf result StoreFault.Fault → ⊥)
+        → K.faults keeper.new ≡ K.faults keeper.old }
+    ensures stays { Stayed K.Keeper keeper.old keeper.new }
 {
     match keeper.entry(alloc, i) {
         Ok(payload) => {
@@ -79,10 +86,13 @@ pub(crate) fn led_to<K: Keeper>(
     requires commits { limits.commits ≤ 4294967295 }
     ensures led { IfOk result (IsLedTo (K.told keeper.old) (K.kept keeper.old) limits) }
     ensures place { IfOk result (λ ledger. ledger.state.place ≡ K.kept keeper.old) }
-    ensures illegal { (place : ℕ) → IsErrOf result (StoreFault.Illegal place) → IsIllegalAt (K.told keeper.old) limits place }
-    ensures fault { IsErrOf result StoreFault.Fault → Rose (K.faults keeper.old) (K.faults keeper.new) }
-    ensures level { (IsErrOf result StoreFault.Fault → ⊥) → K.faults keeper.new ≡ K.faults keeper.old }
-    ensures stays { Stayed K.told K.kept K.down K.in_flight K.faults K.moment K.left_since K.may_leave keeper.old keeper.new }
+    ensures illegal { (place : ℕ) → IsErrOf result (StoreFault.Illegal place)
+        → IsIllegalAt (K.told keeper.old) limits place }
+    ensures fault { IsErrOf result StoreFault.Fault
+        → Rose (K.faults keeper.old) (K.faults keeper.new) }
+    ensures level { (IsErrOf result StoreFault.Fault → ⊥)
+        → K.faults keeper.new ≡ K.faults keeper.old }
+    ensures stays { Stayed K.Keeper keeper.old keeper.new }
 {
     let mut replay = Replay::new(alloc, limits)?;
     for i in 0..keeper.count() {

@@ -33,7 +33,8 @@ impl<K: Keeper> Store<K> {
         requires well_made { IsTrue (is_well_made sha256 command.now) }
         requires opens { opens_draft command.now ≡ false }
         requires up { IsUp self.old }
-        ensures { IsTold K.told K.kept K.down K.in_flight K.faults K.moment K.left_since K.may_leave caller self.old self.new (call_on sha256 caller self.old.book command.now moment) result }
+        ensures { IsTold K.Keeper caller self.old self.new
+            (call_on sha256 caller self.old.book command.now moment) result }
     {
         let place = self.ledger.place();
         let made = self
@@ -53,10 +54,15 @@ impl<K: Keeper> Store<K> {
     ) -> Result<Told, Refused>
         requires well_made { IsTrue (is_well_made sha256 command.now) }
         requires opens { opens_draft command.now ≡ false }
-        ensures call { Refers (call_on sha256 caller self.old.book command.now moment) caller self.old self.new result }
+        ensures call { Refers (call_on sha256 caller self.old.book command.now moment) caller
+            self.old self.new result }
         ensures acts { Acts IsLegalFrom caller (snap self.old) (snap self.new) }
-        ensures keeps { IsUp self.old → KeepsTold K.told K.kept K.down K.in_flight K.faults K.moment K.left_since K.may_leave self.old.keeper self.new.keeper (call_on sha256 caller self.old.book command.now moment).logged result }
-        ensures crash { IsUp self.old → Leaves K.told K.moment K.left_since K.may_leave self.old.keeper self.new.keeper (call_on sha256 caller self.old.book command.now moment).logged }
+        ensures keeps { IsUp self.old
+            → KeepsTold K.Keeper self.old.keeper self.new.keeper
+            (call_on sha256 caller self.old.book command.now moment).logged result }
+        ensures crash { IsUp self.old
+            → Leaves K.Keeper self.old.keeper self.new.keeper
+            (call_on sha256 caller self.old.book command.now moment).logged }
     {
         self.is_sound();
         match self.down() {

@@ -43,7 +43,8 @@ fn read(alloc: Global, payload: &[u8]) -> Result<Option<LogEntry>, NoMemory>
 fn run_again(alloc: Global, ledger: &mut Ledger, entry: &LogEntry) -> Result<bool, NoMemory>
     requires well_made { IsTrue (is_well_made sha256 entry.now.command) }
     requires own_draft { IsTrue (has_its_draft entry.now) }
-    ensures { IfOk result (RunsAgain (replayed_call sha256 ledger.old entry.now) ledger.old ledger.new) }
+    ensures { IfOk result
+        (RunsAgain (replayed_call sha256 ledger.old entry.now) ledger.old ledger.new) }
 {
     let place = ledger.place();
     match ledger.replay(alloc, entry) {
@@ -115,7 +116,8 @@ impl Replay {
         requires drafts { AreDrafts self.old.drafts.keys self.old.ledger.log }
         requires reads { ReadsAs payload.now (Some entry.now) }
         ensures adds { IfOk result (Adds self.old.ledger self.new.ledger payload.now) }
-        ensures drafts { IfOk result (λ added. IsTrue added → AreDrafts self.new.drafts.keys self.new.ledger.log) }
+        ensures drafts { IfOk result
+            (λ added. IsTrue added → AreDrafts self.new.drafts.keys self.new.ledger.log) }
     {
         if !self.may_follow(alloc, entry)? {
             return Ok(false);
@@ -134,7 +136,8 @@ impl Replay {
     pub(crate) fn add(&mut self, alloc: Global, payload: &[u8]) -> Result<bool, NoMemory>
         requires drafts { AreDrafts self.old.drafts.keys self.old.ledger.log }
         ensures adds { IfOk result (Adds self.old.ledger self.new.ledger payload.now) }
-        ensures drafts { IfOk result (λ added. IsTrue added → AreDrafts self.new.drafts.keys self.new.ledger.log) }
+        ensures drafts { IfOk result
+            (λ added. IsTrue added → AreDrafts self.new.drafts.keys self.new.ledger.log) }
     {
         match read(alloc, payload)? {
             None => Ok(false),

@@ -54,9 +54,17 @@ impl<K: Keeper> Model for Store<K> {
 
     ghost Value = { Stored K };
 
-    ghost view = { λ s. record { book = s.ledger; keeper = s.keeper; mark = held_mark s.ledger.draft s.drafter s.dropped (failed s.fallen (K.in_flight s.keeper)); left_open = held_open s.drafts.items; began = s.began } };
+    ghost view = { λ s. record {
+      book = s.ledger;
+      keeper = s.keeper;
+      mark = held_mark s.ledger.draft s.drafter s.dropped
+          (failed s.fallen (K.in_flight s.keeper));
+      left_open = held_open s.drafts.items;
+      began = s.began;
+    } };
 
-    ghost invariant = { λ s. IsInStep K.told K.kept K.down K.faults s.ledger s.keeper s.fallen s.began × IsSound s.ledger s.began (held_open s.drafts.items).drafts };
+    ghost invariant = { λ s. IsInStep K.Keeper s.ledger s.keeper s.fallen s.began
+        × IsSound s.ledger s.began (held_open s.drafts.items).drafts };
 }
 
 impl<K: Keeper> Logged for Store<K> {
@@ -85,7 +93,14 @@ impl<K: Keeper> Store<K> {
         requires number { K.kept keeper ≡ ledger.state.place }
         requires up { K.down keeper ≡ None }
         requires sound { (faults : ℕ) → IsSound ledger faults [] }
-        ensures { result ≡ record { book = ledger; keeper = keeper; mark = record no_mark { draft = ledger.draft }; left_open = nothing_open; began = K.faults keeper } }
+        ensures { result
+            ≡ record {
+              book = ledger;
+              keeper = keeper;
+              mark = record no_mark { draft = ledger.draft };
+              left_open = nothing_open;
+              began = K.faults keeper;
+            } }
     {
         let began = keeper.fault_count();
         Store {
@@ -107,7 +122,15 @@ impl<K: Keeper> Store<K> {
         requires none_kept { K.kept keeper ≡ 0 }
         requires none_told { IfSome (K.told keeper) (λ ps. ps ≡ []) }
         requires up { K.down keeper ≡ None }
-        ensures ok { IfOk result (λ store. store ≡ record { book = first_book sha256 limits; keeper = keeper; mark = no_mark; left_open = nothing_open; began = K.faults keeper }) }
+        ensures ok { IfOk result
+            (λ store. store
+            ≡ record {
+              book = first_book sha256 limits;
+              keeper = keeper;
+              mark = no_mark;
+              left_open = nothing_open;
+              began = K.faults keeper;
+            }) }
         ensures err { IfErr result (λ e. e.0 ≡ keeper) }
     {
         match Ledger::new(alloc, limits) {
@@ -122,16 +145,22 @@ impl<K: Keeper> Store<K> {
         requires log { limits.log ≤ 4294967295 }
         requires commits { limits.commits ≤ 4294967295 }
         requires up { K.down keeper ≡ None }
-        ensures opened { IfOk result (λ store. IsLedTo (K.told keeper) (K.kept keeper) limits store.book) }
-        ensures mark { IfOk result (λ store. store.mark ≡ record no_mark { draft = store.book.draft }) }
+        ensures opened { IfOk result
+            (λ store. IsLedTo (K.told keeper) (K.kept keeper) limits store.book) }
+        ensures mark { IfOk result
+            (λ store. store.mark ≡ record no_mark { draft = store.book.draft }) }
         ensures none { IfOk result (λ store. store.left_open ≡ nothing_open) }
         ensures began { IfOk result (λ store. store.began ≡ K.faults store.keeper) }
         ensures stays { MatchResult result
-            (λ store. Stayed K.told K.kept K.down K.in_flight K.faults K.moment K.left_since K.may_leave keeper store.keeper)
-            (λ e. Stayed K.told K.kept K.down K.in_flight K.faults K.moment K.left_since K.may_leave keeper e.0) }
-        ensures illegal { IfErr result (λ e. (place : ℕ) → e.1 ≡ StoreFault.Illegal place → IsIllegalAt (K.told keeper) limits place) }
-        ensures fault { IfErr result (λ e. e.1 ≡ StoreFault.Fault → Rose (K.faults keeper) (K.faults e.0)) }
-        ensures level { MatchResult result (λ store. K.faults store.keeper ≡ K.faults keeper) (λ e. e.1 ≢ StoreFault.Fault → K.faults e.0 ≡ K.faults keeper) }
+            (λ store. Stayed K.Keeper keeper store.keeper)
+            (λ e. Stayed K.Keeper keeper e.0) }
+        ensures illegal { IfErr result
+            (λ e. (place : ℕ) → e.1 ≡ StoreFault.Illegal place
+            → IsIllegalAt (K.told keeper) limits place) }
+        ensures fault { IfErr result
+            (λ e. e.1 ≡ StoreFault.Fault → Rose (K.faults keeper) (K.faults e.0)) }
+        ensures level { MatchResult result (λ store. K.faults store.keeper ≡ K.faults keeper)
+            (λ e. e.1 ≢ StoreFault.Fault → K.faults e.0 ≡ K.faults keeper) }
     {
         let mut keeper = keeper;
         match led_to(alloc, &mut keeper, limits) {
@@ -153,7 +182,9 @@ impl<K: Keeper> Store<K> {
         ensures references { result.references ≡ length self.now.book.state.references }
         ensures commits { result.commits ≡ length self.now.book.state.commits }
         ensures contents { result.contents ≡ length self.now.book.state.present }
-        ensures keys { result.keys ≡ length (entries self.now.book.state.commits (main_head self.now.book.state.references)) }
+        ensures keys { result.keys
+            ≡ length
+            (entries self.now.book.state.commits (main_head self.now.book.state.references)) }
         ensures head { result.head ≡ main_head self.now.book.state.references }
     {
         self.ledger.counts()
@@ -161,7 +192,10 @@ impl<K: Keeper> Store<K> {
 
     /// The entry of a key on `main`.
     pub fn entry_on_main(&self, key: &ContentKey) -> Option<Entry>
-        ensures { result ≡ entry_of (entries self.now.book.state.commits (main_head self.now.book.state.references)) key.now }
+        ensures { result
+            ≡ entry_of
+            (entries self.now.book.state.commits (main_head self.now.book.state.references))
+            key.now }
     {
         self.ledger.entry_on_main(key)
     }
@@ -206,13 +240,18 @@ impl<K: Keeper> Store<K> {
     /// What holds of the keeper: it has the entries of the log, the oldest first, and the mark tells
     /// of its failed append.
     pub fn log_is_kept(&self)
-        ensures payloads { IfSome (K.told self.now.keeper) (λ ps. ps ≡ spellings (log_of self.now)) }
+        ensures payloads { IfSome (K.told self.now.keeper)
+            (λ ps. ps ≡ spellings (log_of self.now)) }
         ensures number { K.kept self.now.keeper ≡ self.now.book.state.place }
-        ensures fallen { K.down self.now.keeper ≡ option_map (λ (x : FailedAppend). x.count) self.now.mark.fault }
-        ensures flies { K.in_flight self.now.keeper ≡ option_map (λ (x : FailedAppend). x.payload) self.now.mark.fault }
+        ensures fallen { K.down self.now.keeper
+            ≡ option_map (λ (x : FailedAppend). x.count) self.now.mark.fault }
+        ensures flies { K.in_flight self.now.keeper
+            ≡ option_map (λ (x : FailedAppend). x.payload) self.now.mark.fault }
         ensures later { self.now.began ≤ K.faults self.now.keeper }
-        ensures rose { (x : FailedAppend) → self.now.mark.fault ≡ Some x → Rose self.now.began (K.faults self.now.keeper) }
-        ensures counted { (x : FailedAppend) → self.now.mark.fault ≡ Some x → Rose self.now.began x.count × (x.count ≤ K.faults self.now.keeper) }
+        ensures rose { (x : FailedAppend) → self.now.mark.fault ≡ Some x
+            → Rose self.now.began (K.faults self.now.keeper) }
+        ensures counted { (x : FailedAppend) → self.now.mark.fault ≡ Some x
+            → Rose self.now.began x.count × (x.count ≤ K.faults self.now.keeper) }
     {
         let _ = &self.fallen;
     }

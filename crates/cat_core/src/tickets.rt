@@ -31,7 +31,8 @@ pub(crate) struct Fallen {
 
 /// Takes the draft of a ticket away.
 pub(crate) fn remove(drafts: &mut Vec<OpenDraft>, ticket: Ticket)
-    ensures { map draft_held drafts.new.items ≡ without (opening_at ticket) (map draft_held drafts.old.items) }
+    ensures { map draft_held drafts.new.items
+        ≡ without (opening_at ticket) (map draft_held drafts.old.items) }
 {
     drafts.retain(|x| !(x.ticket.caller == ticket.caller && x.ticket.number == ticket.number));
 }

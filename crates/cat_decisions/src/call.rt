@@ -85,7 +85,10 @@ impl<'a> Call<'a> {
 
     /// The hashes of what its draft names: commits, and contents.
     pub fn names(&self, alloc: Global) -> Result<(Vec<Hash>, Vec<Hash>), NoMemory>
-        ensures { (number : ℕ) → IsGivenBy number self.now → IfOk result (λ names. record { commits = names.0.items; contents = names.1.items } ≡ names_of sha256 number (command_of self.now)) }
+        ensures { (number : ℕ) → IsGivenBy number self.now
+            → IfOk result
+            (λ names. record { commits = names.0.items; contents = names.1.items }
+            ≡ names_of sha256 number (command_of self.now)) }
     {
         match self {
             Call::Commit(_, given) => {

@@ -36,7 +36,8 @@ use std::alloc::Global;
 
 /// The request as it is logged.
 fn logged_request(request: &CommitRequest, given: Given) -> Result<CommitRequest, NoMemory>
-    ensures { IfOk result (λ r. r ≡ record request.now { ops = given.ops; contents = given.contents }) }
+    ensures { IfOk result
+        (λ r. r ≡ record request.now { ops = given.ops; contents = given.contents }) }
 {
     let branch = request.branch.clone()?;
     let meta = copy_meta(&request.meta)?;
@@ -51,7 +52,12 @@ fn logged_request(request: &CommitRequest, given: Given) -> Result<CommitRequest
 
 /// The reply of a commit of operations on a branch.
 fn reply(alloc: Global, branch: &Reference, hash: Hash, ops: &[Op]) -> Result<Committed, NoMemory>
-    ensures { IfOk result (λ c. c ≡ record { added = flat_map added_id ops.now; target = record branch.now { head = hash } }) }
+    ensures { IfOk result
+        (λ c. c
+        ≡ record {
+          added = flat_map added_id ops.now;
+          target = record branch.now { head = hash };
+        }) }
 {
     let target = at_head(branch, hash)?;
     let added = added_ids(alloc, ops)?;
@@ -97,8 +103,10 @@ pub(crate) fn settle_commit(
     requires contents { IsTrue (have_contents sha256 request.now.ops request.now.contents) }
     requires given { IsGiven number request.now given }
     requires opened { opening sha256 catalogue.now (commands.Commit request.now) ≡ Ok tt }
-    requires judged { (head : HashValue) × IsJudgedAt catalogue.now request.now given.ops head judged }
-    ensures decides { Decides number catalogue.now (commands.Commit request.now) (step_commit sha256 catalogue.now request.now number moment) result }
+    requires judged { (head : HashValue)
+        × IsJudgedAt catalogue.now request.now given.ops head judged }
+    ensures decides { Decides number catalogue.now (commands.Commit request.now)
+        (step_commit sha256 catalogue.now request.now number moment) result }
     ensures there { IfErr result (λ failure. fails_expired failure ≡ false) }
 {
     let Ok((branch, _)) = open_commit(catalogue, request) else {

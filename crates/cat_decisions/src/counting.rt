@@ -97,7 +97,9 @@ pub(crate) fn needs_room(
     branch: &Reference,
     planned: &[Planned],
 ) -> Result<(), Failure>
-    ensures test { Gives result (needs_planned_room catalogue.now (entries catalogue.now.commits branch.now.head) (all_planned planned.now)) }
+    ensures test { Gives result
+        (needs_planned_room catalogue.now (entries catalogue.now.commits branch.now.head)
+        (all_planned planned.now)) }
     ensures room { OnOk result (HasRoom catalogue.now planned.now) }
 {
     let head = catalogue.map_at(&branch.head)?;

@@ -36,7 +36,9 @@ fn decide_merge(
 ) -> Result<Decision, Failure>
     requires opened { opening sha256 catalogue.now (commands.Merge merge.now) ≡ Ok tt }
     requires planned { (head : HashValue) × IsMergedAt catalogue.now merge.now head draft }
-    ensures decides { (number : ℕ) → Decides number catalogue.now (commands.Merge merge.now) (step_merge sha256 catalogue.now merge.now catalogue.now.place moment) result }
+    ensures decides { (number : ℕ)
+        → Decides number catalogue.now (commands.Merge merge.now)
+        (step_merge sha256 catalogue.now merge.now catalogue.now.place moment) result }
     ensures there { IfErr result (λ failure. fails_expired failure ≡ false) }
 {
     let Ok((branch, source)) = open_merge(catalogue, merge) else {
@@ -54,8 +56,11 @@ fn decide_transplant(
     draft: Draft,
 ) -> Result<Decision, Failure>
     requires opened { opening sha256 catalogue.now (commands.Transplant transplant.now) ≡ Ok tt }
-    requires planned { (head : HashValue) × IsTransplantedAt catalogue.now transplant.now head draft }
-    ensures decides { (number : ℕ) → Decides number catalogue.now (commands.Transplant transplant.now) (step_transplant sha256 catalogue.now transplant.now catalogue.now.place moment) result }
+    requires planned { (head : HashValue)
+        × IsTransplantedAt catalogue.now transplant.now head draft }
+    ensures decides { (number : ℕ)
+        → Decides number catalogue.now (commands.Transplant transplant.now)
+        (step_transplant sha256 catalogue.now transplant.now catalogue.now.place moment) result }
     ensures there { IfErr result (λ failure. fails_expired failure ≡ false) }
 {
     let Ok(branch) = open_transplant(catalogue, transplant) else {
@@ -77,7 +82,9 @@ pub fn decide(
     requires given { IsGivenBy number call }
     requires opened { opening sha256 catalogue.now (command_of call) ≡ Ok tt }
     requires built { IsBuilt catalogue.now call built }
-    ensures decides { Decides number catalogue.now (command_of call.entry) (step sha256 catalogue.now (command_of call.entry) (record { draft = number; opened = catalogue.now.place; moment = moment })) result }
+    ensures decides { Decides number catalogue.now (command_of call.entry)
+        (step sha256 catalogue.now (command_of call.entry)
+        (record { draft = number; opened = catalogue.now.place; moment = moment })) result }
     ensures there { IfErr result (λ failure. fails_expired failure ≡ false) }
 {
     let Built { head: _, work } = built;

@@ -71,9 +71,14 @@ impl Given {
         content: &Content,
     ) -> Result<(), NoMemory>
         requires { self.old.hashes.items ≡ map (content_hash sha256) self.old.contents }
-        ensures ops { OnOk result (self.new.ops ≡ self.old.ops ++ Put key.now (entry_for sha256 (given_content fresh id content.now)) fresh ∷ []) }
-        ensures contents { OnOk result (self.new.contents ≡ self.old.contents ++ given_content fresh id content.now ∷ []) }
-        ensures hashes { OnOk result (self.new.hashes.items ≡ map (content_hash sha256) self.new.contents) }
+        ensures ops { OnOk result
+            (self.new.ops
+            ≡ self.old.ops
+            ++ Put key.now (entry_for sha256 (given_content fresh id content.now)) fresh ∷ []) }
+        ensures contents { OnOk result
+            (self.new.contents ≡ self.old.contents ++ given_content fresh id content.now ∷ []) }
+        ensures hashes { OnOk result
+            (self.new.hashes.items ≡ map (content_hash sha256) self.new.contents) }
     {
         let content = given_content(id, fresh, content)?;
         let entry = entry_for(alloc, &content)?;
@@ -93,9 +98,15 @@ impl Given {
         left: &[Content],
     ) -> Result<(), NoMemory>
         requires { self.old.hashes.items ≡ map (content_hash sha256) self.old.contents }
-        ensures ops { OnOk result (self.new.ops ≡ self.old.ops ++ (given sha256 id (op.now, content_for op.now left.now)).0 ∷ []) }
-        ensures contents { OnOk result (self.new.contents ≡ self.old.contents ++ listed (given sha256 id (op.now, content_for op.now left.now)).1) }
-        ensures hashes { OnOk result (self.new.hashes.items ≡ map (content_hash sha256) self.new.contents) }
+        ensures ops { OnOk result
+            (self.new.ops
+            ≡ self.old.ops ++ (given sha256 id (op.now, content_for op.now left.now)).0 ∷ []) }
+        ensures contents { OnOk result
+            (self.new.contents
+            ≡ self.old.contents
+            ++ listed (given sha256 id (op.now, content_for op.now left.now)).1) }
+        ensures hashes { OnOk result
+            (self.new.hashes.items ≡ map (content_hash sha256) self.new.contents) }
     {
         match op {
             Op::Put { key, fresh, .. } => match left {
@@ -116,7 +127,8 @@ pub(crate) fn with_ids(
     request: &CommitRequest,
 ) -> Result<Given, NoMemory>
     ensures ops { IfOk result (λ g. g.ops ≡ map (λ x. x.0) (given_ops sha256 draft request.now)) }
-    ensures contents { IfOk result (λ g. g.contents ≡ filter_map (λ x. x.1) (given_ops sha256 draft request.now)) }
+    ensures contents { IfOk result
+        (λ g. g.contents ≡ filter_map (λ x. x.1) (given_ops sha256 draft request.now)) }
     ensures hashes { IfOk result (λ g. g.hashes.items ≡ map (content_hash sha256) g.contents) }
 {
     let mut given = Given {

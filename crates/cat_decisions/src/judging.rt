@@ -19,7 +19,8 @@ use cat_state::failure::Failure;
 /// The map after the operations, unless they conflict.
 fn map_after(judged: Judged) -> Result<KeyMap, Refusal>
     ensures exact { SaysAs (λ map. map) result (or_conflicts (verdict judged)) }
-    ensures well_formed { GivesWellFormed judged → IfOk result (λ map. IsTrue (is_well_formed map)) }
+    ensures well_formed { GivesWellFormed judged
+        → IfOk result (λ map. IsTrue (is_well_formed map)) }
 {
     match judged {
         Judged::Map(map) => Ok(map),
@@ -37,7 +38,8 @@ pub(crate) fn tested_map(
     ensures test { Gives result (tested catalogue.now branch.now ops.now (verdict judged)) }
     ensures place { OnOk result (catalogue.now.place < 4294967295) }
     ensures commits { OnOk result (length catalogue.now.commits < 4294967295) }
-    ensures well_formed { GivesWellFormed judged → IfOk result (λ map. IsTrue (is_well_formed map)) }
+    ensures well_formed { GivesWellFormed judged
+        → IfOk result (λ map. IsTrue (is_well_formed map)) }
 {
     let head = catalogue.map_at(&branch.head)?;
     catalogue.needs_commit_room(&head, puts(ops))?;

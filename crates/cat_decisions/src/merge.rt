@@ -36,7 +36,11 @@ fn plan_from(
     source: &Hash,
     head: &Hash,
 ) -> Result<Plan, NoMemory>
-    ensures exact { IfOk result (λ p. planned p ≡ plans.plan (entries catalogue.now.commits ancestor.now) (entries catalogue.now.commits source.now) (entries catalogue.now.commits head.now) modes.now) }
+    ensures exact { IfOk result
+        (λ p. planned p
+        ≡ plans.plan (entries catalogue.now.commits ancestor.now)
+        (entries catalogue.now.commits source.now) (entries catalogue.now.commits head.now)
+        modes.now) }
     ensures plans { IfOk result (λ p. ArePlans catalogue.now head.now (p ∷ [])) }
 {
     let before = catalogue.map_at(ancestor)?;
@@ -60,7 +64,9 @@ fn one_planned(
     source: &Hash,
     plan: Plan,
 ) -> Result<Vec<Planned>, NoMemory>
-    ensures { IfOk result (λ out. out.items ≡ record { merge_parent = Some source.now; meta = merge.now.meta; plan = plan } ∷ []) }
+    ensures { IfOk result
+        (λ out. out.items
+        ≡ record { merge_parent = Some source.now; meta = merge.now.meta; plan = plan } ∷ []) }
 {
     let meta = copy_meta(&merge.meta)?;
     let mut planned = Vec::new(alloc);
@@ -81,7 +87,8 @@ pub fn draft_merge(
     source: &Hash,
 ) -> Result<Draft, NoMemory>
     requires known { AreKnown catalogue.now branch.now.head source.now }
-    ensures { IfOk result (λ draft. IsMergeDraft catalogue.now merge.now branch.now source.now draft) }
+    ensures { IfOk result
+        (λ draft. IsMergeDraft catalogue.now merge.now branch.now source.now draft) }
 {
     let ancestor = catalogue.base(alloc, source, &branch.head)?;
     let plan = plan_from(
@@ -116,7 +123,9 @@ pub fn settle_merge(
 ) -> Result<Decision, Failure>
     requires opened { merge_opening sha256 catalogue.now merge.now ≡ Ok (branch.now, source.now) }
     requires drafted { IsMergeDraft catalogue.now merge.now branch.now source.now draft }
-    ensures decides { (number : ℕ) → Decides number catalogue.now (commands.Merge merge.now) (step_merge sha256 catalogue.now merge.now catalogue.now.place moment) result }
+    ensures decides { (number : ℕ)
+        → Decides number catalogue.now (commands.Merge merge.now)
+        (step_merge sha256 catalogue.now merge.now catalogue.now.place moment) result }
     ensures there { IfErr result (λ failure. fails_expired failure ≡ false) }
 {
     let _ = merge;

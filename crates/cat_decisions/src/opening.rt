@@ -21,7 +21,8 @@ pub fn open_commit<'a>(
     catalogue: &'a Catalogue,
     request: &CommitRequest,
 ) -> Result<(&'a Reference, Hash), Refusal>
-    ensures opened { SaysAs (λ o. (o.0.now, o.1)) result (commit_opening sha256 catalogue.now request.now) }
+    ensures opened { SaysAs (λ o. (o.0.now, o.1)) result
+        (commit_opening sha256 catalogue.now request.now) }
     ensures known { IfOk result (λ o. AreKnown catalogue.now o.0.now.head o.1) }
 {
     let branch = catalogue.named(&request.branch)?;
@@ -38,7 +39,8 @@ pub fn open_merge<'a>(
     catalogue: &'a Catalogue,
     merge: &Merge,
 ) -> Result<(&'a Reference, Hash), Refusal>
-    ensures opened { SaysAs (λ o. (o.0.now, o.1)) result (merge_opening sha256 catalogue.now merge.now) }
+    ensures opened { SaysAs (λ o. (o.0.now, o.1)) result
+        (merge_opening sha256 catalogue.now merge.now) }
     ensures known { IfOk result (λ o. AreKnown catalogue.now o.0.now.head o.1) }
 {
     let branch = catalogue.named(&merge.branch)?;
@@ -57,7 +59,8 @@ pub fn open_transplant<'a>(
     catalogue: &'a Catalogue,
     transplant: &Transplant,
 ) -> Result<&'a Reference, Refusal>
-    ensures opened { SaysAs (λ r. r.now) result (transplant_opening sha256 catalogue.now transplant.now) }
+    ensures opened { SaysAs (λ r. r.now) result
+        (transplant_opening sha256 catalogue.now transplant.now) }
     ensures known { IfOk result (λ r. IsTrue (is_known sha256 catalogue.now r.now.head)) }
 {
     let branch = catalogue.named(&transplant.branch)?;

@@ -54,7 +54,8 @@ fn request_commit(
 ) -> Result<Commit, NoMemory>
     requires room { length catalogue.now.commits < 4294967295 }
     requires distinct { IsTrue (are_distinct ops.now) }
-    ensures { IfOk result (λ c. c ≡ request_commit catalogue.now head.now moment request.now ops.now) }
+    ensures { IfOk result
+        (λ c. c ≡ request_commit catalogue.now head.now moment request.now ops.now) }
 {
     Ok(Commit {
         parent: *head,
@@ -78,7 +79,8 @@ fn kept_commit(
 ) -> Result<NewCommit, NoMemory>
     requires room { length catalogue.now.commits < 4294967295 }
     requires after { IsMapAfter catalogue.now head.now ops.now map }
-    ensures commit { IfOk result (λ kept. kept.commit ≡ request_commit catalogue.now head.now moment request.now ops.now) }
+    ensures commit { IfOk result
+        (λ kept. kept.commit ≡ request_commit catalogue.now head.now moment request.now ops.now) }
     ensures map { IfOk result (λ kept. kept.map ≡ map) }
     ensures next { IfOk result (λ kept. MayBeAdded catalogue.now.commits kept.commit kept.map) }
     ensures written { IfOk result (λ kept. IsRecordOf kept.commit kept.written) }
@@ -102,11 +104,18 @@ pub(crate) fn additions(
     requires room { length catalogue.now.commits < 4294967295 }
     requires after { IsMapAfter catalogue.now head.now given.now.ops map }
     requires hashes { AreHashesOf given.now.hashes.items given.now.contents }
-    requires held { IsTrue (list_all (λ x. is_held catalogue.now.present given.now.hashes.items x.1.hash) map) }
-    ensures step { GivesAs (λ a. with_additions catalogue.now a.1) result (with_both catalogue.now given.now.contents (request_commit catalogue.now head.now moment request.now given.now.ops)) }
-    ensures hash { IfOk result (λ a. a.0 ≡ commit_hash sha256 (request_commit catalogue.now head.now moment request.now given.now.ops)) }
+    requires held { IsTrue
+        (list_all (λ x. is_held catalogue.now.present given.now.hashes.items x.1.hash) map) }
+    ensures step { GivesAs (λ a. with_additions catalogue.now a.1) result
+        (with_both catalogue.now given.now.contents
+        (request_commit catalogue.now head.now moment request.now given.now.ops)) }
+    ensures hash { IfOk result
+        (λ a. a.0
+        ≡ commit_hash sha256
+        (request_commit catalogue.now head.now moment request.now given.now.ops)) }
     ensures new { IfOk result (λ a. AreNewTo catalogue.now a.1) }
-    ensures known { IfOk result (λ a. IsTrue (is_known sha256 (with_additions catalogue.now a.1) a.0)) }
+    ensures known { IfOk result
+        (λ a. IsTrue (is_known sha256 (with_additions catalogue.now a.1) a.0)) }
 {
     let ops = given.ops.as_slice();
     let kept = kept_commit(alloc, catalogue, moment, request, head, ops, map)?;

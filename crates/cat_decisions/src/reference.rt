@@ -35,7 +35,13 @@ fn referred(
 ) -> Decision
     requires place { catalogue.now.place < 4294967295 }
     requires may { MayBecome catalogue.now change }
-    ensures { (draft : ℕ) (call : CommandValue) → command ≡ logged_command sha256 draft call → head ≡ head_left call (replies.Reference reply) → Decides draft catalogue.now call (Ok (with_references catalogue.now (changed_references catalogue.now.references change), replies.Reference reply)) (Ok result) }
+    ensures { (draft : ℕ) (call : CommandValue) → command ≡ logged_command sha256 draft call
+        → head ≡ head_left call (replies.Reference reply)
+        → Decides draft catalogue.now call
+        (Ok (
+          with_references catalogue.now (changed_references catalogue.now.references change),
+          replies.Reference reply,
+        )) (Ok result) }
 {
     Decision::Made(Making {
         change: Change {
@@ -50,7 +56,9 @@ fn referred(
 
 /// What a call that makes a reference comes to.
 fn decide_create(alloc: Global, catalogue: &Catalogue, create: &Create) -> Result<Decision, Failure>
-    ensures { (draft : ℕ) → Decides draft catalogue.now (commands.Create create.now) (step_create sha256 catalogue.now create.now) result }
+    ensures { (draft : ℕ)
+        → Decides draft catalogue.now (commands.Create create.now)
+        (step_create sha256 catalogue.now create.now) result }
 {
     let made = created(alloc, catalogue, create)?;
     let reply = copy_reference(&made)?;
@@ -62,7 +70,9 @@ fn decide_create(alloc: Global, catalogue: &Catalogue, create: &Create) -> Resul
 
 /// What a call that moves a reference comes to.
 fn decide_assign(alloc: Global, catalogue: &Catalogue, assign: &Assign) -> Result<Decision, Failure>
-    ensures { (draft : ℕ) → Decides draft catalogue.now (commands.Assign assign.now) (step_assign sha256 catalogue.now assign.now) result }
+    ensures { (draft : ℕ)
+        → Decides draft catalogue.now (commands.Assign assign.now)
+        (step_assign sha256 catalogue.now assign.now) result }
 {
     let moved = assigned(alloc, catalogue, assign)?;
     let reply = copy_reference(&moved)?;
@@ -74,7 +84,9 @@ fn decide_assign(alloc: Global, catalogue: &Catalogue, assign: &Assign) -> Resul
 
 /// What a call that removes a reference comes to.
 fn decide_delete(alloc: Global, catalogue: &Catalogue, delete: &Delete) -> Result<Decision, Failure>
-    ensures { (draft : ℕ) → Decides draft catalogue.now (commands.Delete delete.now) (step_delete catalogue.now delete.now) result }
+    ensures { (draft : ℕ)
+        → Decides draft catalogue.now (commands.Delete delete.now)
+        (step_delete catalogue.now delete.now) result }
 {
     let removed = deleted(alloc, catalogue, delete)?;
     let name = delete.name.clone()?;
@@ -90,7 +102,9 @@ pub fn decide_reference(
     command: &Command,
 ) -> Result<Decision, Failure>
     requires { opens_draft command.now ≡ false }
-    ensures decides { (turn : Turn) → Decides turn.draft catalogue.now command.now (step sha256 catalogue.now command.now turn) result }
+    ensures decides { (turn : Turn)
+        → Decides turn.draft catalogue.now command.now
+        (step sha256 catalogue.now command.now turn) result }
     ensures there { IfErr result (λ failure. fails_expired failure ≡ false) }
 {
     catalogue.contents_are_held();

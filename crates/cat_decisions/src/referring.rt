@@ -79,7 +79,8 @@ fn is_expected(expected: &Option<Hash>, head: &Hash) -> bool
 
 /// The conflict of a head that isn't the one expected.
 fn unexpected_hash(alloc: Global) -> Result<Seq<Conflict>, NoMemory>
-    ensures { IfOk result (λ conflicts. conflicts ≡ record { key = None; kind = UnexpectedHash } ∷ []) }
+    ensures { IfOk result
+        (λ conflicts. conflicts ≡ record { key = None; kind = UnexpectedHash } ∷ []) }
 {
     let mut conflicts = Seq::new(alloc);
     conflicts.push(Conflict {
@@ -107,7 +108,11 @@ pub(crate) fn created(
     catalogue: &Catalogue,
     create: &Create,
 ) -> Result<Reference, Failure>
-    ensures step { GivesAs (λ r. (with_references catalogue.now (with_reference catalogue.now.references r), replies.Reference r)) result (step_create sha256 catalogue.now create.now) }
+    ensures step { GivesAs
+        (λ r. (
+          with_references catalogue.now (with_reference catalogue.now.references r),
+          replies.Reference r,
+        )) result (step_create sha256 catalogue.now create.now) }
     ensures place { OnOk result (catalogue.now.place < 4294967295) }
     ensures absent { IfOk result (λ r. reference_of catalogue.now.references r.name ≡ None) }
     ensures known { IfOk result (λ r. IsTrue (is_known sha256 catalogue.now r.head)) }
@@ -133,7 +138,11 @@ pub(crate) fn assigned(
     catalogue: &Catalogue,
     assign: &Assign,
 ) -> Result<Reference, Failure>
-    ensures step { GivesAs (λ r. (with_references catalogue.now (moved_reference catalogue.now.references r), replies.Reference r)) result (step_assign sha256 catalogue.now assign.now) }
+    ensures step { GivesAs
+        (λ r. (
+          with_references catalogue.now (moved_reference catalogue.now.references r),
+          replies.Reference r,
+        )) result (step_assign sha256 catalogue.now assign.now) }
     ensures place { OnOk result (catalogue.now.place < 4294967295) }
     ensures known { IfOk result (λ r. IsTrue (is_known sha256 catalogue.now r.head)) }
 {
@@ -156,7 +165,13 @@ pub(crate) fn deleted(
     catalogue: &Catalogue,
     delete: &Delete,
 ) -> Result<Reference, Failure>
-    ensures step { GivesAs (λ r. (with_references catalogue.now (without_reference catalogue.now.references delete.now.name), replies.Reference r)) result (step_delete catalogue.now delete.now) }
+    ensures step { GivesAs
+        (λ r. (
+          with_references catalogue.now
+              (without_reference catalogue.now.references delete.now.name),
+          replies.Reference r,
+        )) result
+        (step_delete catalogue.now delete.now) }
     ensures place { OnOk result (catalogue.now.place < 4294967295) }
 {
     let reference = catalogue.named(&delete.name)?;

@@ -34,8 +34,11 @@ use std::alloc::Global;
 
 /// What plans set is held. This fails for want of memory alone.
 fn needs_contents(alloc: Global, catalogue: &Catalogue, planned: &[Planned]) -> Result<(), Failure>
-    requires held { IsTrue (list_all (λ p. has_contents catalogue.now.present (entries_set p.ops)) (plans_of planned.now)) }
-    ensures test { Gives result (needs_set_contents catalogue.now (all_planned planned.now) catalogue.now.place) }
+    requires held { IsTrue
+        (list_all (λ p. has_contents catalogue.now.present (entries_set p.ops))
+        (plans_of planned.now)) }
+    ensures test { Gives result
+        (needs_set_contents catalogue.now (all_planned planned.now) catalogue.now.place) }
     ensures there { IfErr result (λ failure. fails_expired failure ≡ false) }
 {
     catalogue.needs_set_contents(alloc, planned, catalogue.place())
@@ -48,7 +51,8 @@ fn unmoved(
     details: Seq<Detail>,
     was_successful: bool,
 ) -> Result<Merged, NoMemory>
-    ensures { IfOk result (λ m. m ≡ reply_at ancestor details branch.now branch.now.head false was_successful) }
+    ensures { IfOk result
+        (λ m. m ≡ reply_at ancestor details branch.now branch.now.head false was_successful) }
 {
     Ok(Merged {
         common_ancestor: ancestor,
@@ -91,7 +95,8 @@ fn making(
     head: Hash,
     additions: Additions,
 ) -> Result<Making, NoMemory>
-    ensures { IfOk result (λ m. m ≡ making_of ancestor details branch.now command (head, additions)) }
+    ensures { IfOk result
+        (λ m. m ≡ making_of ancestor details branch.now command (head, additions)) }
 {
     match moved(branch, ancestor, details, head) {
         Ok((reference, merged)) => Ok(Making {
@@ -155,7 +160,10 @@ fn added(
     requires room { HasRoom catalogue.now planned.items }
     requires conflicts { all_conflicts_in planned.items ≡ [] }
     ensures added { IfOk result (AreAdded moment catalogue.now head.now (changing planned.items)) }
-    ensures refused { IfErr result (λ failure. Fails failure (with_planned sha256 moment catalogue.now head.now (all_planned (changing planned.items)))) }
+    ensures refused { IfErr result
+        (λ failure. Fails failure
+        (with_planned sha256 moment catalogue.now head.now
+        (all_planned (changing planned.items)))) }
     ensures there { IfErr result (λ failure. fails_expired failure ≡ false) }
 {
     let made = with_changes(alloc, planned)?;
@@ -180,7 +188,9 @@ fn apply(
     requires room { HasRoom catalogue.now draft.planned.items }
     requires conflicts { all_conflicts_in draft.planned.items ≡ [] }
     requires details { details ≡ all_details_in draft.planned.items }
-    ensures step { Settles catalogue.now draft.command (step_applied sha256 catalogue.now (plans_for draft branch.now catalogue.now.place moment)) result }
+    ensures step { Settles catalogue.now draft.command
+        (step_applied sha256 catalogue.now
+        (plans_for draft branch.now catalogue.now.place moment)) result }
     ensures there { IfErr result (λ failure. fails_expired failure ≡ false) }
 {
     if let Err(failure) = needs_contents(alloc, catalogue, draft.planned.as_slice()) {
@@ -213,7 +223,9 @@ fn clash(
     details: Seq<Detail>,
     conflicts: Seq<Conflict>,
 ) -> Result<Merged, Failure>
-    ensures { Gives result (told_or_refused draft.now.asked.conflicts_as_result (reply_at draft.now.ancestor details branch.now branch.now.head false false) conflicts) }
+    ensures { Gives result
+        (told_or_refused draft.now.asked.conflicts_as_result
+        (reply_at draft.now.ancestor details branch.now branch.now.head false false) conflicts) }
 {
     if !draft.asked.conflicts_as_result {
         return Err(Failure::Refused(Refusal::Conflicts(conflicts)));
@@ -236,7 +248,10 @@ fn by_conflicts(
     requires room { HasRoom catalogue.now draft.planned.items }
     requires details { details ≡ all_details_in draft.planned.items }
     requires conflicts { conflicts ≡ all_conflicts_in draft.planned.items }
-    ensures step { Settles catalogue.now draft.command (step_unless_conflicts sha256 catalogue.now (plans_for draft branch.now catalogue.now.place moment) (all_conflicts_in draft.planned.items)) result }
+    ensures step { Settles catalogue.now draft.command
+        (step_unless_conflicts sha256 catalogue.now
+        (plans_for draft branch.now catalogue.now.place moment)
+        (all_conflicts_in draft.planned.items)) result }
     ensures there { IfErr result (λ failure. fails_expired failure ≡ false) }
 {
     if conflicts.len() == 0 {
@@ -269,7 +284,10 @@ fn unless_conflicts(
 ) -> Result<Decision, Failure>
     requires drafted { AreDrafted catalogue.now branch.now.head draft.planned.items }
     requires room { HasRoom catalogue.now draft.planned.items }
-    ensures step { Settles catalogue.now draft.command (step_unless_conflicts sha256 catalogue.now (plans_for draft branch.now catalogue.now.place moment) (all_conflicts_in draft.planned.items)) result }
+    ensures step { Settles catalogue.now draft.command
+        (step_unless_conflicts sha256 catalogue.now
+        (plans_for draft branch.now catalogue.now.place moment)
+        (all_conflicts_in draft.planned.items)) result }
     ensures there { IfErr result (λ failure. fails_expired failure ≡ false) }
 {
     match found(alloc, draft.planned.as_slice()) {
@@ -294,7 +312,9 @@ pub(crate) fn settle(
     draft: Draft,
 ) -> Result<Decision, Failure>
     requires drafted { AreDrafted catalogue.now branch.now.head draft.planned.items }
-    ensures step { Settles catalogue.now draft.command (step_planned sha256 catalogue.now (plans_for draft branch.now catalogue.now.place moment)) result }
+    ensures step { Settles catalogue.now draft.command
+        (step_planned sha256 catalogue.now
+        (plans_for draft branch.now catalogue.now.place moment)) result }
     ensures there { IfErr result (λ failure. fails_expired failure ≡ false) }
 {
     match needs_room(catalogue, branch, draft.planned.as_slice()) {

@@ -31,7 +31,11 @@ use std::alloc::Global;
 
 /// Adds what the commit of a hash changed, if there is one.
 fn add_step(catalogue: &Catalogue, out: &mut Vec<Step>, hash: &Hash) -> Result<(), NoMemory>
-    ensures { OnOk result (map step_of out.new.items ≡ map step_of out.old.items ++ map (change_made catalogue.now.commits) (commits_at catalogue.now.commits (hash.now ∷ []))) }
+    ensures { OnOk result
+        (map step_of out.new.items
+        ≡ map step_of out.old.items
+        ++ map (change_made catalogue.now.commits)
+        (commits_at catalogue.now.commits (hash.now ∷ []))) }
 {
     if let Some(commit) = catalogue.commit(hash) {
         out.push(Step {
@@ -44,7 +48,9 @@ fn add_step(catalogue: &Catalogue, out: &mut Vec<Step>, hash: &Hash) -> Result<(
 
 /// What commits changed.
 fn steps(alloc: Global, catalogue: &Catalogue, hashes: &[Hash]) -> Result<Vec<Step>, NoMemory>
-    ensures { IfOk result (λ steps. map step_of steps.items ≡ map (change_made catalogue.now.commits) (commits_at catalogue.now.commits hashes.now)) }
+    ensures { IfOk result
+        (λ steps. map step_of steps.items
+        ≡ map (change_made catalogue.now.commits) (commits_at catalogue.now.commits hashes.now)) }
 {
     let mut out = Vec::new(alloc);
     for hash in hashes {
@@ -55,7 +61,9 @@ fn steps(alloc: Global, catalogue: &Catalogue, hashes: &[Hash]) -> Result<Vec<St
 
 /// Adds the meta of the commit of a hash, if there is one.
 fn add_meta(catalogue: &Catalogue, out: &mut Vec<Meta>, hash: &Hash) -> Result<(), NoMemory>
-    ensures { OnOk result (out.new.items ≡ out.old.items ++ map meta_of (commits_at catalogue.now.commits (hash.now ∷ []))) }
+    ensures { OnOk result
+        (out.new.items
+        ≡ out.old.items ++ map meta_of (commits_at catalogue.now.commits (hash.now ∷ []))) }
 {
     if let Some(commit) = catalogue.commit(hash) {
         out.push(copy_meta(&commit.meta)?)?;
@@ -65,7 +73,8 @@ fn add_meta(catalogue: &Catalogue, out: &mut Vec<Meta>, hash: &Hash) -> Result<(
 
 /// The metas of commits.
 fn metas(alloc: Global, catalogue: &Catalogue, hashes: &[Hash]) -> Result<Vec<Meta>, NoMemory>
-    ensures { IfOk result (λ metas. metas.items ≡ map meta_of (commits_at catalogue.now.commits hashes.now)) }
+    ensures { IfOk result
+        (λ metas. metas.items ≡ map meta_of (commits_at catalogue.now.commits hashes.now)) }
 {
     let mut out = Vec::new(alloc);
     for hash in hashes {
@@ -102,7 +111,9 @@ fn plan_onto(
     head: &Hash,
 ) -> Result<Vec<Plan>, NoMemory>
     requires held { IsTrue (steps_are_held catalogue.now.present steps.now) }
-    ensures exact { IfOk result (λ plans. map planned plans.items ≡ plan_each modes.now (entries catalogue.now.commits head.now) (map step_of steps.now)) }
+    ensures exact { IfOk result
+        (λ plans. map planned plans.items
+        ≡ plan_each modes.now (entries catalogue.now.commits head.now) (map step_of steps.now)) }
     ensures plans { IfOk result (λ plans. ArePlans catalogue.now head.now plans.items) }
 {
     let target = catalogue.map_at(head)?;
@@ -120,7 +131,8 @@ pub fn draft_transplant(
     branch: &Reference,
 ) -> Result<Draft, NoMemory>
     requires known { IsTrue (is_known sha256 catalogue.now branch.now.head) }
-    ensures { IfOk result (λ draft. IsTransplantDraft catalogue.now transplant.now branch.now draft) }
+    ensures { IfOk result
+        (λ draft. IsTransplantDraft catalogue.now transplant.now branch.now draft) }
 {
     let hashes = transplant.hashes.as_slice();
     catalogue.contents_are_held();
@@ -156,7 +168,9 @@ pub fn settle_transplant(
 ) -> Result<Decision, Failure>
     requires opened { transplant_opening sha256 catalogue.now transplant.now ≡ Ok branch.now }
     requires drafted { IsTransplantDraft catalogue.now transplant.now branch.now draft }
-    ensures decides { (number : ℕ) → Decides number catalogue.now (commands.Transplant transplant.now) (step_transplant sha256 catalogue.now transplant.now catalogue.now.place moment) result }
+    ensures decides { (number : ℕ)
+        → Decides number catalogue.now (commands.Transplant transplant.now)
+        (step_transplant sha256 catalogue.now transplant.now catalogue.now.place moment) result }
     ensures there { IfErr result (λ failure. fails_expired failure ≡ false) }
 {
     let _ = transplant;

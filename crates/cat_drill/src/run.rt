@@ -71,7 +71,8 @@ fn asked<R: Wait>(
     requires step { step ≤ 1000000 }
     requires ready { IsReady desk.now pass.old }
     requires alone { IsAlone pass.old }
-    ensures command { IfOk result (λ command. command ≡ asked step number (book_of desk.now pass.old)) }
+    ensures command { IfOk result
+        (λ command. command ≡ asked step number (book_of desk.now pass.old)) }
     ensures made { IfOk result (λ command. IsTrue (is_well_made sha256 command)) }
     ensures kind { IfOk result IsCommit }
     ensures book { book_of desk.now pass.new ≡ book_of desk.now pass.old }
@@ -100,7 +101,10 @@ fn carry_out<R: Wait>(
     requires ready { IsReady desk.now pass.old }
     requires alone { IsAlone pass.old }
     requires number { number_of pass.old ≡ 1 }
-    ensures made { OnOk result ((moment : ℕ) × Ticks (clock_readings clock.old) (clock_readings clock.new) moment × (book_of desk.now pass.new ≡ after_command command.now moment (book_of desk.now pass.old))) }
+    ensures made { OnOk result
+        ((moment : ℕ) × Ticks (clock_readings clock.old) (clock_readings clock.new) moment
+        × (book_of desk.now pass.new
+        ≡ after_command command.now moment (book_of desk.now pass.old))) }
     ensures ready { IsReady desk.now pass.new }
     ensures kept { Keeps desk.now pass.old pass.new }
 {
@@ -132,7 +136,8 @@ fn make_step<R: Wait>(
     requires ready { IsReady desk.now pass.old }
     requires alone { IsAlone pass.old }
     requires number { number_of pass.old ≡ 1 }
-    ensures step { OnOk result (book_of desk.now pass.new ≡ after_step (made + 1) number (book_of desk.now pass.old)) }
+    ensures step { OnOk result
+        (book_of desk.now pass.new ≡ after_step (made + 1) number (book_of desk.now pass.old)) }
     ensures clock { OnOk result (clock_readings clock.new ≡ Some (from (made + 1) moments)) }
     ensures ready { IsReady desk.now pass.new }
     ensures kept { Keeps desk.now pass.old pass.new }
@@ -175,7 +180,10 @@ fn make_steps<R: Wait>(
 
 #[tactic(auto, unfolding(crate::specs::Drill::line_of))]
 fn line(alloc: Global, counts: &Counts, head: &str) -> Result<String, AllocError>
-    ensures { IfOk result (λ line. string_bytes line ≡ line_of counts.now.commits counts.now.keys counts.now.contents counts.now.place head.now) }
+    ensures { IfOk result
+        (λ line. string_bytes line
+        ≡ line_of counts.now.commits counts.now.keys counts.now.contents counts.now.place
+        head.now) }
 {
     let Counts {
         place,

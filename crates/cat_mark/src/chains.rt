@@ -16,7 +16,8 @@ pub(crate) fn kept_parent<'a>(
     index: u64,
     commit: &Commit,
 ) -> Option<&'a Commit>
-    ensures { option_map (λ c. c.now) result ≡ if_kept cutoff.now index (commit_of graph.now.list commit.now.parent) }
+    ensures { option_map (λ c. c.now) result
+        ≡ if_kept cutoff.now index (commit_of graph.now.list commit.now.parent) }
 {
     match graph.get(&commit.parent) {
         None => None,

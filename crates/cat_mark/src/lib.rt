@@ -5,5 +5,8 @@
 #![tactic(auto)]
 
 mod chains;
-pub mod marks;
-pub mod roots;
+mod marks;
+mod roots;
+
+pub use marks::Marks;
+pub use roots::Roots;

@@ -124,8 +124,10 @@ impl Marks {
 
     /// Marks what the map of a hash has at each of its keys.
     fn mark_all_at(&mut self, maps: &Maps, hash: &Hash) -> Result<(), NoMemory>
-        ensures ok { OnOk result (AddsAll self.old self.new (hashes (found_map (map_at maps.now.list hash.now)))) }
-        ensures err { OnErr result (AddsSome self.old self.new (hashes (found_map (map_at maps.now.list hash.now)))) }
+        ensures ok { OnOk result
+            (AddsAll self.old self.new (hashes (found_map (map_at maps.now.list hash.now)))) }
+        ensures err { OnErr result
+            (AddsSome self.old self.new (hashes (found_map (map_at maps.now.list hash.now)))) }
     {
         match maps.get(hash) {
             None => Ok(()),
@@ -135,8 +137,12 @@ impl Marks {
 
     /// Marks what the map of a commit has at the keys that the commit changes.
     fn mark_changed_at(&mut self, maps: &Maps, hash: &Hash, commit: &Commit) -> Result<(), NoMemory>
-        ensures ok { OnOk result (AddsAll self.old self.new (at_keys (found_map (map_at maps.now.list hash.now)) commit.now.ops)) }
-        ensures err { OnErr result (AddsSome self.old self.new (at_keys (found_map (map_at maps.now.list hash.now)) commit.now.ops)) }
+        ensures ok { OnOk result
+            (AddsAll self.old self.new
+            (at_keys (found_map (map_at maps.now.list hash.now)) commit.now.ops)) }
+        ensures err { OnErr result
+            (AddsSome self.old self.new
+            (at_keys (found_map (map_at maps.now.list hash.now)) commit.now.ops)) }
     {
         match maps.get(hash) {
             None => Ok(()),
@@ -158,8 +164,10 @@ impl Marks {
         cutoff: &Cutoff,
     ) -> Result<(), NoMemory>
         requires { HaveMaps graph.now.list maps.now.list }
-        ensures ok { OnOk result (AddsAll self.old self.new (live_from graph.now.list cutoff.now head.now)) }
-        ensures err { OnErr result (AddsSome self.old self.new (live_from graph.now.list cutoff.now head.now)) }
+        ensures ok { OnOk result
+            (AddsAll self.old self.new (live_from graph.now.list cutoff.now head.now)) }
+        ensures err { OnErr result
+            (AddsSome self.old self.new (live_from graph.now.list cutoff.now head.now)) }
     {
         graph.known();
         cutoff.known();
@@ -200,8 +208,12 @@ impl Marks {
         heads: &[(Hash, Cutoff)],
     ) -> Result<(), NoMemory>
         requires { HaveMaps graph.now.list maps.now.list }
-        ensures ok { OnOk result (AddsAll self.old self.new (flat_map (λ head. live_from graph.now.list head.1 head.0) heads.now)) }
-        ensures err { OnErr result (AddsSome self.old self.new (flat_map (λ head. live_from graph.now.list head.1 head.0) heads.now)) }
+        ensures ok { OnOk result
+            (AddsAll self.old self.new
+            (flat_map (λ head. live_from graph.now.list head.1 head.0) heads.now)) }
+        ensures err { OnErr result
+            (AddsSome self.old self.new
+            (flat_map (λ head. live_from graph.now.list head.1 head.0) heads.now)) }
     {
         for (head, cutoff) in heads {
             self.mark_root(graph, maps, head, cutoff)?;

@@ -8,6 +8,9 @@ use cat_names::hash::Hash;
 /// commit alone is a head with a cutoff of one commit.
 #[derive(Drop)]
 pub struct Roots {
+    /// Heads of references, each with the cutoff that says which commits of its chain are kept. A
+    /// head that is no commit's hash keeps nothing.
     pub heads: Seq<(Hash, Cutoff)>,
+    /// Hashes of contents, live whether or not a kept commit shows them.
     pub hashes: Seq<Hash>,
 }

@@ -43,8 +43,10 @@ fn said_to<R: Wait, K0: Keeper, C: Clock, G: Gate>(
     requires ready { IsReady desk.now pass.old }
     requires gate { G.ready gate.old }
     requires attempts { (1 ≤ attempts) × (attempts ≤ 64) }
-    ensures says { SaysTo desk.now request.now pass.old (C.ahead clock.old) result pass.new (C.ahead clock.new) }
-    ensures comes { ComesTo desk.now attempts request.now pass.old (C.ahead clock.old) result pass.new (C.ahead clock.new) }
+    ensures says { SaysTo desk.now request.now pass.old (C.ahead clock.old) result pass.new
+        (C.ahead clock.new) }
+    ensures comes { ComesTo desk.now attempts request.now pass.old (C.ahead clock.old) result
+        pass.new (C.ahead clock.new) }
     ensures ready { IsReady desk.now pass.new }
     ensures gate { G.ready gate.new × (G.desks gate.new ≡ G.desks gate.old) }
     ensures kept { Keeps desk.now pass.old pass.new }
@@ -76,22 +78,35 @@ pub(crate) fn answer<R: Wait, K0: Keeper, K: Sink, C: Clock, G: Gate>(
     requires ready { IsReady desk.now pass.old }
     requires gate { G.ready gate.old }
     requires attempts { (1 ≤ settings.attempts) × (settings.attempts ≤ 64) }
-    ensures on { IfNone result (ByReadings (C.ahead clock.old) (C.ahead clock.new) (λ (taken : List ℕ) (k : Readings) (c : Point). (rest : List ℕ)
+    ensures on { IfNone result
+        (ByReadings (C.ahead clock.old) (C.ahead clock.new)
+        (λ (taken : List ℕ) (k : Readings) (c : Point). (rest : List ℕ)
         → IsAsked desk.now c left request.now rest pass.old (K.held sink.old)
         → (t : Turn) × IsAnswered desk.now taken k c left rest t pass.new (K.held sink.new))) }
-    ensures ends { IfSome result (λ end. ByReadings (C.ahead clock.old) (C.ahead clock.new) (λ (taken : List ℕ) (k : Readings) (c : Point). (rest : List ℕ)
+    ensures ends { IfSome result
+        (λ end. ByReadings (C.ahead clock.old) (C.ahead clock.new)
+        (λ (taken : List ℕ) (k : Readings) (c : Point). (rest : List ℕ)
         → IsAsked desk.now c left request.now rest pass.old (K.held sink.old)
         → LeavesAt desk.now taken k c end pass.new (K.held sink.new))) }
-    ensures visit { IfNone result ((v : Visit) × (v.message ≡ request.now) × IsVisit desk.now settings.attempts left pass.old (C.ahead clock.old) v pass.new (C.ahead clock.new)
-        × (asks_to_close v.message ≡ false) × Appends (K.held sink.old) (K.held sink.new) v.reply) }
-    ensures last { IfSome result (λ end. (v : Visit) × (v.message ≡ request.now) × IsVisit desk.now settings.attempts left pass.old (C.ahead clock.old) v pass.new (C.ahead clock.new)
-        × (tail : List ℕ) × Appends (K.held sink.old) (K.held sink.new) tail × TellsLast end v tail) }
+    ensures visit { IfNone result
+        ((v : Visit) × (v.message ≡ request.now)
+        × IsVisit desk.now settings.attempts left pass.old (C.ahead clock.old) v pass.new
+        (C.ahead clock.new)
+        × (asks_to_close v.message ≡ false)
+        × Appends (K.held sink.old) (K.held sink.new) v.reply) }
+    ensures last { IfSome result
+        (λ end. (v : Visit) × (v.message ≡ request.now)
+        × IsVisit desk.now settings.attempts left pass.old (C.ahead clock.old) v pass.new
+        (C.ahead clock.new)
+        × (tail : List ℕ) × Appends (K.held sink.old) (K.held sink.new) tail
+        × TellsLast end v tail) }
     ensures ready { IsReady desk.now pass.new }
     ensures gate { G.ready gate.new × (G.desks gate.new ≡ G.desks gate.old) }
     ensures kept { Keeps desk.now pass.old pass.new }
     ensures open { result ≢ Some Session.Capped }
     ensures read { result ≢ Some Session.ReadFault }
-    ensures write { result ≡ Some Session.WriteFault → Rose (K.faults sink.old) (K.faults sink.new) }
+    ensures write { result ≡ Some Session.WriteFault
+        → Rose (K.faults sink.old) (K.faults sink.new) }
     ensures stays { result ≢ Some Session.WriteFault → K.faults sink.new ≡ K.faults sink.old }
 {
     let said = said_to(
@@ -132,8 +147,12 @@ fn is_head(request: &Request<'_>) -> bool
 
 /// Answers bytes that are refused.
 pub(crate) fn refuse<K: Sink>(alloc: Global, sink: &mut K, why: Refusal) -> Result<(), WriteFault>
-    ensures written { OnOk result ((bytes : List ℕ) × IsRefusalOf why bytes × Appends (K.held sink.old) (K.held sink.new) bytes) }
-    ensures cut { OnErr result ((bytes : List ℕ) × IsRefusalOf why bytes × AppendsFront (K.held sink.old) (K.held sink.new) bytes) }
+    ensures written { OnOk result
+        ((bytes : List ℕ) × IsRefusalOf why bytes
+        × Appends (K.held sink.old) (K.held sink.new) bytes) }
+    ensures cut { OnErr result
+        ((bytes : List ℕ) × IsRefusalOf why bytes
+        × AppendsFront (K.held sink.old) (K.held sink.new) bytes) }
     ensures cause { OnErr result (Rose (K.faults sink.old) (K.faults sink.new)) }
     ensures stays { OnOk result (K.faults sink.new ≡ K.faults sink.old) }
 {

@@ -35,7 +35,8 @@ pub(crate) fn response(
 
 #[tactic(auto, unfolding(crate::specs::Replies::said_bytes))]
 fn or_no_memory(close: bool, head_only: bool, must: bool) -> Result<Response, NoMemory>
-    ensures reply { IfOk result (λ r. (must ≡ false) × (render r ≡ said_bytes close head_only (Err given_up))) }
+    ensures reply { IfOk result
+        (λ r. (must ≡ false) × (render r ≡ said_bytes close head_only (Err given_up))) }
     ensures untold { IfErr result (λ _. must ≡ true) }
 {
     if must {
@@ -149,7 +150,8 @@ fn refusal_body(alloc: Global, why: &Refusal) -> Result<Body, NoMemory>
 
 /// Writes a reply, or a front of it where the sink fails.
 pub(crate) fn send<K: Sink>(sink: &mut K, reply: Response) -> Result<(), WriteFault>
-    ensures { Wrote (K.held sink.old) (K.held sink.new) (K.faults sink.old) (K.faults sink.new) result (render reply) }
+    ensures { Wrote (K.held sink.old) (K.held sink.new) (K.faults sink.old) (K.faults sink.new)
+        result (render reply) }
 {
     write_reply(sink, &reply)
 }

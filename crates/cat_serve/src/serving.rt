@@ -49,17 +49,32 @@ pub fn serve_all<R: Threads + Wait + Sync, K0: Keeper, L: Listener, C: Clock + D
     requires workers { (1 ≤ workers) × (workers ≤ 64) }
     requires spare { workers ≤ spare_of pass.old + 1 }
     requires attempts { (1 ≤ settings.attempts) × (settings.attempts ≤ 64) }
-    ensures serves { result ≢ Served.NoMemory → ServesAll (ends_of L.In.left L.In.faults L.Out.held L.Out.faults) desk.now settings.attempts workers (L.tells listener.old)
-        (L.waiting listener.old) (L.waiting listener.new) (L.returned listener.old) (L.returned listener.new) (L.rejoined listener.old) (L.rejoined listener.new) pass.old pass.new }
-    ensures end { result ≡ Served.End → IsTrue (L.tells listener.old) → L.waiting listener.new ≡ [] }
-    ensures none { result ≡ Served.NoMemory → Remembers pass.old pass.new × (clock.new ≡ clock.old)
-        × (IsTrue (L.tells listener.old) → (L.waiting listener.new ≡ L.waiting listener.old) × (L.returned listener.new ≡ L.returned listener.old)) }
+    ensures serves { result ≢ Served.NoMemory
+        → ServesAll (ends_of L.In.left L.In.faults L.Out.held L.Out.faults) desk.now
+        settings.attempts workers (L.tells listener.old) (L.waiting listener.old)
+        (L.waiting listener.new) (L.returned listener.old) (L.returned listener.new)
+        (L.rejoined listener.old) (L.rejoined listener.new) pass.old pass.new }
+    ensures end { result ≡ Served.End
+        → IsTrue (L.tells listener.old)
+        → L.waiting listener.new ≡ [] }
+    ensures none { result ≡ Served.NoMemory
+        → Remembers pass.old pass.new
+        × (clock.new ≡ clock.old)
+        × (IsTrue (L.tells listener.old)
+        → (L.waiting listener.new ≡ L.waiting listener.old)
+        × (L.returned listener.new ≡ L.returned listener.old)) }
     ensures ready { IsReady desk.now pass.new }
-    ensures kept { (number_of pass.new ≡ number_of pass.old) × (stands_for pass.new + spare_of pass.new ≡ stands_for pass.old + spare_of pass.old) }
-    ensures cause { result ≡ Served.ListenerFault → Rose (L.faults listener.old) (L.faults listener.new) }
-    ensures stays { result ≢ Served.ListenerFault → L.faults listener.old < 2 ^ 64 → L.faults listener.new ≡ L.faults listener.old }
+    ensures kept { (number_of pass.new ≡ number_of pass.old)
+        × (stands_for pass.new + spare_of pass.new ≡ stands_for pass.old + spare_of pass.old) }
+    ensures cause { result ≡ Served.ListenerFault
+        → Rose (L.faults listener.old) (L.faults listener.new) }
+    ensures stays { result ≢ Served.ListenerFault
+        → L.faults listener.old < 2 ^ 64
+        → L.faults listener.new ≡ L.faults listener.old }
     ensures stands { Stands L.tells L.listens listener.old listener.new }
-    ensures away { IsTrue (L.tells listener.old) → (L.out listener.new ≡ L.out listener.old) × (L.twins listener.new ≡ L.twins listener.old) }
+    ensures away { IsTrue (L.tells listener.old)
+        → (L.out listener.new ≡ L.out listener.old)
+        × (L.twins listener.new ≡ L.twins listener.old) }
 {
     let count = workers as usize - 1;
     let Ok(mut others) = Vec::with_capacity(alloc, count) else {
@@ -109,14 +124,19 @@ fn hire_all<K0: Keeper, L: Listener, C: Clock>(
     requires room { (count ≤ vec_capacity others.old) × (count ≤ spare_of pass.old) }
     ensures ready { IsReady desk.now pass.new }
     ensures remembers { Remembers pass.old pass.new }
-    ensures hired { All (IsHired L.tells L.returned L.faults (L.tells listener.old) desk.now pass.old) others.new.items }
+    ensures hired { All
+        (IsHired L.tells L.returned L.faults (L.tells listener.old) desk.now pass.old)
+        others.new.items }
     ensures all { result ≡ true → vec_len others.new ≡ count }
-    ensures kept { (number_of pass.new ≡ number_of pass.old) × (stands_for pass.new ≡ stands_for pass.old) × (spare_of pass.new + vec_len others.new ≡ spare_of pass.old) }
+    ensures kept { (number_of pass.new ≡ number_of pass.old)
+        × (stands_for pass.new ≡ stands_for pass.old)
+        × (spare_of pass.new + vec_len others.new ≡ spare_of pass.old) }
     ensures faults { L.faults listener.new ≡ L.faults listener.old }
     ensures stands { Stands L.tells L.listens listener.old listener.new }
     ensures own { OwnStay L.waiting L.returned L.out listener.old listener.new }
     ensures rejoined { L.rejoined listener.new ≡ L.rejoined listener.old }
-    ensures twins { IsTrue (L.tells listener.old) → L.twins listener.new ≡ L.twins listener.old + vec_len others.new }
+    ensures twins { IsTrue (L.tells listener.old)
+        → L.twins listener.new ≡ L.twins listener.old + vec_len others.new }
 {
     'hiring: while others.len() < count {
         let Some(worker) = hire(desk, pass, listener, clock) else {
@@ -138,13 +158,17 @@ fn hire<K0: Keeper, L: Listener, C: Clock>(
     requires spare { 0 < spare_of pass.old }
     ensures ready { IsReady desk.now pass.new }
     ensures remembers { Remembers pass.old pass.new }
-    ensures hired { IfSome result (IsHired L.tells L.returned L.faults (L.tells listener.old) desk.now pass.old) }
-    ensures kept { (number_of pass.new ≡ number_of pass.old) × (stands_for pass.new ≡ stands_for pass.old) × (spare_of pass.new + length (option_to_list result) ≡ spare_of pass.old) }
+    ensures hired { IfSome result
+        (IsHired L.tells L.returned L.faults (L.tells listener.old) desk.now pass.old) }
+    ensures kept { (number_of pass.new ≡ number_of pass.old)
+        × (stands_for pass.new ≡ stands_for pass.old)
+        × (spare_of pass.new + length (option_to_list result) ≡ spare_of pass.old) }
     ensures faults { L.faults listener.new ≡ L.faults listener.old }
     ensures stands { Stands L.tells L.listens listener.old listener.new }
     ensures own { OwnStay L.waiting L.returned L.out listener.old listener.new }
     ensures rejoined { L.rejoined listener.new ≡ L.rejoined listener.old }
-    ensures twins { IsTrue (L.tells listener.old) → L.twins listener.new ≡ L.twins listener.old + length (option_to_list result) }
+    ensures twins { IsTrue (L.tells listener.old)
+        → L.twins listener.new ≡ L.twins listener.old + length (option_to_list result) }
 {
     let Ok(twin) = listener.twin() else {
         return None;
@@ -176,8 +200,10 @@ fn work<R: Threads + Wait + Sync, K0: Keeper, L: Listener, C: Clock>(
     requires ready { IsReady desk.now pass.old }
     requires others { All (IsBack L.faults desk.now) others.old.items }
     requires attempts { (1 ≤ settings.attempts) × (settings.attempts ≤ 64) }
-    ensures serves { ServesOwn (ends_of L.In.left L.In.faults L.Out.held L.Out.faults) desk.now settings.attempts (L.tells listener.old)
-        (L.waiting listener.old) (L.waiting listener.new) (L.returned listener.old) (L.returned listener.new) pass.old (C.ahead clock.old) pass.new (C.ahead clock.new) }
+    ensures serves { ServesOwn (ends_of L.In.left L.In.faults L.Out.held L.Out.faults) desk.now
+        settings.attempts (L.tells listener.old) (L.waiting listener.old) (L.waiting listener.new)
+        (L.returned listener.old) (L.returned listener.new) pass.old (C.ahead clock.old) pass.new
+        (C.ahead clock.new) }
     ensures end { result ≡ false → IsTrue (L.tells listener.old) → L.waiting listener.new ≡ [] }
     ensures ready { IsReady desk.now pass.new }
     ensures kept { Keeps desk.now pass.old pass.new }
@@ -186,29 +212,46 @@ fn work<R: Threads + Wait + Sync, K0: Keeper, L: Listener, C: Clock>(
     ensures out { IsTrue (L.tells listener.old) → L.out listener.new ≡ L.out listener.old }
     ensures others { TwinsStay L.rejoined L.twins listener.old listener.new }
     ensures len { vec_len others.new ≡ vec_len others.old }
-    ensures done { (told : Bool) (p : Pass) → All (IsHired L.tells L.returned L.faults told desk.now p) others.old.items
-        → All (IsDone (ends_of L.In.left L.In.faults L.Out.held L.Out.faults) desk.now settings.attempts L.returned L.faults told p) others.new.items }
+    ensures done { (told : Bool) (p : Pass)
+        → All (IsHired L.tells L.returned L.faults told desk.now p) others.old.items
+        → All
+        (IsDone (ends_of L.In.left L.In.faults L.Out.held L.Out.faults) desk.now settings.attempts
+        L.returned L.faults told p) others.new.items }
 {
     let rest = others.as_mut_slice();
     let (failed, ()) = join_mut(
         rt,
         &mut ||
-            requires { IsReady desk.now pass.now × (1 ≤ settings.attempts) × (settings.attempts ≤ 64) }
-            ensures serves { ServesOwn (ends_of L.In.left L.In.faults L.Out.held L.Out.faults) desk.entry.now settings.attempts (L.tells listener.entry.now)
-                (L.waiting listener.entry.now) (L.waiting listener.exit.now) (L.returned listener.entry.now) (L.returned listener.exit.now)
-                pass.entry.now (C.ahead clock.entry.now) pass.exit.now (C.ahead clock.exit.now) }
-            ensures end { result ≡ false → IsTrue (L.tells listener.entry.now) → L.waiting listener.exit.now ≡ [] }
-            ensures pass { IsReady desk.entry.now pass.exit.now × Keeps desk.entry.now pass.entry.now pass.exit.now }
-            ensures counts { Counts result (L.faults listener.entry.now) (L.faults listener.exit.now) }
+            requires { IsReady desk.now pass.now
+                × (1 ≤ settings.attempts)
+                × (settings.attempts ≤ 64) }
+            ensures serves { ServesOwn (ends_of L.In.left L.In.faults L.Out.held L.Out.faults)
+                desk.entry.now settings.attempts (L.tells listener.entry.now)
+                (L.waiting listener.entry.now) (L.waiting listener.exit.now)
+                (L.returned listener.entry.now) (L.returned listener.exit.now) pass.entry.now
+                (C.ahead clock.entry.now) pass.exit.now (C.ahead clock.exit.now) }
+            ensures end { result ≡ false
+                → IsTrue (L.tells listener.entry.now)
+                → L.waiting listener.exit.now ≡ [] }
+            ensures pass { IsReady desk.entry.now pass.exit.now
+                × Keeps desk.entry.now pass.entry.now pass.exit.now }
+            ensures counts { Counts result (L.faults listener.entry.now)
+                (L.faults listener.exit.now) }
             ensures stands { Stands L.tells L.listens listener.entry.now listener.exit.now }
-            ensures out { IsTrue (L.tells listener.entry.now) → L.out listener.exit.now ≡ L.out listener.entry.now }
+            ensures out { IsTrue (L.tells listener.entry.now)
+                → L.out listener.exit.now ≡ L.out listener.entry.now }
             ensures others { TwinsStay L.rejoined L.twins listener.entry.now listener.exit.now }
         { serve(rt, alloc, desk, pass, listener, clock, settings) },
         &mut ||
-            requires { All (IsBack L.faults desk.now) rest.now × (1 ≤ settings.attempts) × (settings.attempts ≤ 64) }
+            requires { All (IsBack L.faults desk.now) rest.now
+                × (1 ≤ settings.attempts)
+                × (settings.attempts ≤ 64) }
             ensures len { length rest.exit.now ≡ length rest.entry.now }
-            ensures done { (told : Bool) (p : Pass) → All (IsHired L.tells L.returned L.faults told desk.entry.now p) rest.entry.now
-                → All (IsDone (ends_of L.In.left L.In.faults L.Out.held L.Out.faults) desk.entry.now settings.attempts L.returned L.faults told p) rest.exit.now }
+            ensures done { (told : Bool) (p : Pass)
+                → All (IsHired L.tells L.returned L.faults told desk.entry.now p) rest.entry.now
+                → All
+                (IsDone (ends_of L.In.left L.In.faults L.Out.held L.Out.faults) desk.entry.now
+                settings.attempts L.returned L.faults told p) rest.exit.now }
         { serve_workers(rt, alloc, desk, rest, settings) },
     );
     failed
@@ -225,15 +268,25 @@ fn dismiss<K0: Keeper, L: Listener, C: Drop>(
     requires others { All (IsBack L.faults desk.now) others.items }
     requires twins { IsTrue (L.tells listener.old) → vec_len others ≤ L.twins listener.old }
     ensures ready { IsReady desk.now pass.new }
-    ensures kept { (number_of pass.new ≡ number_of pass.old) × (stands_for pass.new ≡ stands_for pass.old + vec_len others) × (spare_of pass.new ≡ spare_of pass.old) }
+    ensures kept { (number_of pass.new ≡ number_of pass.old)
+        × (stands_for pass.new ≡ stands_for pass.old + vec_len others)
+        × (spare_of pass.new ≡ spare_of pass.old) }
     ensures begins { BeginsWith (seen pass.old) (seen pass.new) }
-    ensures idle { (p : Pass) → Remembers p pass.old → All (IsIdle p) others.items → Remembers p pass.new × (result ≡ false) }
-    ensures back { (attempts : ℕ) (p : Pass) → All (IsDone (ends_of L.In.left L.In.faults L.Out.held L.Out.faults) desk.now attempts L.returned L.faults (L.tells listener.old) p) others.items
-        → AreBack (ends_of L.In.left L.In.faults L.Out.held L.Out.faults) desk.now attempts (L.tells listener.old) (L.rejoined listener.old) (L.rejoined listener.new) 0 (vec_len others) p pass.new }
+    ensures idle { (p : Pass) → Remembers p pass.old
+        → All (IsIdle p) others.items
+        → Remembers p pass.new × (result ≡ false) }
+    ensures back { (attempts : ℕ) (p : Pass)
+        → All
+        (IsDone (ends_of L.In.left L.In.faults L.Out.held L.Out.faults) desk.now attempts
+        L.returned L.faults (L.tells listener.old) p) others.items
+        → AreBack (ends_of L.In.left L.In.faults L.Out.held L.Out.faults) desk.now attempts
+        (L.tells listener.old) (L.rejoined listener.old) (L.rejoined listener.new) 0
+        (vec_len others) p pass.new }
     ensures counts { Counts result (L.faults listener.old) (L.faults listener.new) }
     ensures stands { Stands L.tells L.listens listener.old listener.new }
     ensures own { OwnStay L.waiting L.returned L.out listener.old listener.new }
-    ensures twins { IsTrue (L.tells listener.old) → L.twins listener.new + vec_len others ≡ L.twins listener.old }
+    ensures twins { IsTrue (L.tells listener.old)
+        → L.twins listener.new + vec_len others ≡ L.twins listener.old }
 {
     let mut failed = false;
     while let Some(worker) = others.pop() {
@@ -252,15 +305,23 @@ fn take_back<K0: Keeper, L: Listener, C: Drop>(
 ) -> bool
     requires ready { IsReady desk.now pass.old × IsReady desk.now worker.pass }
     ensures ready { IsReady desk.now pass.new }
-    ensures kept { (number_of pass.new ≡ number_of pass.old) × (stands_for pass.new ≡ stands_for pass.old + stands_for worker.pass) × (spare_of pass.new ≡ max (spare_of pass.old) (spare_of worker.pass)) }
-    ensures begins { BeginsWith (seen pass.old) (seen pass.new) × BeginsWith (seen worker.pass) (seen pass.new) }
-    ensures remembers { (p : Pass) → Remembers p pass.old → Remembers p worker.pass → Remembers p pass.new }
+    ensures kept { (number_of pass.new ≡ number_of pass.old)
+        × (stands_for pass.new ≡ stands_for pass.old + stands_for worker.pass)
+        × (spare_of pass.new ≡ max (spare_of pass.old) (spare_of worker.pass)) }
+    ensures begins { BeginsWith (seen pass.old) (seen pass.new)
+        × BeginsWith (seen worker.pass) (seen pass.new) }
+    ensures remembers { (p : Pass) → Remembers p pass.old
+        → Remembers p worker.pass
+        → Remembers p pass.new }
     ensures failed { result ≡ worker.failed }
-    ensures counts { Counts worker.failed 0 (L.faults worker.listener) → Counts result (L.faults listener.old) (L.faults listener.new) }
+    ensures counts { Counts worker.failed 0 (L.faults worker.listener)
+        → Counts result (L.faults listener.old) (L.faults listener.new) }
     ensures stands { Stands L.tells L.listens listener.old listener.new }
     ensures own { OwnStay L.waiting L.returned L.out listener.old listener.new }
-    ensures rejoined { TakesBack (L.tells listener.old) (L.twins listener.old) (L.rejoined listener.old) (L.rejoined listener.new) (L.returned worker.listener) }
-    ensures twins { IsTrue (L.tells listener.old) → L.twins listener.new ≡ L.twins listener.old - 1 }
+    ensures rejoined { TakesBack (L.tells listener.old) (L.twins listener.old)
+        (L.rejoined listener.old) (L.rejoined listener.new) (L.returned worker.listener) }
+    ensures twins { IsTrue (L.tells listener.old)
+        → L.twins listener.new ≡ L.twins listener.old - 1 }
 {
     let Worker {
         listener: twin,

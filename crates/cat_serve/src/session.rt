@@ -46,24 +46,47 @@ fn turn<R: Wait, K0: Keeper, S: Source, K: Sink, C: Clock, G: Gate>(
     requires ready { IsReady desk.now pass.old }
     requires gate { G.ready gate.old }
     requires attempts { (1 ≤ settings.attempts) × (settings.attempts ≤ 64) }
-    ensures on { IfNone result (ByReadings (C.ahead clock.old) (C.ahead clock.new) (λ (taken : List ℕ) (k : Readings) (c : Point). c.left ≡ left + 1
-        → Stands desk.now c pass.old (prepend_known buffer.old.unread (S.left source.old)) (K.held sink.old)
-        → (t : Turn) × GoesTo desk.now taken k c left t pass.new (prepend_known buffer.new.unread (S.left source.new)) (K.held sink.new))) }
-    ensures ends { IfSome result (λ end. ByReadings (C.ahead clock.old) (C.ahead clock.new) (λ (taken : List ℕ) (k : Readings) (c : Point). c.left ≡ left + 1
-        → Stands desk.now c pass.old (prepend_known buffer.old.unread (S.left source.old)) (K.held sink.old)
+    ensures on { IfNone result
+        (ByReadings (C.ahead clock.old) (C.ahead clock.new)
+        (λ (taken : List ℕ) (k : Readings) (c : Point). c.left ≡ left + 1
+        → Stands desk.now c pass.old (prepend_known buffer.old.unread (S.left source.old))
+        (K.held sink.old)
+        → (t : Turn)
+        × GoesTo desk.now taken k c left t pass.new
+        (prepend_known buffer.new.unread (S.left source.new)) (K.held sink.new))) }
+    ensures ends { IfSome result
+        (λ end. ByReadings (C.ahead clock.old) (C.ahead clock.new)
+        (λ (taken : List ℕ) (k : Readings) (c : Point). c.left ≡ left + 1
+        → Stands desk.now c pass.old (prepend_known buffer.old.unread (S.left source.old))
+        (K.held sink.old)
         → LeavesAt desk.now taken k c end pass.new (K.held sink.new))) }
-    ensures visit { IfNone result ((v : Visit) × Visits desk.now settings.attempts (place (left + 1) pass.old (C.ahead clock.old) (prepend_known buffer.old.unread (S.left source.old)) (K.held sink.old)) v
-        (place left pass.new (C.ahead clock.new) (prepend_known buffer.new.unread (S.left source.new)) (K.held sink.new)) × (asks_to_close v.message ≡ false) × Appends (K.held sink.old) (K.held sink.new) v.reply) }
-    ensures last { IfSome result (λ end. EndsAs desk.now settings.attempts (place (left + 1) pass.old (C.ahead clock.old) (prepend_known buffer.old.unread (S.left source.old)) (K.held sink.old)) end (S.left source.new)
-        pass.new (C.ahead clock.new) (K.held sink.new)) }
-    ensures cut { result ≡ Some Session.ReadFault → (b : List ℕ) → prepend_known buffer.old.unread (S.left source.old) ≡ Some b → LeavesCut b (S.left source.new) }
+    ensures visit { IfNone result
+        ((v : Visit)
+        × Visits desk.now settings.attempts
+        (place (left + 1) pass.old (C.ahead clock.old)
+        (prepend_known buffer.old.unread (S.left source.old)) (K.held sink.old)) v
+        (place left pass.new (C.ahead clock.new)
+        (prepend_known buffer.new.unread (S.left source.new)) (K.held sink.new))
+        × (asks_to_close v.message ≡ false)
+        × Appends (K.held sink.old) (K.held sink.new) v.reply) }
+    ensures last { IfSome result
+        (λ end. EndsAs desk.now settings.attempts
+        (place (left + 1) pass.old (C.ahead clock.old)
+        (prepend_known buffer.old.unread (S.left source.old)) (K.held sink.old)) end
+        (S.left source.new) pass.new (C.ahead clock.new) (K.held sink.new)) }
+    ensures cut { result ≡ Some Session.ReadFault
+        → (b : List ℕ) → prepend_known buffer.old.unread (S.left source.old) ≡ Some b
+        → LeavesCut b (S.left source.new) }
     ensures ready { IsReady desk.now pass.new }
     ensures gate { G.ready gate.new × (G.desks gate.new ≡ G.desks gate.old) }
     ensures kept { Keeps desk.now pass.old pass.new }
     ensures open { result ≢ Some Session.Capped }
-    ensures read { result ≡ Some Session.ReadFault → Rose (S.faults source.old) (S.faults source.new) }
-    ensures write { result ≡ Some Session.WriteFault → Rose (K.faults sink.old) (K.faults sink.new) }
-    ensures source_stays { result ≢ Some Session.ReadFault → S.faults source.new ≡ S.faults source.old }
+    ensures read { result ≡ Some Session.ReadFault
+        → Rose (S.faults source.old) (S.faults source.new) }
+    ensures write { result ≡ Some Session.WriteFault
+        → Rose (K.faults sink.old) (K.faults sink.new) }
+    ensures source_stays { result ≢ Some Session.ReadFault
+        → S.faults source.new ≡ S.faults source.old }
     ensures sink_stays { result ≢ Some Session.WriteFault → K.faults sink.new ≡ K.faults sink.old }
 {
     match read_request(source, buffer) {
@@ -112,9 +135,13 @@ pub fn serve_connection<R: Wait, K0: Keeper, S: Source, K: Sink, C: Clock, G: Ga
     requires gate { G.ready gate.old }
     requires attempts { (1 ≤ settings.attempts) × (settings.attempts ≤ 64) }
     // Whatever other callers do at once, every reply is the one-thread catalogue's at its place in one legal log.
-    ensures serves { Serves desk.now settings.attempts (place 1000 pass.old (C.ahead clock.old) (S.left source.old) (K.held sink.old)) result (S.left source.new) pass.new (C.ahead clock.new) (K.held sink.new) }
+    ensures serves { Serves desk.now settings.attempts
+        (place 1000 pass.old (C.ahead clock.old) (S.left source.old) (K.held sink.old)) result
+        (S.left source.new) pass.new (C.ahead clock.new) (K.held sink.new) }
     // On the only pass of its desk the session is a script.
-    ensures alone { EndsKnown desk.now 1000 pass.old pass.new (C.ahead clock.old) (C.ahead clock.new) (S.left source.old) (S.left source.new) (K.held sink.old) result (K.held sink.new) }
+    ensures alone { EndsKnown desk.now 1000 pass.old pass.new (C.ahead clock.old)
+        (C.ahead clock.new) (S.left source.old) (S.left source.new) (K.held sink.old) result
+        (K.held sink.new) }
     ensures ready { IsReady desk.now pass.new }
     ensures gate { G.ready gate.new × (G.desks gate.new ≡ G.desks gate.old) }
     ensures kept { Keeps desk.now pass.old pass.new }

@@ -40,8 +40,10 @@ pub(crate) fn serve<R: Wait, K0: Keeper, L: Listener, C: Clock>(
 ) -> bool
     requires ready { IsReady desk.now pass.old }
     requires attempts { (1 ≤ settings.attempts) × (settings.attempts ≤ 64) }
-    ensures serves { ServesOwn (ends_of L.In.left L.In.faults L.Out.held L.Out.faults) desk.now settings.attempts (L.tells listener.old)
-        (L.waiting listener.old) (L.waiting listener.new) (L.returned listener.old) (L.returned listener.new) pass.old (C.ahead clock.old) pass.new (C.ahead clock.new) }
+    ensures serves { ServesOwn (ends_of L.In.left L.In.faults L.Out.held L.Out.faults) desk.now
+        settings.attempts (L.tells listener.old) (L.waiting listener.old) (L.waiting listener.new)
+        (L.returned listener.old) (L.returned listener.new) pass.old (C.ahead clock.old) pass.new
+        (C.ahead clock.new) }
     ensures end { result ≡ false → IsTrue (L.tells listener.old) → L.waiting listener.new ≡ [] }
     ensures ready { IsReady desk.now pass.new }
     ensures kept { Keeps desk.now pass.old pass.new }
@@ -84,17 +86,24 @@ pub(crate) fn serve_workers<R: Threads + Wait + Sync, K0: Keeper, L: Listener, C
     requires workers { All (IsBack L.faults desk.now) workers.old }
     requires attempts { (1 ≤ settings.attempts) × (settings.attempts ≤ 64) }
     ensures len { length workers.new ≡ length workers.old }
-    ensures done { (told : Bool) (p : Pass) → All (IsHired L.tells L.returned L.faults told desk.now p) workers.old
-        → All (IsDone (ends_of L.In.left L.In.faults L.Out.held L.Out.faults) desk.now settings.attempts L.returned L.faults told p) workers.new }
+    ensures done { (told : Bool) (p : Pass)
+        → All (IsHired L.tells L.returned L.faults told desk.now p) workers.old
+        → All
+        (IsDone (ends_of L.In.left L.In.faults L.Out.held L.Out.faults) desk.now settings.attempts
+        L.returned L.faults told p) workers.new }
 {
     for_each_mut(
         rt,
         workers,
         MOST,
         &|_, worker: &mut Worker<L, C>|
-            requires { IsReady desk.now worker.old.pass × (1 ≤ settings.attempts) × (settings.attempts ≤ 64) }
-            ensures { (told : Bool) (p : Pass) → IsHired L.tells L.returned L.faults told desk.entry.now p worker.old
-                → IsDone (ends_of L.In.left L.In.faults L.Out.held L.Out.faults) desk.entry.now settings.attempts L.returned L.faults told p worker.new }
+            requires { IsReady desk.now worker.old.pass
+                × (1 ≤ settings.attempts)
+                × (settings.attempts ≤ 64) }
+            ensures { (told : Bool) (p : Pass)
+                → IsHired L.tells L.returned L.faults told desk.entry.now p worker.old
+                → IsDone (ends_of L.In.left L.In.faults L.Out.held L.Out.faults) desk.entry.now
+                settings.attempts L.returned L.faults told p worker.new }
         {
             worker.failed = serve(
                 rt,

@@ -4,6 +4,7 @@ use Rattle.cat_io.specs.Crashes.{LeavesOnly}
 use Rattle.cat_io.specs.Crashes as crashes
 use Rattle.cat_io.specs.Causes.{Rose}
 use Rattle.cat_keeper.specs.declared.fault.KeepFault.TheVariants as KeepFault
+use Rattle.cat_keeper.specs.declared.keeper.Keeper.{Ghosts}
 use Rattle.cat_keeper.specs.Keeping.{HasKeepCause, WithOrWithout}
 use Rattle.cat_keeper.specs.Moments.{followed, started, weaker}
 use Rattle.cat_model.specs.declared.log_entry.LogEntry.{LogEntry}
@@ -21,42 +22,42 @@ if_told : (told : Option (List (List ℕ))) (P : List (List ℕ) → Type 0) →
 if_told None P h = tt
 if_told (Some ps) P h = h ps refl
 
-module _ {K : Type 0} (told : K → Option (List (List ℕ))) (kept : K → ℕ) (down : K → Option ℕ) (in_flight : K → Option (List ℕ)) (faults : K → ℕ) (moment : K → ℕ) (left_since : K → ℕ → Option (List (List ℕ)) → Type 0) (may_leave : K → Option (List (List ℕ)) → Type 0)
-    (safe : (k : K) (ps : List (List ℕ)) (c : Option (List (List ℕ))) → down k ≡ None → told k ≡ Some ps → may_leave k c → c ≡ Some ps)
-    (only_now : (k : K) (c : Option (List (List ℕ))) → left_since k (moment k) c → may_leave k c) where
+module _ {K : Type 0} (members : Ghosts K)
+    (safe : (k : K) (ps : List (List ℕ)) (c : Option (List (List ℕ))) → members.down k ≡ None → members.told k ≡ Some ps → members.may_leave k c → c ≡ Some ps)
+    (only_now : (k : K) (c : Option (List (List ℕ))) → members.left_since k (members.moment k) c → members.may_leave k c) where
   -- nothing was done
-  pub stays : (k : K) → Stayed told kept down in_flight faults moment left_since may_leave k k
-  stays k = record { payloads = refl; number = refl; fallen = refl; flies = refl; later = omega arith; crash = started moment left_since k (may_leave k) (only_now k) }
+  pub stays : (k : K) → Stayed members k k
+  stays k = record { payloads = refl; number = refl; fallen = refl; flies = refl; later = omega arith; crash = started members.moment members.left_since k (members.may_leave k) (only_now k) }
 
   -- nothing was done, and nothing was to be logged
-  pub grows_none : (k : K) → down k ≡ None → Grew told kept down in_flight faults moment left_since may_leave k k []
-  grows_none k up = record { payloads = none_more (told k); number = omega arith; up = up; later = omega arith; crash = started moment left_since k (may_leave k) (only_now k) }
+  pub grows_none : (k : K) → members.down k ≡ None → Grew members k k []
+  grows_none k up = record { payloads = none_more (members.told k); number = omega arith; up = up; later = omega arith; crash = started members.moment members.left_since k (members.may_leave k) (only_now k) }
 
   -- what one might have left before is one of the payloads without more
-  without : (k : K) (entries : List LogEntry) (c : Option (List (List ℕ))) → down k ≡ None → may_leave k c → WithOrWithoutAll (told k) entries c
-  without k entries c up now = if_told (told k) (λ ps. (c ≡ Some ps) ⊎ (c ≡ Some (ps ++ spellings entries))) (λ ps is. inl (safe k ps c up is now))
+  without : (k : K) (entries : List LogEntry) (c : Option (List (List ℕ))) → members.down k ≡ None → members.may_leave k c → WithOrWithoutAll (members.told k) entries c
+  without k entries c up now = if_told (members.told k) (λ ps. (c ≡ Some ps) ⊎ (c ≡ Some (ps ++ spellings entries))) (λ ps is. inl (safe k ps c up is now))
 
-  pub leaves_any : (old new : K) (logged : List LogEntry) → down old ≡ None → LeavesOnly moment left_since old new (may_leave old) → Leaves told moment left_since may_leave old new logged
+  pub leaves_any : (old new : K) (logged : List LogEntry) → members.down old ≡ None → LeavesOnly members.moment members.left_since old new (members.may_leave old) → Leaves members old new logged
   leaves_any old new [] up run = run
-  leaves_any old new (entry ∷ entries) up run = weaker moment left_since old new (may_leave old) (WithOrWithoutAll (told old) (entry ∷ entries)) run (λ c now. without old (entry ∷ entries) c up now)
+  leaves_any old new (entry ∷ entries) up run = weaker members.moment members.left_since old new (members.may_leave old) (WithOrWithoutAll (members.told old) (entry ∷ entries)) run (λ c now. without old (entry ∷ entries) c up now)
 
   -- room was made, and an entry was appended or not
-  pub appended : (old mid new : K) (entry : LogEntry) (bytes : List ℕ) → down old ≡ None → told mid ≡ told old → bytes ≡ spelling entry → LeavesOnly moment left_since old mid (may_leave old)
-      → LeavesOnly moment left_since mid new (λ c. IfSome (told mid) (λ ps. WithOrWithout ps bytes c)) → Leaves told moment left_since may_leave old new (entry ∷ [])
+  pub appended : (old mid new : K) (entry : LogEntry) (bytes : List ℕ) → members.down old ≡ None → members.told mid ≡ members.told old → bytes ≡ spelling entry → LeavesOnly members.moment members.left_since old mid (members.may_leave old)
+      → LeavesOnly members.moment members.left_since mid new (λ c. IfSome (members.told mid) (λ ps. WithOrWithout ps bytes c)) → Leaves members old new (entry ∷ [])
   appended old mid new entry bytes up same spelled one two =
-      followed moment left_since old mid new (may_leave old) (λ c. IfSome (told mid) (λ ps. WithOrWithout ps bytes c)) (WithOrWithoutAll (told old) (entry ∷ [])) one two
+      followed members.moment members.left_since old mid new (members.may_leave old) (λ c. IfSome (members.told mid) (λ ps. WithOrWithout ps bytes c)) (WithOrWithoutAll (members.told old) (entry ∷ [])) one two
       (λ c now. without old (entry ∷ []) c up now)
-      (λ c now. subst (λ (b : List ℕ). IfSome (told old) (λ ps. WithOrWithout ps b c)) spelled (subst (λ (t : Option (List (List ℕ))). IfSome t (λ ps. WithOrWithout ps bytes c)) same now))
+      (λ c now. subst (λ (b : List ℕ). IfSome (members.told old) (λ ps. WithOrWithout ps b c)) spelled (subst (λ (t : Option (List (List ℕ))). IfSome t (λ ps. WithOrWithout ps bytes c)) same now))
 
-  pub told_more : (old mid new : K) (entry : LogEntry) (bytes : List ℕ) → told mid ≡ told old → bytes ≡ spelling entry → crashes.Told (told mid) (told new) (λ before now. now ≡ before ++ bytes ∷ []) → crashes.Told (told old) (told new) (λ before now. now ≡ before ++ spellings (entry ∷ []))
+  pub told_more : (old mid new : K) (entry : LogEntry) (bytes : List ℕ) → members.told mid ≡ members.told old → bytes ≡ spelling entry → crashes.Told (members.told mid) (members.told new) (λ before now. now ≡ before ++ bytes ∷ []) → crashes.Told (members.told old) (members.told new) (λ before now. now ≡ before ++ spellings (entry ∷ []))
   told_more old mid new entry bytes same spelled now =
-      subst (λ (b : List ℕ). crashes.Told (told old) (told new) (λ before now. now ≡ before ++ b ∷ [])) spelled (subst (λ (t : Option (List (List ℕ))). crashes.Told t (told new) (λ before now. now ≡ before ++ bytes ∷ [])) same now)
+      subst (λ (b : List ℕ). crashes.Told (members.told old) (members.told new) (λ before now. now ≡ before ++ b ∷ [])) spelled (subst (λ (t : Option (List (List ℕ))). crashes.Told t (members.told new) (λ before now. now ≡ before ++ bytes ∷ [])) same now)
 
-  pub told_same : (old mid new : K) → told mid ≡ told old → crashes.Told (told mid) (told new) (λ before now. now ≡ before) → crashes.Told (told old) (told new) (λ before now. now ≡ before)
-  told_same old mid new same now = subst (λ (t : Option (List (List ℕ))). crashes.Told t (told new) (λ before now. now ≡ before)) same now
+  pub told_same : (old mid new : K) → members.told mid ≡ members.told old → crashes.Told (members.told mid) (members.told new) (λ before now. now ≡ before) → crashes.Told (members.told old) (members.told new) (λ before now. now ≡ before)
+  told_same old mid new same now = subst (λ (t : Option (List (List ℕ))). crashes.Told t (members.told new) (λ before now. now ≡ before)) same now
 
-  pub appended_ok : (old mid new : K) (entry : LogEntry) (bytes : List ℕ) → down old ≡ None → Stayed told kept down in_flight faults moment left_since may_leave old mid → bytes ≡ spelling entry → crashes.Told (told mid) (told new) (λ before now. now ≡ before ++ bytes ∷ [])
-      → kept new ≡ kept mid + 1 → down new ≡ None → faults mid ≤ faults new → LeavesOnly moment left_since mid new (λ c. IfSome (told mid) (λ ps. WithOrWithout ps bytes c)) → Grew told kept down in_flight faults moment left_since may_leave old new (entry ∷ [])
+  pub appended_ok : (old mid new : K) (entry : LogEntry) (bytes : List ℕ) → members.down old ≡ None → Stayed members old mid → bytes ≡ spelling entry → crashes.Told (members.told mid) (members.told new) (λ before now. now ≡ before ++ bytes ∷ [])
+      → members.kept new ≡ members.kept mid + 1 → members.down new ≡ None → members.faults mid ≤ members.faults new → LeavesOnly members.moment members.left_since mid new (λ c. IfSome (members.told mid) (λ ps. WithOrWithout ps bytes c)) → Grew members old new (entry ∷ [])
   appended_ok old mid new entry bytes up room spelled payloads number is_up later run = record {
     payloads = told_more old mid new entry bytes room.payloads spelled payloads;
     number = number ∙ ap (λ (k : ℕ). k + 1) room.number;
@@ -65,8 +66,8 @@ module _ {K : Type 0} (told : K → Option (List (List ℕ))) (kept : K → ℕ)
     crash = appended old mid new entry bytes up room.payloads spelled room.crash run;
   }
 
-  pub append_failed : (old mid new : K) (entry : LogEntry) (bytes : List ℕ) → down old ≡ None → Stayed told kept down in_flight faults moment left_since may_leave old mid → faults mid ≡ faults old → bytes ≡ spelling entry → crashes.Told (told mid) (told new) (λ before now. now ≡ before)
-      → kept new ≡ kept mid → down new ≡ Some (faults new) → in_flight new ≡ Some bytes → HasKeepCause {T = Unit {0}} (faults mid) (faults new) (Err KeepFault.Fault) → LeavesOnly moment left_since mid new (λ c. IfSome (told mid) (λ ps. WithOrWithout ps bytes c)) → Fell told kept down in_flight faults moment left_since may_leave old new (entry ∷ [])
+  pub append_failed : (old mid new : K) (entry : LogEntry) (bytes : List ℕ) → members.down old ≡ None → Stayed members old mid → members.faults mid ≡ members.faults old → bytes ≡ spelling entry → crashes.Told (members.told mid) (members.told new) (λ before now. now ≡ before)
+      → members.kept new ≡ members.kept mid → members.down new ≡ Some (members.faults new) → members.in_flight new ≡ Some bytes → HasKeepCause {T = Unit {0}} (members.faults mid) (members.faults new) (Err KeepFault.Fault) → LeavesOnly members.moment members.left_since mid new (λ c. IfSome (members.told mid) (λ ps. WithOrWithout ps bytes c)) → Fell members old new (entry ∷ [])
   append_failed old mid new entry bytes up room count spelled payloads number fallen flies cause run = record {
     entry = entry;
     one = refl;
@@ -75,6 +76,6 @@ module _ {K : Type 0} (told : K → Option (List (List ℕ))) (kept : K → ℕ)
     number = number ∙ room.number;
     fallen = fallen;
     later = omega (arith, room.later, cause.0);
-    rose = subst (λ (n : ℕ). Rose n (faults new)) count cause.1;
+    rose = subst (λ (n : ℕ). Rose n (members.faults new)) count cause.1;
     crash = appended old mid new entry bytes up room.payloads spelled room.crash run;
   }

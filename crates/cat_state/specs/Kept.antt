@@ -5,6 +5,7 @@ use Rattle.cat_io.specs.Causes.{Rose}
 use Rattle.cat_io.specs.Crashes.{LeavesOnly}
 use Rattle.cat_io.specs.Crashes as crashes
 use Rattle.cat_frames.specs.Entries.{log_entry_code}
+use Rattle.cat_keeper.specs.declared.keeper.Keeper.{Ghosts}
 use Rattle.cat_model.specs.declared.log_entry.LogEntry.{LogEntry}
 use Rattle.cat_state.specs.declared.failure.Failure.TheVariants as failures
 use Rattle.cat_state.specs.declared.unmade.Unmade.{Unmade}
@@ -22,48 +23,48 @@ abbrev pub WithOrWithoutAll : Option (List (List ℕ)) → List LogEntry → Opt
 WithOrWithoutAll told entries c = IfSome told (λ ps. (c ≡ Some ps) ⊎ (c ≡ Some (ps ++ spellings entries)))
 
 -- what a crash at any moment of a call leaves: where the call brings no entry, what one might have left before
-abbrev pub Leaves : {K : Type 0} → (K → Option (List (List ℕ))) → (K → ℕ) → (K → ℕ → Option (List (List ℕ)) → Type 0) → (K → Option (List (List ℕ)) → Type 0) → K → K → List LogEntry → Type 0
-Leaves told moment left_since may_leave old new [] = LeavesOnly moment left_since old new (may_leave old)
-Leaves told moment left_since may_leave old new (entry ∷ entries) = LeavesOnly moment left_since old new (WithOrWithoutAll (told old) (entry ∷ entries))
+abbrev pub Leaves : {K : Type 0} → Ghosts K → K → K → List LogEntry → Type 0
+Leaves members old new [] = LeavesOnly members.moment members.left_since old new (members.may_leave old)
+Leaves members old new (entry ∷ entries) = LeavesOnly members.moment members.left_since old new (WithOrWithoutAll (members.told old) (entry ∷ entries))
 
 -- the entries are behind those before, each acknowledged
-pub record Grew {K : Type 0} (told : K → Option (List (List ℕ))) (kept : K → ℕ) (down : K → Option ℕ) (in_flight : K → Option (List ℕ)) (faults : K → ℕ) (moment : K → ℕ) (left_since : K → ℕ → Option (List (List ℕ)) → Type 0) (may_leave : K → Option (List (List ℕ)) → Type 0) (old new : K) (logged : List LogEntry) : Type 0 where
-  pub payloads : crashes.Told (told old) (told new) (λ before now. now ≡ before ++ spellings logged)
-  pub number : kept new ≡ kept old + length logged
-  pub up : down new ≡ None
-  pub later : faults old ≤ faults new
-  pub crash : Leaves told moment left_since may_leave old new logged
+pub record Grew {K : Type 0} (members : Ghosts K) (old new : K) (logged : List LogEntry) : Type 0 where
+  pub payloads : crashes.Told (members.told old) (members.told new) (λ before now. now ≡ before ++ spellings logged)
+  pub number : members.kept new ≡ members.kept old + length logged
+  pub up : members.down new ≡ None
+  pub later : members.faults old ≤ members.faults new
+  pub crash : Leaves members old new logged
 
 -- the append of the one entry failed: it is in flight, and the keeper is down from this count of faults on
-pub record Fell {K : Type 0} (told : K → Option (List (List ℕ))) (kept : K → ℕ) (down : K → Option ℕ) (in_flight : K → Option (List ℕ)) (faults : K → ℕ) (moment : K → ℕ) (left_since : K → ℕ → Option (List (List ℕ)) → Type 0) (may_leave : K → Option (List (List ℕ)) → Type 0) (old new : K) (logged : List LogEntry) : Type 0 where
+pub record Fell {K : Type 0} (members : Ghosts K) (old new : K) (logged : List LogEntry) : Type 0 where
   pub entry : LogEntry
   pub one : logged ≡ entry ∷ []
-  pub flies : in_flight new ≡ Some (spelling entry)
-  pub payloads : crashes.Told (told old) (told new) (λ before now. now ≡ before)
-  pub number : kept new ≡ kept old
-  pub fallen : down new ≡ Some (faults new)
-  pub later : faults old ≤ faults new
-  pub rose : Rose (faults old) (faults new)
-  pub crash : Leaves told moment left_since may_leave old new logged
+  pub flies : members.in_flight new ≡ Some (spelling entry)
+  pub payloads : crashes.Told (members.told old) (members.told new) (λ before now. now ≡ before)
+  pub number : members.kept new ≡ members.kept old
+  pub fallen : members.down new ≡ Some (members.faults new)
+  pub later : members.faults old ≤ members.faults new
+  pub rose : Rose (members.faults old) (members.faults new)
+  pub crash : Leaves members old new logged
 
 -- nothing was appended
-pub record Stayed {K : Type 0} (told : K → Option (List (List ℕ))) (kept : K → ℕ) (down : K → Option ℕ) (in_flight : K → Option (List ℕ)) (faults : K → ℕ) (moment : K → ℕ) (left_since : K → ℕ → Option (List (List ℕ)) → Type 0) (may_leave : K → Option (List (List ℕ)) → Type 0) (old new : K) : Type 0 where
-  pub payloads : told new ≡ told old
-  pub number : kept new ≡ kept old
-  pub fallen : down new ≡ down old
-  pub flies : in_flight new ≡ in_flight old
-  pub later : faults old ≤ faults new
-  pub crash : LeavesOnly moment left_since old new (may_leave old)
+pub record Stayed {K : Type 0} (members : Ghosts K) (old new : K) : Type 0 where
+  pub payloads : members.told new ≡ members.told old
+  pub number : members.kept new ≡ members.kept old
+  pub fallen : members.down new ≡ members.down old
+  pub flies : members.in_flight new ≡ members.in_flight old
+  pub later : members.faults old ≤ members.faults new
+  pub crash : LeavesOnly members.moment members.left_since old new (members.may_leave old)
 
 -- what a call that made nothing did, by why
-abbrev pub Spares : {K : Type 0} → (K → Option (List (List ℕ))) → (K → ℕ) → (K → Option ℕ) → (K → Option (List ℕ)) → (K → ℕ) → (K → ℕ) → (K → ℕ → Option (List (List ℕ)) → Type 0) → (K → Option (List (List ℕ)) → Type 0) → K → K → List LogEntry → Unmade → Type 0
-Spares told kept down in_flight faults moment left_since may_leave old new logged NotKept = Fell told kept down in_flight faults moment left_since may_leave old new logged
-Spares told kept down in_flight faults moment left_since may_leave old new logged (Failed failure) = Stayed told kept down in_flight faults moment left_since may_leave old new
+abbrev pub Spares : {K : Type 0} → Ghosts K → K → K → List LogEntry → Unmade → Type 0
+Spares members old new logged NotKept = Fell members old new logged
+Spares members old new logged (Failed failure) = Stayed members old new
 
 -- what a call that brings these entries did
-abbrev pub Keeps : {K T : Type 0} → (K → Option (List (List ℕ))) → (K → ℕ) → (K → Option ℕ) → (K → Option (List ℕ)) → (K → ℕ) → (K → ℕ) → (K → ℕ → Option (List (List ℕ)) → Type 0) → (K → Option (List (List ℕ)) → Type 0) → K → K → List LogEntry → Result T Unmade → Type 0
-Keeps told kept down in_flight faults moment left_since may_leave old new logged (Ok x) = Grew told kept down in_flight faults moment left_since may_leave old new logged
-Keeps told kept down in_flight faults moment left_since may_leave old new logged (Err why) = Spares told kept down in_flight faults moment left_since may_leave old new logged why
+abbrev pub Keeps : {K T : Type 0} → Ghosts K → K → K → List LogEntry → Result T Unmade → Type 0
+Keeps members old new logged (Ok x) = Grew members old new logged
+Keeps members old new logged (Err why) = Spares members old new logged why
 
 -- the rules don't refuse it
 abbrev pub IsUnrefused : Unmade → Type 0

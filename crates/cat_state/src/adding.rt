@@ -48,8 +48,12 @@ impl Catalogue {
         content: &Content,
     ) -> Result<bool, Failure>
         requires { hash ≡ content_hash sha256 content.now }
-        ensures step { let state = with_additions self.now more.now in GivesAs (λ b. if b then holding ((hash, content.now) ∷ state.present) state else state) result (with_content sha256 state content.now) }
-        ensures absent { IfOk result (λ b. IsTrue b → value_of (with_additions self.now more.now).present hash ≡ None) }
+        ensures step { let state = with_additions self.now more.now in
+            GivesAs
+            (λ b. if b then holding ((hash, content.now) ∷ state.present) state else state) result
+            (with_content sha256 state content.now) }
+        ensures absent { IfOk result
+            (λ b. IsTrue b → value_of (with_additions self.now more.now).present hash ≡ None) }
     {
         let kept = self.content_bytes_with(alloc, more, &hash)?;
         if kept.is_none() {
@@ -70,7 +74,8 @@ impl Catalogue {
     ) -> Result<(), Failure>
         requires hash { hash ≡ content_hash sha256 content.now }
         requires new { AreNewTo self.now more.old }
-        ensures step { GivesAs (λ _. with_additions self.now more.new) result (with_content sha256 (with_additions self.now more.old) content.now) }
+        ensures step { GivesAs (λ _. with_additions self.now more.new) result
+            (with_content sha256 (with_additions self.now more.old) content.now) }
         ensures new { OnOk result (AreNewTo self.now more.new) }
         ensures commits { more.new.commits ≡ more.old.commits }
     {
@@ -92,7 +97,8 @@ impl Catalogue {
     ) -> Result<(), Failure>
         requires hashes { AreHashesOf hashes.now contents.now }
         requires new { AreNewTo self.now more.old }
-        ensures step { GivesAs (λ _. with_additions self.now more.new) result (with_contents sha256 (with_additions self.now more.old) contents.now) }
+        ensures step { GivesAs (λ _. with_additions self.now more.new) result
+            (with_contents sha256 (with_additions self.now more.old) contents.now) }
         ensures new { OnOk result (AreNewTo self.now more.new) }
         ensures commits { more.new.commits ≡ more.old.commits }
     {
@@ -111,11 +117,23 @@ impl Catalogue {
         written: &Record,
     ) -> Result<bool, Failure>
         requires { IsRecordOf commit.now written.now }
-        ensures step { let state = with_additions self.now more.now in GivesAs (λ b. if b then keeping ((written.now.hash, commit.now) ∷ state.commits) state else state) result (with_commit sha256 state commit.now) }
-        ensures absent { IfOk result (λ b. IsTrue b → commit_of (with_additions self.now more.now).commits written.now.hash ≡ None) }
-        ensures below { IfOk result (λ b. IsTrue b → same_hash (no_ancestor sha256) written.now.hash ≡ false) }
-        ensures known { IfOk result (λ b. b ≡ false → IsTrue (is_known sha256 (with_additions self.now more.now) written.now.hash)) }
-        ensures there { IfOk result (λ b. b ≡ false → commit_of (with_additions self.now more.now).commits written.now.hash ≡ Some commit.now) }
+        ensures step { let state = with_additions self.now more.now in
+            GivesAs
+            (λ b. if b
+            then keeping ((written.now.hash, commit.now) ∷ state.commits) state
+            else state) result (with_commit sha256 state commit.now) }
+        ensures absent { IfOk result
+            (λ b. IsTrue b
+            → commit_of (with_additions self.now more.now).commits written.now.hash ≡ None) }
+        ensures below { IfOk result
+            (λ b. IsTrue b → same_hash (no_ancestor sha256) written.now.hash ≡ false) }
+        ensures known { IfOk result
+            (λ b. b ≡ false
+            → IsTrue (is_known sha256 (with_additions self.now more.now) written.now.hash)) }
+        ensures there { IfOk result
+            (λ b. b ≡ false
+            → commit_of (with_additions self.now more.now).commits written.now.hash
+            ≡ Some commit.now) }
     {
         let _ = commit;
         let kept = self.commit_bytes_with(alloc, more, &written.hash)?;
@@ -127,10 +145,15 @@ impl Catalogue {
         requires new { AreNewTo self.now more.old }
         requires next { MayBeAdded (with_additions self.now more.old).commits made.commit made.map }
         requires held { IsTrue (has_contents (with_additions self.now more.old).present made.map) }
-        requires absent { commit_of (with_additions self.now more.old).commits made.written.hash ≡ None }
+        requires absent { commit_of (with_additions self.now more.old).commits made.written.hash
+            ≡ None }
         requires below { same_hash (no_ancestor sha256) made.written.hash ≡ false }
-        ensures step { let state = with_additions self.now more.old in OnOk result (with_additions self.now more.new ≡ keeping ((made.written.hash, made.commit) ∷ state.commits) state) }
-        ensures added { OnOk result (HasCommit self.now more.old more.new made.written.hash made.map) }
+        ensures step { let state = with_additions self.now more.old in
+            OnOk result
+            (with_additions self.now more.new
+            ≡ keeping ((made.written.hash, made.commit) ∷ state.commits) state) }
+        ensures added { OnOk result
+            (HasCommit self.now more.old more.new made.written.hash made.map) }
     {
         reserve(more)?;
         let NewCommit {
@@ -154,8 +177,10 @@ impl Catalogue {
         requires next { MayBeAdded (with_additions self.now more.old).commits made.commit made.map }
         requires held { IsTrue (has_contents (with_additions self.now more.old).present made.map) }
         requires written { IsRecordOf made.commit made.written }
-        ensures step { GivesAs (λ _. with_additions self.now more.new) result (with_commit sha256 (with_additions self.now more.old) made.commit) }
-        ensures added { OnOk result (HasCommit self.now more.old more.new made.written.hash made.map) }
+        ensures step { GivesAs (λ _. with_additions self.now more.new) result
+            (with_commit sha256 (with_additions self.now more.old) made.commit) }
+        ensures added { OnOk result
+            (HasCommit self.now more.old more.new made.written.hash made.map) }
     {
         if !self.is_new_commit(alloc, more, &made.commit, &made.written)? {
             drop(made);
@@ -177,10 +202,13 @@ impl Catalogue {
         requires hashes { AreHashesOf hashes.now contents.now }
         requires next { MayBeAdded self.now.commits made.commit made.map }
         requires written { IsRecordOf made.commit made.written }
-        requires held { IsTrue (list_all (λ x. is_held self.now.present hashes.now x.1.hash) made.map) }
-        ensures step { GivesAs (λ a. with_additions self.now a) result (with_both self.now contents.now made.commit) }
+        requires held { IsTrue
+            (list_all (λ x. is_held self.now.present hashes.now x.1.hash) made.map) }
+        ensures step { GivesAs (λ a. with_additions self.now a) result
+            (with_both self.now contents.now made.commit) }
         ensures new { IfOk result (AreNewTo self.now) }
-        ensures known { IfOk result (λ a. IsTrue (is_known sha256 (with_additions self.now a) made.written.hash)) }
+        ensures known { IfOk result
+            (λ a. IsTrue (is_known sha256 (with_additions self.now a) made.written.hash)) }
     {
         let mut more = self.no_additions(alloc);
         self.add_contents(alloc, &mut more, contents, hashes)?;

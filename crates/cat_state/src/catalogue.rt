@@ -44,9 +44,16 @@ impl Model for Catalogue {
 
     ghost use Rattle.cat_state.specs.Keeping.{IsCatalogue};
 
-    ghost view = { λ c. record { place = c.place; references = c.references.list; commits = c.commits.list; present = c.contents.list; limits = c.limits } };
+    ghost view = { λ c. record {
+      place = c.place;
+      references = c.references.list;
+      commits = c.commits.list;
+      present = c.contents.list;
+      limits = c.limits;
+    } };
 
-    ghost invariant = { λ c. IsCatalogue c.limits c.references.list c.commits.list c.maps.list c.contents.list };
+    ghost invariant = { λ c. IsCatalogue c.limits c.references.list c.commits.list c.maps.list
+        c.contents.list };
 }
 
 impl Catalogue {
@@ -111,7 +118,10 @@ impl Catalogue {
 
     /// What holds of the map at each commit: the content of each entry is there.
     pub fn contents_are_held(&self)
-        ensures { (hash : Hash) → IsTrue (list_all (λ x. is_some (content_at self.now.present x.1.hash)) (entries self.now.commits hash)) }
+        ensures { (hash : Hash)
+            → IsTrue
+            (list_all (λ x. is_some (content_at self.now.present x.1.hash))
+            (entries self.now.commits hash)) }
     {
         let _ = self.maps();
     }

@@ -26,7 +26,9 @@ pub(crate) fn content_bytes(
     contents: &Table<Content>,
     hash: &Hash,
 ) -> Result<Option<Vec<u8>>, NoMemory>
-    ensures { IfOk result (λ b. option_map (λ v. v.items) b ≡ option_map (λ c. (content_code).spell c) (content_at contents.now.list hash.now)) }
+    ensures { IfOk result
+        (λ b. option_map (λ v. v.items) b
+        ≡ option_map (λ c. (content_code).spell c) (content_at contents.now.list hash.now)) }
 {
     match find_content(contents, hash) {
         None => Ok(None),

@@ -69,7 +69,8 @@ impl Catalogue {
         ensures references { result.references ≡ length self.now.references }
         ensures commits { result.commits ≡ length self.now.commits }
         ensures contents { result.contents ≡ length self.now.present }
-        ensures keys { result.keys ≡ length (entries self.now.commits (main_head self.now.references)) }
+        ensures keys { result.keys
+            ≡ length (entries self.now.commits (main_head self.now.references)) }
         ensures head { result.head ≡ main_head self.now.references }
     {
         let head = self.main_head();

@@ -30,7 +30,10 @@ impl Catalogue {
         more: &Additions,
         hash: &Hash,
     ) -> Result<Option<Vec<u8>>, NoMemory>
-        ensures { IfOk result (λ b. option_map (λ v. v.items) b ≡ option_map (λ c. (content_code).spell c) (content_at (with_additions self.now more.now).present hash.now)) }
+        ensures { IfOk result
+            (λ b. option_map (λ v. v.items) b
+            ≡ option_map (λ c. (content_code).spell c)
+            (content_at (with_additions self.now more.now).present hash.now)) }
     {
         if let Some(bytes) = content_bytes(alloc, &more.contents, hash)? {
             return Ok(Some(bytes));
@@ -41,7 +44,8 @@ impl Catalogue {
     /// The commit of a hash.
     #[tactic(auto, using(crate::proofs::Over::commit_over))]
     fn find_commit<'a>(&'a self, more: &'a Additions, hash: &Hash) -> Option<&'a Commit>
-        ensures { option_map (λ c. c.now) result ≡ commit_of (with_additions self.now more.now).commits hash.now }
+        ensures { option_map (λ c. c.now) result
+            ≡ commit_of (with_additions self.now more.now).commits hash.now }
     {
         match more.commits.get(hash) {
             None => self.commits().get(hash),
@@ -57,11 +61,21 @@ impl Catalogue {
         more: &Additions,
         hash: &Hash,
     ) -> Result<Option<Vec<u8>>, NoMemory>
-        ensures bytes { IfOk result (λ b. option_map (λ v. v.items) b ≡ commit_bytes sha256 (with_additions self.now more.now) hash.now) }
-        ensures absent { IfOk result (λ b. IsTrue (is_none b) → commit_of (with_additions self.now more.now).commits hash.now ≡ None) }
-        ensures below { IfOk result (λ b. IsTrue (is_none b) → same_hash (no_ancestor sha256) hash.now ≡ false) }
-        ensures known { IfOk result (λ b. is_none b ≡ false → IsTrue (is_known sha256 (with_additions self.now more.now) hash.now)) }
-        ensures there { IfOk result (λ b. (c : Commit) → (commit_code).Fits c → option_map (λ v. v.items) b ≡ Some ((commit_code).spell c) → commit_of (with_additions self.now more.now).commits hash.now ≡ Some c) }
+        ensures bytes { IfOk result
+            (λ b. option_map (λ v. v.items) b
+            ≡ commit_bytes sha256 (with_additions self.now more.now) hash.now) }
+        ensures absent { IfOk result
+            (λ b. IsTrue (is_none b)
+            → commit_of (with_additions self.now more.now).commits hash.now ≡ None) }
+        ensures below { IfOk result
+            (λ b. IsTrue (is_none b) → same_hash (no_ancestor sha256) hash.now ≡ false) }
+        ensures known { IfOk result
+            (λ b. is_none b ≡ false
+            → IsTrue (is_known sha256 (with_additions self.now more.now) hash.now)) }
+        ensures there { IfOk result
+            (λ b. (c : Commit) → (commit_code).Fits c
+            → option_map (λ v. v.items) b ≡ Some ((commit_code).spell c)
+            → commit_of (with_additions self.now more.now).commits hash.now ≡ Some c) }
     {
         if let Some(commit) = self.find_commit(more, hash) {
             return Ok(Some(to_bytes(alloc, commit)?));

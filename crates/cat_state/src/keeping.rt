@@ -23,7 +23,7 @@ pub(crate) fn append<K: Keeper>(
     ensures unrefused { IfErr result IsUnrefused }
     ensures more { OnOk result (K.kept keeper.new ≡ K.kept keeper.old + 1) }
     ensures as_many { OnErr result (K.kept keeper.new ≡ K.kept keeper.old) }
-    ensures keeps { Keeps K.told K.kept K.down K.in_flight K.faults K.moment K.left_since K.may_leave keeper.old keeper.new (entry.now ∷ []) result }
+    ensures keeps { Keeps K.Keeper keeper.old keeper.new (entry.now ∷ []) result }
 {
     let bytes = to_bytes(alloc, entry)?;
     bytes.known();

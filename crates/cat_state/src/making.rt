@@ -35,7 +35,8 @@ fn reserve(
     ensures contents { contents.new.list ≡ contents.old.list }
     ensures commits { commits.new.list ≡ commits.old.list }
     ensures maps { maps.new.list ≡ maps.old.list }
-    ensures room { OnOk result (HaveRoom references.new contents.new commits.new maps.new more.now) }
+    ensures room { OnOk result
+        (HaveRoom references.new contents.new commits.new maps.new more.now) }
 {
     references.reserve(1)?;
     contents.reserve(more.contents.len())?;
@@ -65,8 +66,10 @@ fn put(
     change: Change,
 )
     requires room { HaveRoom references.old contents.old commits.old maps.old change.additions }
-    requires new { IsNewTo references.old.list contents.old.list commits.old.list maps.old.list change }
-    ensures references { references.new.list ≡ changed_references references.old.list change.reference }
+    requires new { IsNewTo references.old.list contents.old.list commits.old.list maps.old.list
+        change }
+    ensures references { references.new.list
+        ≡ changed_references references.old.list change.reference }
     ensures contents { contents.new.list ≡ change.additions.contents.list ++ contents.old.list }
     ensures commits { commits.new.list ≡ change.additions.commits.list ++ commits.old.list }
     ensures maps { maps.new.list ≡ change.additions.maps.list ++ maps.old.list }
@@ -96,7 +99,7 @@ impl Catalogue {
         ensures unrefused { IfErr result IsUnrefused }
         ensures more { OnOk result (K.kept keeper.new ≡ K.kept keeper.old + 1) }
         ensures as_many { OnErr result (K.kept keeper.new ≡ K.kept keeper.old) }
-        ensures keeps { Keeps K.told K.kept K.down K.in_flight K.faults K.moment K.left_since K.may_leave keeper.old keeper.new (entry.now ∷ []) result }
+        ensures keeps { Keeps K.Keeper keeper.old keeper.new (entry.now ∷ []) result }
     {
         reserve(
             &mut self.references,

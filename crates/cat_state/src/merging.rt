@@ -62,7 +62,10 @@ impl Catalogue {
         key: &ContentKey,
         entry: &Option<Entry>,
     ) -> Result<(), NoMemory>
-        ensures { OnOk result (keys.new.keys ≡ fold (with_one key_cmp) keys.old.keys (expired_keys self.now (entries_set ((key.now, entry.now) ∷ [])))) }
+        ensures { OnOk result
+            (keys.new.keys
+            ≡ fold (with_one key_cmp) keys.old.keys
+            (expired_keys self.now (entries_set ((key.now, entry.now) ∷ [])))) }
     {
         match entry {
             None => Ok(()),
@@ -81,7 +84,9 @@ impl Catalogue {
         keys: &mut BTreeSet<ContentKey>,
         ops: &[(ContentKey, Option<Entry>)],
     ) -> Result<(), NoMemory>
-        ensures { OnOk result (keys.new.keys ≡ fold (with_one key_cmp) keys.old.keys (expired_keys self.now (entries_set ops.now))) }
+        ensures { OnOk result
+            (keys.new.keys
+            ≡ fold (with_one key_cmp) keys.old.keys (expired_keys self.now (entries_set ops.now))) }
     {
         for (key, entry) in ops {
             self.note_expired(keys, key, entry)?;
@@ -95,7 +100,9 @@ impl Catalogue {
         alloc: Global,
         planned: &[Planned],
     ) -> Result<BTreeSet<ContentKey>, NoMemory>
-        ensures { IfOk result (λ keys. keys.keys ≡ key_set (expired_keys self.now (all_set (map as_planned planned.now)))) }
+        ensures { IfOk result
+            (λ keys. keys.keys
+            ≡ key_set (expired_keys self.now (all_set (map as_planned planned.now)))) }
     {
         let mut keys = BTreeSet::new(alloc);
         for one in planned {
@@ -113,7 +120,8 @@ impl Catalogue {
         planned: &[Planned],
         opened: u32,
     ) -> Result<(), Failure>
-        ensures { Gives result (merges.needs_set_contents self.now (map as_planned planned.now) opened) }
+        ensures { Gives result
+            (merges.needs_set_contents self.now (map as_planned planned.now) opened) }
     {
         let expired = self.expired_set(alloc, planned)?;
         let keys = listed(alloc, expired)?;

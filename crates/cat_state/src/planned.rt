@@ -30,7 +30,9 @@ impl Catalogue {
     fn generation_after(&self, more: &Additions, parent: &Hash, merge_parent: &Option<Hash>) -> u64
         requires new { AreNewTo self.now more.now }
         requires few { length (with_additions self.now more.now).commits ≤ 4294967295 }
-        ensures { result ≡ generation_after (with_additions self.now more.now).commits parent.now merge_parent.now }
+        ensures { result
+            ≡ generation_after (with_additions self.now more.now).commits parent.now
+            merge_parent.now }
     {
         let below = self.generation_with(more, parent);
         match merge_parent {
@@ -50,7 +52,10 @@ impl Catalogue {
     ) -> Result<NewCommit, NoMemory>
         requires new { AreNewTo self.now more.now }
         requires few { length (with_additions self.now more.now).commits ≤ 4294967295 }
-        ensures commit { IfOk result (λ made. made.commit ≡ planned_commit (with_additions self.now more.now).commits head.now moment (as_planned planned)) }
+        ensures commit { IfOk result
+            (λ made. made.commit
+            ≡ planned_commit (with_additions self.now more.now).commits head.now moment
+            (as_planned planned)) }
         ensures map { IfOk result (λ made. made.map ≡ planned.plan.map) }
         ensures written { IfOk result (λ made. IsRecordOf made.commit made.written) }
     {
@@ -89,12 +94,22 @@ impl Catalogue {
     ) -> Result<Hash, Failure>
         requires new { AreNewTo self.now more.old }
         requires known { IsTrue (is_known sha256 (with_additions self.now more.old) head.now) }
-        requires merged { IsTrue (is_merge_known (with_additions self.now more.old).commits planned.merge_parent) }
-        requires made { let state = with_additions self.now more.old in IsMadeUpon state.present (entries state.commits head.now) planned.plan }
+        requires merged { IsTrue
+            (is_merge_known (with_additions self.now more.old).commits planned.merge_parent) }
+        requires made { let state = with_additions self.now more.old in
+            IsMadeUpon state.present (entries state.commits head.now) planned.plan }
         requires few { length (with_additions self.now more.old).commits < 4294967295 }
-        ensures step { let state = with_additions self.now more.old in GivesAs (λ _. with_additions self.now more.new) result (with_commit sha256 state (planned_commit state.commits head.now moment (as_planned planned))) }
-        ensures hash { IfOk result (λ hash. hash ≡ commit_hash sha256 (planned_commit (with_additions self.now more.old).commits head.now moment (as_planned planned))) }
-        ensures added { IfOk result (λ hash. HasCommit self.now more.old more.new hash planned.plan.map) }
+        ensures step { let state = with_additions self.now more.old in
+            GivesAs (λ _. with_additions self.now more.new) result
+            (with_commit sha256 state
+            (planned_commit state.commits head.now moment (as_planned planned))) }
+        ensures hash { IfOk result
+            (λ hash. hash
+            ≡ commit_hash sha256
+            (planned_commit (with_additions self.now more.old).commits head.now moment
+            (as_planned planned))) }
+        ensures added { IfOk result
+            (λ hash. HasCommit self.now more.old more.new hash planned.plan.map) }
     {
         let made = self.made_upon(alloc, more, moment, head, planned)?;
         let hash = made.written.hash;
@@ -112,12 +127,16 @@ impl Catalogue {
         planned: Vec<Planned>,
     ) -> Result<(Hash, Additions), Failure>
         requires known { IsTrue (is_known sha256 self.now head.now) }
-        requires merged { IsTrue (list_all (λ p. is_merge_known self.now.commits p.merge_parent) planned.items) }
-        requires made { AreMadeUpon self.now.present (entries self.now.commits head.now) planned.items }
+        requires merged { IsTrue
+            (list_all (λ p. is_merge_known self.now.commits p.merge_parent) planned.items) }
+        requires made { AreMadeUpon self.now.present (entries self.now.commits head.now)
+            planned.items }
         requires room { length self.now.commits + length planned.items ≤ 4294967295 }
-        ensures step { GivesAs (λ a. (a.0, with_additions self.now a.1)) result (with_planned sha256 moment self.now head.now (map as_planned planned.items)) }
+        ensures step { GivesAs (λ a. (a.0, with_additions self.now a.1)) result
+            (with_planned sha256 moment self.now head.now (map as_planned planned.items)) }
         ensures new { IfOk result (λ a. AreNewTo self.now a.1) }
-        ensures known { IfOk result (λ a. IsTrue (is_known sha256 (with_additions self.now a.1) a.0)) }
+        ensures known { IfOk result
+            (λ a. IsTrue (is_known sha256 (with_additions self.now a.1) a.0)) }
     {
         let mut more = self.no_additions(alloc);
         let mut at = *head;

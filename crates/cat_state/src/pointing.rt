@@ -30,7 +30,9 @@ impl Catalogue {
     #[tactic(auto, using(crate::proofs::Heads::chain_is_known))]
     pub fn is_on_chain(&self, head: &Hash, hash: &Hash) -> bool
         ensures on { result ≡ on_chain self.now.commits head.now hash.now }
-        ensures known { IsTrue result → IsTrue (is_known sha256 self.now head.now) → IsTrue (is_known sha256 self.now hash.now) }
+        ensures known { IsTrue result
+            → IsTrue (is_known sha256 self.now head.now)
+            → IsTrue (is_known sha256 self.now hash.now) }
     {
         self.commits().on_chain(head, hash)
     }
@@ -92,8 +94,10 @@ impl Catalogue {
         reference: Option<&Reference>,
         hash: &Option<Hash>,
     ) -> Result<Hash, Refusal>
-        ensures pointed { result ≡ refusing.pointed sha256 self.now (option_copied reference.entry) hash.now }
-        ensures known { IsAtCommit self.now (option_copied reference.entry) → IfOk result (λ hash. IsTrue (is_known sha256 self.now hash)) }
+        ensures pointed { result
+            ≡ refusing.pointed sha256 self.now (option_copied reference.entry) hash.now }
+        ensures known { IsAtCommit self.now (option_copied reference.entry)
+            → IfOk result (λ hash. IsTrue (is_known sha256 self.now hash)) }
     {
         let found = match (reference, hash) {
             (None, None) => None,

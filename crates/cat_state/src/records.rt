@@ -60,8 +60,12 @@ pub(crate) fn is_new(
     written: &Record,
 ) -> Result<bool, Failure>
     ensures nothing { IfOk result (λ b. b ≡ is_none kept.now) }
-    ensures same { IfOk result (λ b. b ≡ false → option_map (λ v. v.items) kept.now ≡ Some written.now.bytes.items) }
-    ensures added { (state more : State) → GivesAs (λ b. if b then more else state) result (added state more written.now.hash (option_map (λ v. v.items) kept.now) written.now.bytes.items) }
+    ensures same { IfOk result
+        (λ b. b ≡ false → option_map (λ v. v.items) kept.now ≡ Some written.now.bytes.items) }
+    ensures added { (state more : State)
+        → GivesAs (λ b. if b then more else state) result
+        (added state more written.now.hash (option_map (λ v. v.items) kept.now)
+        written.now.bytes.items) }
 {
     let Some(kept) = kept else {
         return Ok(true);

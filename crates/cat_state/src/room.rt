@@ -72,7 +72,9 @@ impl Catalogue {
 
     /// There is room for a reference.
     pub fn needs_reference_room(&self) -> Result<(), Refusal>
-        ensures { result ≡ refusing.needs_room (length self.now.references) self.now.limits.references quantities.References }
+        ensures { result
+            ≡ refusing.needs_room (length self.now.references) self.now.limits.references
+            quantities.References }
     {
         needs_room(
             self.reference_count(),
@@ -103,7 +105,9 @@ impl Catalogue {
     /// branch's map.
     #[tactic(auto, unfolding(cat_model::specs::Merges::needs_planned_room))]
     pub fn needs_planned_room(&self, head: &KeyMap, commits: u64, puts: u64) -> Result<(), Refusal>
-        ensures test { (planned : List Planned) → length (commits_made planned) ≡ commits → length (all_set planned) ≡ puts → result ≡ needs_planned_room self.now head.now planned }
+        ensures test { (planned : List Planned) → length (commits_made planned) ≡ commits
+            → length (all_set planned) ≡ puts
+            → result ≡ needs_planned_room self.now head.now planned }
         ensures place { OnOk result (self.now.place < 4294967295) }
         ensures commits { OnOk result (length self.now.commits + commits ≤ 4294967295) }
     {

@@ -3,8 +3,7 @@
 use cat_codes::seq::Seq;
 use cat_graph::graph::Graph;
 use cat_keymap::maps::Maps;
-use cat_mark::marks::Marks;
-use cat_mark::roots::Roots;
+use cat_mark::{Marks, Roots};
 use cat_model::cutoff::Cutoff;
 use cat_names::hash::Hash;
 use std::alloc::Global;

@@ -22,7 +22,8 @@ pub fn hold<K: Keeper>(
     ensures ready { IfOk result (λ t. IsReady t.0 t.1 × IsAlone t.1 × (number_of t.1 ≡ 1)) }
     ensures spare { IfOk result (λ t. spare_of t.1 ≡ 4294967294) }
     ensures book { IfOk result (λ t. book_of t.0 t.1 ≡ store.book) }
-    ensures begun { IfOk result (λ t. (t.0.begun ≡ reverse store.book.log) × (seen t.1 ≡ t.0.begun)) }
+    ensures begun { IfOk result
+        (λ t. (t.0.begun ≡ reverse store.book.log) × (seen t.1 ≡ t.0.begun)) }
     ensures mark { IfOk result (λ t. mark_of t.1 ≡ store.mark) }
     ensures opened { IfOk result (λ t. t.0.opened ≡ opened_of store) }
     ensures refused { IfErr result (λ e. e.0 ≡ store) }

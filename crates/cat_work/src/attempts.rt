@@ -44,10 +44,18 @@ pub(crate) fn begin<'a, R: Wait, K: Keeper>(
     requires opens { opens_draft command.now ≡ true }
     requires attempts { attempts ≤ 64 }
     ensures kept { Keeps desk.now pass.old pass.new }
-    ensures begun { IfOk result (λ t. Begins K desk.now command.now pass.old pass.new t × (attempts + 1 ≤ vec_capacity t.pairs)) }
-    ensures known { IfOk result (λ _. (known pass.old ≤ length (seen pass.new)) × (known pass.new ≡ length (seen pass.new))) }
+    ensures begun { IfOk result
+        (λ t. Begins K desk.now command.now pass.old pass.new t
+        × (attempts + 1 ≤ vec_capacity t.pairs)) }
+    ensures known { IfOk result
+        (λ _. (known pass.old ≤ length (seen pass.new))
+        × (known pass.new ≡ length (seen pass.new))) }
     ensures legal { IfOk result (λ _. IsLegalFrom desk.now.opened (seen pass.new)) }
-    ensures refused { IfErr result (λ r. BeginsNone K desk.now command.now pass.old pass.new r × KnowsAt pass.old pass.new r.place × (IsLegalFrom desk.now.opened (seen pass.old) → IsLegalFrom desk.now.opened (seen pass.new))) }
+    ensures refused { IfErr result
+        (λ r. BeginsNone K desk.now command.now pass.old pass.new r
+        × KnowsAt pass.old pass.new r.place
+        × (IsLegalFrom desk.now.opened (seen pass.old)
+        → IsLegalFrom desk.now.opened (seen pass.new))) }
 {
     let Ok(mut pairs) = Vec::with_capacity(alloc, attempts as usize + 1) else {
         return Err(out_of_memory());
@@ -82,7 +90,8 @@ pub(crate) fn attempt<'a, R: Wait, K: Keeper, G: Gate>(
     requires room { vec_len trying.pairs < vec_capacity trying.pairs }
     ensures kept { Keeps desk.now pass.old pass.new }
     ensures gate { G.ready gate.new × (G.desks gate.new ≡ G.desks gate.old) }
-    ensures known { (known pass.old ≤ length (seen pass.new)) × (known pass.new ≡ length (seen pass.new)) }
+    ensures known { (known pass.old ≤ length (seen pass.new))
+        × (known pass.new ≡ length (seen pass.new)) }
     ensures legal { IsLegalFrom desk.now.opened (seen pass.new) }
     ensures tried { TriesOn K desk.now pass.old pass.new moment trying.entry result }
 {

@@ -82,7 +82,8 @@ fn make<R: Wait, K: Keeper, G: Gate, C: Clock>(
     ensures gate { G.ready gate.new × (G.desks gate.new ≡ G.desks gate.old) }
     ensures known { Knows pass.old pass.new result }
     ensures grows { Grows (mark_of pass.old) (mark_of pass.new) }
-    ensures answers { AnswersTo desk.now command.now attempts (C.ahead clock.old) (C.ahead clock.new) pass.old pass.new result }
+    ensures answers { AnswersTo desk.now command.now attempts (C.ahead clock.old)
+        (C.ahead clock.new) pass.old pass.new result }
 {
     let moment = Moment::from_micros(clock.now());
     make_at(rt, alloc, desk, pass, gate, attempts, moment, command)
@@ -109,7 +110,8 @@ pub fn commit<R: Wait, K: Keeper, G: Gate, C: Clock>(
     ensures gate { G.ready gate.new × (G.desks gate.new ≡ G.desks gate.old) }
     ensures known { Knows pass.old pass.new result }
     ensures grows { Grows (mark_of pass.old) (mark_of pass.new) }
-    ensures answers { AnswersTo desk.now command.now attempts (C.ahead clock.old) (C.ahead clock.new) pass.old pass.new result }
+    ensures answers { AnswersTo desk.now command.now attempts (C.ahead clock.old)
+        (C.ahead clock.new) pass.old pass.new result }
 {
     make(rt, alloc, desk, pass, gate, clock, attempts, command)
 }
@@ -135,7 +137,8 @@ pub fn merge<R: Wait, K: Keeper, G: Gate, C: Clock>(
     ensures gate { G.ready gate.new × (G.desks gate.new ≡ G.desks gate.old) }
     ensures known { Knows pass.old pass.new result }
     ensures grows { Grows (mark_of pass.old) (mark_of pass.new) }
-    ensures answers { AnswersTo desk.now command.now attempts (C.ahead clock.old) (C.ahead clock.new) pass.old pass.new result }
+    ensures answers { AnswersTo desk.now command.now attempts (C.ahead clock.old)
+        (C.ahead clock.new) pass.old pass.new result }
 {
     make(rt, alloc, desk, pass, gate, clock, attempts, command)
 }
@@ -161,7 +164,8 @@ pub fn transplant<R: Wait, K: Keeper, G: Gate, C: Clock>(
     ensures gate { G.ready gate.new × (G.desks gate.new ≡ G.desks gate.old) }
     ensures known { Knows pass.old pass.new result }
     ensures grows { Grows (mark_of pass.old) (mark_of pass.new) }
-    ensures answers { AnswersTo desk.now command.now attempts (C.ahead clock.old) (C.ahead clock.new) pass.old pass.new result }
+    ensures answers { AnswersTo desk.now command.now attempts (C.ahead clock.old)
+        (C.ahead clock.new) pass.old pass.new result }
 {
     make(rt, alloc, desk, pass, gate, clock, attempts, command)
 }
@@ -187,7 +191,8 @@ pub fn call<R: Wait, K: Keeper, G: Gate, C: Clock>(
     ensures gate { G.ready gate.new × (G.desks gate.new ≡ G.desks gate.old) }
     ensures known { Knows pass.old pass.new result }
     ensures grows { Grows (mark_of pass.old) (mark_of pass.new) }
-    ensures answers { AnswersTo desk.now command.now attempts (C.ahead clock.old) (C.ahead clock.new) pass.old pass.new result }
+    ensures answers { AnswersTo desk.now command.now attempts (C.ahead clock.old)
+        (C.ahead clock.new) pass.old pass.new result }
 {
     match command {
         Command::Create(_) | Command::Assign(_) | Command::Delete(_) => {

@@ -32,7 +32,8 @@ use std::sync::Wait;
 fn retries_spent(mut pairs: Vec<(u32, Hash)>, place: u32, head: Hash) -> Refused
     requires room { vec_len pairs < vec_capacity pairs }
     requires few { vec_len pairs ≤ 64 }
-    ensures { result ≡ record { place = Some place; why = RetriesSpent (pairs.items ++ (place, head) ∷ []) } }
+    ensures { result
+        ≡ record { place = Some place; why = RetriesSpent (pairs.items ++ (place, head) ∷ []) } }
 {
     let Ok(()) = pairs.push((place, head)) else {
         unreachable!()
@@ -57,7 +58,8 @@ fn settle_or_drop<K: Keeper>(
 ) -> Result<Told, Refused>
     requires well_made { IsTrue (is_well_made sha256 (command_in draft)) }
     requires given { IsGivenBy draft.number draft.call }
-    requires open { IsOpen (open_draft_of draft) (drafts_of draft.caller (open_of store.old).drafts) }
+    requires open { IsOpen (open_draft_of draft)
+        (drafts_of draft.caller (open_of store.old).drafts) }
     requires built { (v : State) × IsLater v store.old.book.state × IsBuilt v draft.call built }
     requires room { vec_len pairs < vec_capacity pairs }
     requires few { vec_len pairs ≤ 64 }
@@ -96,7 +98,8 @@ pub(crate) fn finish<R: Wait, K: Keeper, G: Gate>(
     requires few { vec_len trying.pairs ≤ 64 }
     ensures kept { Keeps desk.now pass.old pass.new }
     ensures gate { G.ready gate.new × (G.desks gate.new ≡ G.desks gate.old) }
-    ensures known { (known pass.old ≤ length (seen pass.new)) × (known pass.new ≡ length (seen pass.new)) }
+    ensures known { (known pass.old ≤ length (seen pass.new))
+        × (known pass.new ≡ length (seen pass.new)) }
     ensures legal { IsLegalFrom desk.now.opened (seen pass.new) }
     ensures finishes { Finishes K desk.now pass.old pass.new moment trying.entry result }
 {

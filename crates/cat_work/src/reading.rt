@@ -27,11 +27,14 @@ pub fn read<R: Wait, K: Keeper>(
     requires ready { IsReady desk.now pass.old }
     ensures kept { Keeps desk.now pass.old pass.new }
     ensures ready { IsReady desk.now pass.new }
-    ensures known { (known pass.old ≤ length (seen pass.new)) × (known pass.new ≡ length (seen pass.new)) }
+    ensures known { (known pass.old ≤ length (seen pass.new))
+        × (known pass.new ≡ length (seen pass.new)) }
     ensures grows { Grows (mark_of pass.old) (mark_of pass.new) }
     ensures follows { Follows (number_of pass.old) (seen pass.old) (seen pass.new) }
     ensures reads { Reads sha256 (book_of desk.now pass.new) ask.now result }
-    ensures alone { IsAlone pass.old → (book_of desk.now pass.new ≡ book_of desk.now pass.old) × ((mark_of pass.new).fault ≡ (mark_of pass.old).fault) }
+    ensures alone { IsAlone pass.old
+        → (book_of desk.now pass.new ≡ book_of desk.now pass.old)
+        × ((mark_of pass.new).fault ≡ (mark_of pass.old).fault) }
 {
     let held = desk.enter(rt, pass);
     held.value.history();

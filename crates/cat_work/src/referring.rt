@@ -36,9 +36,11 @@ fn refer_at<R: Wait, K: Keeper>(
     requires well_made { IsTrue (is_well_made sha256 command.now) }
     requires ready { IsReady desk.now pass.old }
     ensures kept { Keeps desk.now pass.old pass.new }
-    ensures known { (known pass.old ≤ length (seen pass.new)) × (known pass.new ≡ length (seen pass.new)) }
+    ensures known { (known pass.old ≤ length (seen pass.new))
+        × (known pass.new ≡ length (seen pass.new)) }
     ensures legal { IsLegalFrom desk.now.opened (seen pass.new) }
-    ensures comes { (attempts : ℕ) → Comes desk.now command.now pass.old pass.new attempts moment result }
+    ensures comes { (attempts : ℕ)
+        → Comes desk.now command.now pass.old pass.new attempts moment result }
 {
     let mut held = desk.enter(rt, pass);
     held.value.history();
@@ -64,8 +66,15 @@ pub fn refer<R: Wait, K: Keeper, C: Clock>(
     ensures ready { IsReady desk.now pass.new }
     ensures known { Knows pass.old pass.new result }
     ensures grows { Grows (mark_of pass.old) (mark_of pass.new) }
-    ensures answers { (moment : ℕ) × Ticks (C.ahead clock.old) (C.ahead clock.new) moment × ((attempts : ℕ) → Answers desk.now (number_of pass.old) command.now moment attempts (known pass.old) (mark_of pass.old) (mark_of pass.new) (seen pass.old) (seen pass.new) result)
-        × (IsAlone pass.old → AnswersAlone (number_of pass.old) (call_on sha256 (number_of pass.old) (book_of desk.now pass.old) command.now moment) (book_of desk.now pass.old) (book_of desk.now pass.new) (mark_of pass.old).fault (mark_of pass.new).fault result) }
+    ensures answers { (moment : ℕ) × Ticks (C.ahead clock.old) (C.ahead clock.new) moment
+        × ((attempts : ℕ)
+        → Answers desk.now (number_of pass.old) command.now moment attempts (known pass.old)
+        (mark_of pass.old) (mark_of pass.new) (seen pass.old) (seen pass.new) result)
+        × (IsAlone pass.old
+        → AnswersAlone (number_of pass.old)
+        (call_on sha256 (number_of pass.old) (book_of desk.now pass.old) command.now moment)
+        (book_of desk.now pass.old) (book_of desk.now pass.new) (mark_of pass.old).fault
+        (mark_of pass.new).fault result) }
 {
     let moment = Moment::from_micros(clock.now());
     refer_at(rt, alloc, desk, pass, moment, command)

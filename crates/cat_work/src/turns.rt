@@ -31,7 +31,8 @@ pub(crate) fn open<'a, R: Wait, K: Keeper>(
     requires well_made { IsTrue (is_well_made sha256 command.now) }
     requires opens { opens_draft command.now ≡ true }
     ensures kept { Keeps desk.now pass.old pass.new }
-    ensures known { (known pass.old ≤ length (seen pass.new)) × (known pass.new ≡ length (seen pass.new)) }
+    ensures known { (known pass.old ≤ length (seen pass.new))
+        × (known pass.new ≡ length (seen pass.new)) }
     ensures legal { IsLegalFrom desk.now.opened (seen pass.new) }
     ensures opened { IfOk result (λ t. Opens K desk.now command.now pass.old pass.new t.0 t.1) }
     ensures refused { IfErr result (λ r. OpensNone K desk.now command.now pass.old pass.new r) }
@@ -57,10 +58,12 @@ pub(crate) fn settle<'a, R: Wait, K: Keeper>(
     requires free { IsFree desk.now pass.old }
     requires well_made { IsTrue (is_well_made sha256 (command_in draft)) }
     requires given { IsGivenBy draft.number draft.call }
-    requires own { (left_by pass.old ≡ record { drafts = open_draft_of draft ∷ []; sweep = None }) × (draft.caller ≡ number_of pass.old) }
+    requires own { (left_by pass.old ≡ record { drafts = open_draft_of draft ∷ []; sweep = None })
+        × (draft.caller ≡ number_of pass.old) }
     requires built { IsBuilt (state_of desk.now (seen pass.old)) draft.call built }
     ensures kept { Keeps desk.now pass.old pass.new }
-    ensures known { (known pass.old ≤ length (seen pass.new)) × (known pass.new ≡ length (seen pass.new)) }
+    ensures known { (known pass.old ≤ length (seen pass.new))
+        × (known pass.new ≡ length (seen pass.new)) }
     ensures legal { IsLegalFrom desk.now.opened (seen pass.new) }
     ensures settled { SettlesIn K desk.now pass.old pass.new draft.entry built moment result }
 {
@@ -80,9 +83,11 @@ pub(crate) fn give_up<R: Wait, K: Keeper>(
     draft: Draft<'_>,
 )
     requires free { IsFree desk.now pass.old }
-    requires own { (left_by pass.old ≡ record { drafts = open_draft_of draft ∷ []; sweep = None }) × (draft.caller ≡ number_of pass.old) }
+    requires own { (left_by pass.old ≡ record { drafts = open_draft_of draft ∷ []; sweep = None })
+        × (draft.caller ≡ number_of pass.old) }
     ensures kept { Keeps desk.now pass.old pass.new }
-    ensures known { (known pass.old ≤ length (seen pass.new)) × (known pass.new ≡ length (seen pass.new)) }
+    ensures known { (known pass.old ≤ length (seen pass.new))
+        × (known pass.new ≡ length (seen pass.new)) }
     ensures legal { IsLegalFrom desk.now.opened (seen pass.new) }
     ensures dropped { DropsIn K desk.now pass.old pass.new draft.entry }
 {

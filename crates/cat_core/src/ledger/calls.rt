@@ -75,11 +75,13 @@ impl Ledger {
         requires none { opens_draft command.now ≡ false }
         requires up { K.down keeper.old ≡ None }
         requires kept { K.kept keeper.old ≡ self.old.state.place }
-        ensures call { Runs (call_on sha256 caller self.old command.now moment) self.old self.new result }
+        ensures call { Runs (call_on sha256 caller self.old command.now moment) self.old self.new
+            result }
         ensures there { IfErr result (λ why. unmade_expired why ≡ false) }
         ensures later { IsAbove self.old.state.commits self.new.state.commits }
         ensures kept { K.kept keeper.new ≡ self.new.state.place }
-        ensures keeps { Keeps K.told K.kept K.down K.in_flight K.faults K.moment K.left_since K.may_leave keeper.old keeper.new (call_on sha256 caller self.old command.now moment).logged result }
+        ensures keeps { Keeps K.Keeper keeper.old keeper.new
+            (call_on sha256 caller self.old command.now moment).logged result }
     {
         let turn = Turn {
             caller,

@@ -40,11 +40,13 @@ impl Ledger {
         requires decided { (command : Command) × IsDecided self.old turn command decided }
         requires up { K.down keeper.old ≡ None }
         requires kept { K.kept keeper.old ≡ self.old.state.place }
-        ensures call { (command : Command) → IsDecided self.old turn command decided → Runs (turned self.old turn command) self.old self.new result }
+        ensures call { (command : Command) → IsDecided self.old turn command decided
+            → Runs (turned self.old turn command) self.old self.new result }
         ensures there { IfErr result (λ why. unmade_expired why ≡ false) }
         ensures later { IsAbove self.old.state.commits self.new.state.commits }
         ensures kept { K.kept keeper.new ≡ self.new.state.place }
-        ensures keeps { (command : Command) → IsDecided self.old turn command decided → Keeps K.told K.kept K.down K.in_flight K.faults K.moment K.left_since K.may_leave keeper.old keeper.new (turned self.old turn command).logged result }
+        ensures keeps { (command : Command) → IsDecided self.old turn command decided
+            → Keeps K.Keeper keeper.old keeper.new (turned self.old turn command).logged result }
     {
         self.take(turn.draft);
         match decided {

@@ -17,7 +17,8 @@ impl Ledger {
         ensures references { result.references ≡ length self.now.state.references }
         ensures commits { result.commits ≡ length self.now.state.commits }
         ensures contents { result.contents ≡ length self.now.state.present }
-        ensures keys { result.keys ≡ length (entries self.now.state.commits (main_head self.now.state.references)) }
+        ensures keys { result.keys
+            ≡ length (entries self.now.state.commits (main_head self.now.state.references)) }
         ensures head { result.head ≡ main_head self.now.state.references }
     {
         self.catalogue().counts()
@@ -25,7 +26,9 @@ impl Ledger {
 
     /// The entry of a key on `main`.
     pub fn entry_on_main(&self, key: &ContentKey) -> Option<Entry>
-        ensures { result ≡ entry_of (entries self.now.state.commits (main_head self.now.state.references)) key.now }
+        ensures { result
+            ≡ entry_of (entries self.now.state.commits (main_head self.now.state.references))
+            key.now }
     {
         let head = self.catalogue().main_head();
         self.catalogue().entry_at(&head, key)

@@ -66,11 +66,15 @@ impl Ledger {
         requires built { IsBuilt self.old.state call built }
         requires up { K.down keeper.old ≡ None }
         requires kept { K.kept keeper.old ≡ self.old.state.place }
-        ensures call { Runs (attempt_on sha256 self.old (in_draft caller moment number) (command_of call.entry)) self.old self.new result }
+        ensures call { Runs
+            (attempt_on sha256 self.old (in_draft caller moment number) (command_of call.entry))
+            self.old self.new result }
         ensures there { IfErr result (λ why. unmade_expired why ≡ false) }
         ensures later { IsAbove self.old.state.commits self.new.state.commits }
         ensures kept { K.kept keeper.new ≡ self.new.state.place }
-        ensures keeps { Keeps K.told K.kept K.down K.in_flight K.faults K.moment K.left_since K.may_leave keeper.old keeper.new (attempt_on sha256 self.old (in_draft caller moment number) (command_of call.entry)).logged result }
+        ensures keeps { Keeps K.Keeper keeper.old keeper.new
+            (attempt_on sha256 self.old (in_draft caller moment number)
+            (command_of call.entry)).logged result }
     {
         let turn = Turn {
             caller,

@@ -17,7 +17,15 @@ pub struct Turn {
 
 /// The entry of a call.
 pub(crate) fn entry(place: u32, turn: Turn, command: Command, head: Option<Hash>) -> LogEntry
-    ensures { result ≡ record { place = place; caller = turn.caller; draft = turn.draft; moment = turn.moment; command = command; head = head } }
+    ensures { result
+        ≡ record {
+          place = place;
+          caller = turn.caller;
+          draft = turn.draft;
+          moment = turn.moment;
+          command = command;
+          head = head;
+        } }
 {
     LogEntry {
         place,

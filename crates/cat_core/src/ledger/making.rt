@@ -33,11 +33,12 @@ impl Ledger {
         requires logged { IsTrue (is_logged sha256 entry) }
         requires up { K.down keeper.old ≡ None }
         requires kept { K.kept keeper.old ≡ self.old.state.place }
-        ensures ok { OnOk result (self.new ≡ with_entry self.old (applied self.old.state change) entry) }
+        ensures ok { OnOk result
+            (self.new ≡ with_entry self.old (applied self.old.state change) entry) }
         ensures err { OnErr result (self.new ≡ self.old) }
         ensures unrefused { IfErr result IsUnrefused }
         ensures kept { K.kept keeper.new ≡ self.new.state.place }
-        ensures keeps { Keeps K.told K.kept K.down K.in_flight K.faults K.moment K.left_since K.may_leave keeper.old keeper.new (entry ∷ []) result }
+        ensures keeps { Keeps K.Keeper keeper.old keeper.new (entry ∷ []) result }
     {
         if self.log.reserve(1).is_err() {
             // By calls, so that the proof doesn't take each kind of command apart at each way out.
@@ -80,7 +81,8 @@ impl Ledger {
         ensures err { OnErr result (self.new ≡ self.old) }
         ensures unrefused { IfErr result IsUnrefused }
         ensures kept { K.kept keeper.new ≡ self.new.state.place }
-        ensures keeps { Keeps K.told K.kept K.down K.in_flight K.faults K.moment K.left_since K.may_leave keeper.old keeper.new (made_entry self.old turn making ∷ []) result }
+        ensures keeps { Keeps K.Keeper keeper.old keeper.new
+            (made_entry self.old turn making ∷ []) result }
     {
         let Making {
             change,

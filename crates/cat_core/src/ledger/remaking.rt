@@ -22,7 +22,8 @@ impl Ledger {
     /// Makes a change whose entry is kept already: that of a log which is executed again.
     fn remake(&mut self, alloc: Global, entry: LogEntry, change: Change) -> Result<(), NoMemory>
         requires { MayBeMade self.old.state change }
-        ensures { OnOk result (self.new ≡ with_entry self.old (applied self.old.state change) entry) }
+        ensures { OnOk result
+            (self.new ≡ with_entry self.old (applied self.old.state change) entry) }
     {
         if self.log.reserve(1).is_err() {
             drop(entry);
@@ -78,8 +79,14 @@ impl Ledger {
         turn: Turn,
         decision: Decision,
     ) -> Result<Told, NoMemory>
-        requires { (command : Command) × Decides turn.draft self.old.state command (turned_step self.old turn command) (Ok decision) }
-        ensures { (command : Command) → Decides turn.draft self.old.state command (turned_step self.old turn command) (Ok decision) → IfOk result (λ told. IsCalled (turned self.old turn command) self.old self.new (Ok told)) }
+        requires { (command : Command)
+            × Decides turn.draft self.old.state command (turned_step self.old turn command)
+            (Ok decision) }
+        ensures { (command : Command)
+            → Decides turn.draft self.old.state command (turned_step self.old turn command)
+            (Ok decision)
+            → IfOk result
+            (λ told. IsCalled (turned self.old turn command) self.old self.new (Ok told)) }
     {
         self.take(turn.draft);
         match decision {

@@ -26,7 +26,8 @@ impl Ledger {
     fn decide_drafted(&self, alloc: Global, entry: &LogEntry) -> Result<Decision, Failure>
         requires well_made { IsTrue (is_well_made sha256 entry.now.command) }
         requires opens { IsTrue (opens_draft entry.now.command) }
-        ensures { Decides entry.now.draft self.now.state entry.now.command (comes_again self.now entry.now) result }
+        ensures { Decides entry.now.draft self.now.state entry.now.command
+            (comes_again self.now entry.now) result }
     {
         let call = call_of(alloc, entry.draft, &entry.command)?;
         call.open(self.catalogue())?;
@@ -45,7 +46,8 @@ impl Ledger {
     /// What the call of an entry comes to, in the entry's own draft.
     fn decide_again(&self, alloc: Global, entry: &LogEntry) -> Result<Decision, Failure>
         requires { IsTrue (is_well_made sha256 entry.now.command) }
-        ensures { Decides entry.now.draft self.now.state entry.now.command (comes_again self.now entry.now) result }
+        ensures { Decides entry.now.draft self.now.state entry.now.command
+            (comes_again self.now entry.now) result }
     {
         match &entry.command {
             Command::Create(_) | Command::Assign(_) | Command::Delete(_) => {

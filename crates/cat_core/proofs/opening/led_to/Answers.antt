@@ -6,13 +6,13 @@ use Rattle.cat_core.proofs.opening.led_to.Goals as goal
 pub returns-in_err-add_payload-clause-illegal : goal.returns-in_err-add_payload-clause-illegal
 returns-in_err-add_payload-clause-illegal g c = λ place is.
     let p = err_from_is_err_and c.from_residual-in_err-add_payload.result c.from_residual-in_err-add_payload.ensures.1 in
-    next_refused g.K.Keeper.told g.K.Keeper.kept g.K.Keeper.down g.K.Keeper.in_flight g.K.Keeper.faults g.K.Keeper.moment g.K.Keeper.left_since g.K.Keeper.may_leave
+    next_refused g.K.Keeper
     (g.met.K.Keeper g.world.𝓛 g.world.𝓜 g.world.𝓡 ((λ s x. x), (λ x. x), (λ x. x), λ x. x)).counted
     c.args.keeper.now c.loop-i.keeper c.loop-i.invariant.stays c.args.limits c.loop-i.i (omega arith) c.loop-i.replay.ledger c.loop-i.invariant.led place (c.in_err-add_payload.ensures.illegal place (fault_of _ _ (rw (p.1, p.2) at is)))
 
 pub returns-in_err-add_payload-clause-stays : goal.returns-in_err-add_payload-clause-stays
 returns-in_err-add_payload-clause-stays g c =
-    stays_on g.K.Keeper.told g.K.Keeper.kept g.K.Keeper.down g.K.Keeper.in_flight g.K.Keeper.faults g.K.Keeper.moment g.K.Keeper.left_since g.K.Keeper.may_leave
+    stays_on g.K.Keeper
     (g.met.K.Keeper g.world.𝓛 g.world.𝓜 g.world.𝓡 ((λ s x. x), (λ x. x), (λ x. x), λ x. x)).counts_now
     c.args.keeper.now c.loop-i.keeper c.add_payload.new.keeper c.loop-i.invariant.stays c.add_payload.ensures.stays
 
@@ -26,7 +26,7 @@ loop-i-init g c = record {
   led = rw c.in_ok-replay.ensures.ledger (none_read (g.K.Keeper.told c.args.keeper.now) c.args.limits);
   drafts = c.in_ok-replay.ensures.drafts;
   stays =
-      stays_still g.K.Keeper.told g.K.Keeper.kept g.K.Keeper.down g.K.Keeper.in_flight g.K.Keeper.faults g.K.Keeper.moment g.K.Keeper.left_since g.K.Keeper.may_leave
+      stays_still g.K.Keeper
       (g.met.K.Keeper g.world.𝓛 g.world.𝓜 g.world.𝓡 ((λ s x. x), (λ x. x), (λ x. x), λ x. x)).only_now c.args.keeper.now;
   level = refl;
 }
@@ -34,12 +34,12 @@ loop-i-init g c = record {
 pub loop-i-preserved : goal.loop-i-preserved
 loop-i-preserved g c = record {
   led =
-      next_added g.K.Keeper.told g.K.Keeper.kept g.K.Keeper.down g.K.Keeper.in_flight g.K.Keeper.faults g.K.Keeper.moment g.K.Keeper.left_since g.K.Keeper.may_leave
+      next_added g.K.Keeper
       (g.met.K.Keeper g.world.𝓛 g.world.𝓜 g.world.𝓡 ((λ s x. x), (λ x. x), (λ x. x), λ x. x)).counted
       c.args.keeper.now c.loop-i.keeper c.loop-i.invariant.stays c.args.limits c.loop-i.i (omega arith) c.loop-i.replay.ledger c.loop-i.invariant.led c.add_payload.new.replay.ledger c.in_ok-add_payload.ensures.added;
   drafts = c.in_ok-add_payload.ensures.drafts;
   stays =
-      stays_on g.K.Keeper.told g.K.Keeper.kept g.K.Keeper.down g.K.Keeper.in_flight g.K.Keeper.faults g.K.Keeper.moment g.K.Keeper.left_since g.K.Keeper.may_leave
+      stays_on g.K.Keeper
       (g.met.K.Keeper g.world.𝓛 g.world.𝓜 g.world.𝓡 ((λ s x. x), (λ x. x), (λ x. x), λ x. x)).counts_now
       c.args.keeper.now c.loop-i.keeper c.add_payload.new.keeper c.loop-i.invariant.stays c.add_payload.ensures.stays;
   level = c.in_ok-add_payload.ensures.level (no_fault _ _) ∙ c.loop-i.invariant.level;

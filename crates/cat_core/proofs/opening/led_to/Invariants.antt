@@ -7,6 +7,6 @@ abbrev pub invariant-loop-i : goal.invariant-loop-i
 invariant-loop-i g l = record {
   led : IsLedSoFar (g.K.Keeper.told l.fn.keeper) l.fn.limits l.i l.replay.ledger;
   drafts : AreDrafts l.replay.drafts.keys l.replay.ledger.log;
-  stays : Stayed g.K.Keeper.told g.K.Keeper.kept g.K.Keeper.down g.K.Keeper.in_flight g.K.Keeper.faults g.K.Keeper.moment g.K.Keeper.left_since g.K.Keeper.may_leave l.fn.keeper l.keeper;
+  stays : Stayed g.K.Keeper l.fn.keeper l.keeper;
   level : g.K.Keeper.faults l.keeper ≡ g.K.Keeper.faults l.fn.keeper;
 }

@@ -17,7 +17,7 @@ pub returns-in-Err-clause-later : goal.returns-in-Err-clause-later
 returns-in-Err-clause-later g c = above_taking c.args.self.now c.take.new.self c.args.turn.draft c.take.ensures
 
 pub returns-in-Err-clause-keeps : goal.returns-in-Err-clause-keeps
-returns-in-Err-clause-keeps g c = λ command is. stays g.K.Keeper.told g.K.Keeper.kept g.K.Keeper.down g.K.Keeper.in_flight g.K.Keeper.faults g.K.Keeper.moment g.K.Keeper.left_since g.K.Keeper.may_leave (g.met.K.Keeper g.world.𝓛 g.world.𝓜 g.world.𝓡 ((λ s x. x), (λ x. x), (λ x. x), λ x. x)).safe (g.met.K.Keeper g.world.𝓛 g.world.𝓜 g.world.𝓡 ((λ s x. x), (λ x. x), (λ x. x), λ x. x)).only_now c.args.keeper.now
+returns-in-Err-clause-keeps g c = λ command is. stays g.K.Keeper (g.met.K.Keeper g.world.𝓛 g.world.𝓜 g.world.𝓡 ((λ s x. x), (λ x. x), (λ x. x), λ x. x)).safe (g.met.K.Keeper g.world.𝓛 g.world.𝓜 g.world.𝓡 ((λ s x. x), (λ x. x), (λ x. x), λ x. x)).only_now c.args.keeper.now
 
 pub returns-in-Ok-Told-clause-call : goal.returns-in-Ok-Told-clause-call
 returns-in-Ok-Told-clause-call g c = λ command is. carried_reply c.args.self.now c.args.turn command c.take.new.self c.args.decided c.in-Ok-Told.reply c.told.result (c.in-Ok-Told.is ∙ ap Ok c.in-Ok-Told.field-0-is) c.take.ensures c.told.ensures is
@@ -27,7 +27,7 @@ returns-in-Ok-Told-clause-later g c = above_taking c.args.self.now c.take.new.se
 
 pub returns-in-Ok-Told-clause-keeps : goal.returns-in-Ok-Told-clause-keeps
 returns-in-Ok-Told-clause-keeps g c = λ command is.
-    rw (reply_logs c.args.self.now c.args.turn command c.args.decided c.in-Ok-Told.reply (c.in-Ok-Told.is ∙ ap Ok c.in-Ok-Told.field-0-is) is) (grows_none g.K.Keeper.told g.K.Keeper.kept g.K.Keeper.down g.K.Keeper.in_flight g.K.Keeper.faults g.K.Keeper.moment g.K.Keeper.left_since g.K.Keeper.may_leave (g.met.K.Keeper g.world.𝓛 g.world.𝓜 g.world.𝓡 ((λ s x. x), (λ x. x), (λ x. x), λ x. x)).safe (g.met.K.Keeper g.world.𝓛 g.world.𝓜 g.world.𝓡 ((λ s x. x), (λ x. x), (λ x. x), λ x. x)).only_now c.args.keeper.now c.requires.up)
+    rw (reply_logs c.args.self.now c.args.turn command c.args.decided c.in-Ok-Told.reply (c.in-Ok-Told.is ∙ ap Ok c.in-Ok-Told.field-0-is) is) (grows_none g.K.Keeper (g.met.K.Keeper g.world.𝓛 g.world.𝓜 g.world.𝓡 ((λ s x. x), (λ x. x), (λ x. x), λ x. x)).safe (g.met.K.Keeper g.world.𝓛 g.world.𝓜 g.world.𝓡 ((λ s x. x), (λ x. x), (λ x. x), λ x. x)).only_now c.args.keeper.now c.requires.up)
 
 pub change-requires-clause-may : goal.change-requires-clause-may
 change-requires-clause-may g c = λ κs lives. may_carry c.args.self.now c.args.turn c.requires.decided.0 c.take.new.self c.args.decided c.in-Ok-Made.making (c.in-Ok-Made.is ∙ ap Ok c.in-Ok-Made.field-0-is) c.take.ensures c.requires.decided.1
@@ -50,4 +50,4 @@ returns-in-Ok-Made-clause-later g c = above_made c.args.self.now c.take.new.self
 
 pub returns-in-Ok-Made-clause-keeps : goal.returns-in-Ok-Made-clause-keeps
 returns-in-Ok-Made-clause-keeps g c = λ command is.
-    subst (λ (l : List LogEntry). Keeps g.K.Keeper.told g.K.Keeper.kept g.K.Keeper.down g.K.Keeper.in_flight g.K.Keeper.faults g.K.Keeper.moment g.K.Keeper.left_since g.K.Keeper.may_leave c.args.keeper.now c.change.new.keeper l c.change.result) (sym (change_is_logged c.args.self.now c.args.turn command c.take.new.self c.args.decided c.in-Ok-Made.making (c.in-Ok-Made.is ∙ ap Ok c.in-Ok-Made.field-0-is) c.take.ensures is)) c.change.ensures.keeps
+    subst (λ (l : List LogEntry). Keeps g.K.Keeper c.args.keeper.now c.change.new.keeper l c.change.result) (sym (change_is_logged c.args.self.now c.args.turn command c.take.new.self c.args.decided c.in-Ok-Made.making (c.in-Ok-Made.is ∙ ap Ok c.in-Ok-Made.field-0-is) c.take.ensures is)) c.change.ensures.keeps

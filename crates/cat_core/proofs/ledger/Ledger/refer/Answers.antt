@@ -19,4 +19,4 @@ returns-clause-call g c =
 pub returns-clause-keeps : goal.returns-clause-keeps
 returns-clause-keeps g c =
     let decided : IsDecided c.args.self.now (turn_of c.args.caller c.args.moment 0) c.args.command.now c.decide_reference-decided.result = is_decided c.args.self.now _ (turn_of c.args.caller c.args.moment 0) c.args.command.now c.decide_reference-decided.result c.requires.well_made (none_opened c.args.command.now c.requires.none) c.catalogue.ensures (c.decide_reference-decided.ensures.decides _) c.decide_reference-decided.ensures.there in
-    subst (λ (x : Called). Keeps g.K.Keeper.told g.K.Keeper.kept g.K.Keeper.down g.K.Keeper.in_flight g.K.Keeper.faults g.K.Keeper.moment g.K.Keeper.left_since g.K.Keeper.may_leave c.args.keeper.now c.carry_out.new.keeper x.logged c.carry_out.result) (undrafted c.args.caller c.args.moment c.args.self.now c.args.command.now c.requires.none) (c.carry_out.ensures.keeps c.args.command.now decided)
+    subst (λ (x : Called). Keeps g.K.Keeper c.args.keeper.now c.carry_out.new.keeper x.logged c.carry_out.result) (undrafted c.args.caller c.args.moment c.args.self.now c.args.command.now c.requires.none) (c.carry_out.ensures.keeps c.args.command.now decided)

@@ -26,4 +26,4 @@ returns-clause-call g c =
 pub returns-clause-keeps : goal.returns-clause-keeps
 returns-clause-keeps g c =
     let decided : IsDecided c.args.self.now (turn_of c.args.caller c.args.moment c.args.number) (command_of c.args.call) c.decide-decided.result = is_decided c.args.self.now _ (turn_of c.args.caller c.args.moment c.args.number) (command_of c.args.call) c.decide-decided.result c.requires.well_made (number_is c.args.call c.args.number c.requires.number) c.catalogue.ensures c.decide-decided.ensures.decides c.decide-decided.ensures.there in
-    subst (λ (x : Called). Keeps g.K.Keeper.told g.K.Keeper.kept g.K.Keeper.down g.K.Keeper.in_flight g.K.Keeper.faults g.K.Keeper.moment g.K.Keeper.left_since g.K.Keeper.may_leave c.args.keeper.now c.carry_out.new.keeper x.logged c.carry_out.result) (settled c.args.self.now c.args.caller c.args.moment c.args.number c.args.call c.requires.opened) (c.carry_out.ensures.keeps (command_of c.args.call) decided)
+    subst (λ (x : Called). Keeps g.K.Keeper c.args.keeper.now c.carry_out.new.keeper x.logged c.carry_out.result) (settled c.args.self.now c.args.caller c.args.moment c.args.number c.args.call c.requires.opened) (c.carry_out.ensures.keeps (command_of c.args.call) decided)

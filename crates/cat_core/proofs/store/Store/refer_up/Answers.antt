@@ -18,7 +18,7 @@ refer-made-requires-clause-up g c κs within =
 pub invariant_of-self : goal.invariant_of-self
 invariant_of-self g c =
     let laws = g.met.K.Keeper g.world.𝓛 g.world.𝓜 g.world.𝓡 ((λ s x. x), (λ x. x), (λ x. x), λ x. x) in
-    stands g.K.Keeper.told g.K.Keeper.kept g.K.Keeper.down g.K.Keeper.in_flight g.K.Keeper.faults g.K.Keeper.moment g.K.Keeper.left_since g.K.Keeper.may_leave
+    stands g.K.Keeper
     c.self.inside.keeper c.refer-made.new.keeper c.args.caller 0 (call_on sha256 c.args.caller c.self.inside.ledger c.args.command.now c.args.moment) c.self.inside.ledger c.refer-made.new.self c.self.inside.began _ c.self.inside.fallen c.tell.new.fallen c.refer-made.result
     (right_attempt c.self.inside.ledger (in_next c.args.caller c.args.moment) c.args.command.now)
     (call_brings c.args.caller c.args.moment c.self.inside.ledger c.args.command.now c.requires.well_made c.requires.opens)
@@ -31,7 +31,7 @@ pub returns : goal.returns
 returns g c =
     let laws = g.met.K.Keeper g.world.𝓛 g.world.𝓜 g.world.𝓡 ((λ s x. x), (λ x. x), (λ x. x), λ x. x) in
     let none = up_inside g.K.Keeper.down g.K.Keeper.in_flight laws.flies laws.waits c.self.inside.keeper c.self.inside.fallen c.self.invariant.0.fallen _ _ c.self.view_is refl c.requires.up in
-    all_told g.K.Keeper.told g.K.Keeper.kept g.K.Keeper.down g.K.Keeper.in_flight g.K.Keeper.faults g.K.Keeper.moment g.K.Keeper.left_since g.K.Keeper.may_leave laws.safe laws.only_now
+    all_told g.K.Keeper laws.safe laws.only_now
     c.args.caller c.self.inside.ledger c.refer-made.new.self c.self.inside.keeper c.refer-made.new.keeper c.self.inside.drafter c.self.inside.dropped c.self.inside.drafts.items c.self.inside.began
     (λ b. call_on sha256 c.args.caller b c.args.command.now c.args.moment) (right_attempt c.self.inside.ledger (in_next c.args.caller c.args.moment) c.args.command.now) 0
     (call_brings c.args.caller c.args.moment c.self.inside.ledger c.args.command.now c.requires.well_made c.requires.opens)

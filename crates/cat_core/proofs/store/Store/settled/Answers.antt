@@ -6,34 +6,34 @@ use Rattle.cat_core.proofs.store.Store.settled.Goals as goal
 pub returns-in-Some : goal.returns-in-Some
 returns-in-Some g c =
     let laws = g.met.K.Keeper g.world.𝓛 g.world.𝓜 g.world.𝓡 ((λ s x. x), (λ x. x), (λ x. x), λ x. x) in
-    settled_down g.K.Keeper.told g.K.Keeper.kept g.K.Keeper.down g.K.Keeper.in_flight g.K.Keeper.faults g.K.Keeper.moment g.K.Keeper.left_since g.K.Keeper.may_leave laws.safe laws.only_now
+    settled_down g.K.Keeper laws.safe laws.only_now
     c.args.self.now _ c.args.draft c.args.built c.args.moment (up_seen g.K.Keeper.down g.K.Keeper.in_flight laws.flies laws.waits c.self.inside.fallen _ _ c.self.view_is c.self.invariant.0.fallen refl)
     c.place-place.result c.in-Some.count _ (search rules) (search rules) (search rules) (search rules)
 
 pub returns-in-Err : goal.returns-in-Err
 returns-in-Err g c =
     let laws = g.met.K.Keeper g.world.𝓛 g.world.𝓜 g.world.𝓡 ((λ s x. x), (λ x. x), (λ x. x), λ x. x) in
-    settled_refused g.K.Keeper.told g.K.Keeper.kept g.K.Keeper.down g.K.Keeper.in_flight g.K.Keeper.faults g.K.Keeper.moment g.K.Keeper.left_since g.K.Keeper.may_leave laws.safe laws.only_now
+    settled_refused g.K.Keeper laws.safe laws.only_now
     c.args.self.now _ c.args.draft c.args.built c.args.moment (up_seen g.K.Keeper.down g.K.Keeper.in_flight laws.flies laws.waits c.self.inside.fallen _ _ c.self.view_is c.self.invariant.0.fallen refl)
     c.place-place.result c.in-Err.why _ (search rules) (search rules) (search rules) (search rules) (search rules)
 
 pub returns-then-ne : goal.returns-then-ne
 returns-then-ne g c =
     let laws = g.met.K.Keeper g.world.𝓛 g.world.𝓜 g.world.𝓡 ((λ s x. x), (λ x. x), (λ x. x), λ x. x) in
-    settled_moved g.K.Keeper.told g.K.Keeper.kept g.K.Keeper.down g.K.Keeper.in_flight g.K.Keeper.faults g.K.Keeper.moment g.K.Keeper.left_since g.K.Keeper.may_leave laws.safe laws.only_now
+    settled_moved g.K.Keeper laws.safe laws.only_now
     c.args.self.now _ c.args.draft c.args.built c.args.moment (up_seen g.K.Keeper.down g.K.Keeper.in_flight laws.flies laws.waits c.self.inside.fallen _ _ c.self.view_is c.self.invariant.0.fallen refl)
     c.head_of.result c.moved.result (search rules) (search rules) (search rules) (search rules) c.moved.ensures
 
 pub returns-in-Ok : goal.returns-in-Ok
 returns-in-Ok g c =
     let laws = g.met.K.Keeper g.world.𝓛 g.world.𝓜 g.world.𝓡 ((λ s x. x), (λ x. x), (λ x. x), λ x. x) in
-    settled_told g.K.Keeper.told g.K.Keeper.kept g.K.Keeper.down g.K.Keeper.in_flight g.K.Keeper.faults g.K.Keeper.moment g.K.Keeper.left_since g.K.Keeper.may_leave laws.safe laws.only_now
+    settled_told g.K.Keeper laws.safe laws.only_now
     c.args.self.now _ c.args.draft c.args.built c.args.moment (up_seen g.K.Keeper.down g.K.Keeper.in_flight laws.flies laws.waits c.self.inside.fallen _ _ c.self.view_is c.self.invariant.0.fallen refl)
     c.close-call.new.self (Ok c.in-Ok.told) (search rules) (search rules) (search rules)
 
 pub returns-in-Err-make : goal.returns-in-Err-make
 returns-in-Err-make g c =
     let laws = g.met.K.Keeper g.world.𝓛 g.world.𝓜 g.world.𝓡 ((λ s x. x), (λ x. x), (λ x. x), λ x. x) in
-    settled_told g.K.Keeper.told g.K.Keeper.kept g.K.Keeper.down g.K.Keeper.in_flight g.K.Keeper.faults g.K.Keeper.moment g.K.Keeper.left_since g.K.Keeper.may_leave laws.safe laws.only_now
+    settled_told g.K.Keeper laws.safe laws.only_now
     c.args.self.now _ c.args.draft c.args.built c.args.moment (up_seen g.K.Keeper.down g.K.Keeper.in_flight laws.flies laws.waits c.self.inside.fallen _ _ c.self.view_is c.self.invariant.0.fallen refl)
     c.close-call.new.self (Err c.in-Err-make.why) (search rules) (search rules) (search rules)

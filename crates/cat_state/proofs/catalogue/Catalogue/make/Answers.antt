@@ -21,4 +21,4 @@ pub returns-in_err-reserve-clause-keeps : goal.returns-in_err-reserve-clause-kee
 returns-in_err-reserve-clause-keeps g c =
     let p = err_from_is_err_and c.from_residual.result c.from_residual.ensures.1 in
     let met = g.met.K.Keeper g.world.𝓛 g.world.𝓜 g.world.𝓡 ((λ s x. x), (λ x. x), (λ x. x), λ x. x) in
-    rw (p.1, p.2) (stays g.K.Keeper.told g.K.Keeper.kept g.K.Keeper.down g.K.Keeper.in_flight g.K.Keeper.faults g.K.Keeper.moment g.K.Keeper.left_since g.K.Keeper.may_leave met.safe met.only_now c.args.keeper.now)
+    rw (p.1, p.2) (stays g.K.Keeper met.safe met.only_now c.args.keeper.now)
