@@ -33,7 +33,7 @@ fn change_of(
     contents: &Table<Content>,
     change: &(ContentKey, Option<Entry>),
 ) -> Result<Change, NoMemory>
-    ensures { IfOk result (λ told. told ≡ answers.change_of contents.now.list change.now) }
+    ensures { IfOk result (λ told. told ≡ answers.change_of contents.now change.now) }
 {
     let key = change.0.clone()?;
     match &change.1 {
@@ -50,7 +50,7 @@ fn changes_of(
     contents: &Table<Content>,
     ops: &[(ContentKey, Option<Entry>)],
 ) -> Result<Seq<Change>, NoMemory>
-    ensures { IfOk result (λ changes. changes ≡ map (answers.change_of contents.now.list) ops.now) }
+    ensures { IfOk result (λ changes. changes ≡ map (answers.change_of contents.now) ops.now) }
 {
     let mut changes = Seq::new(alloc);
     for op in ops {
@@ -67,7 +67,7 @@ fn operations_of(
     commit: &Commit,
 ) -> Result<Option<Seq<Change>>, NoMemory>
     ensures { IfOk result
-        (λ changes. changes ≡ answers.operations_of contents.now.list with_operations commit.now) }
+        (λ changes. changes ≡ answers.operations_of contents.now with_operations commit.now) }
 {
     if !with_operations {
         return Ok(None);
@@ -85,7 +85,7 @@ fn history_item(
 ) -> Result<HistoryItem, NoMemory>
     ensures { IfOk result
         (λ item. item
-        ≡ answers.history_item contents.now.list with_operations (hash.now, commit.now)) }
+        ≡ answers.history_item contents.now with_operations (hash.now, commit.now)) }
 {
     let meta = copy_meta(&commit.meta)?;
     let operations = operations_of(alloc, contents, with_operations, commit)?;
@@ -108,7 +108,7 @@ pub(crate) fn history_items(
 ) -> Result<Seq<HistoryItem>, NoMemory>
     ensures { IfOk result
         (λ items. items
-        ≡ map (answers.history_item contents.now.list with_operations) (values commits.now)) }
+        ≡ map (answers.history_item contents.now with_operations) (values commits.now)) }
 {
     let mut items = Seq::new(alloc);
     for (hash, commit) in commits {

@@ -20,7 +20,7 @@ fn content_of_key<'a>(
     map: &KeyMap,
     key: &ContentKey,
 ) -> Option<&'a Content>
-    ensures { option_copied result ≡ answers.content_of_key contents.now.list map.now key.now }
+    ensures { option_copied result ≡ answers.content_of_key contents.now map.now key.now }
 {
     match map.get(key) {
         None => None,
@@ -35,7 +35,7 @@ fn keyed_content(
     key: &ContentKey,
 ) -> Result<Option<(ContentKey, Content)>, NoMemory>
     ensures { IfOk result
-        (λ keyed. keyed ≡ answers.keyed_content contents.now.list map.now key.now) }
+        (λ keyed. keyed ≡ answers.keyed_content contents.now map.now key.now) }
 {
     match content_of_key(contents, map, key) {
         None => Ok(None),
@@ -53,7 +53,7 @@ fn add_keyed(
     ensures { OnOk result
         (found.new
         ≡ found.old
-        ++ filter_map (answers.keyed_content contents.now.list map.now) (key.now ∷ [])) }
+        ++ filter_map (answers.keyed_content contents.now map.now) (key.now ∷ [])) }
 {
     if let Some(keyed) = keyed_content(contents, map, key)? {
         found.push(keyed)?;
@@ -69,7 +69,7 @@ pub(crate) fn keyed_contents(
     keys: &[ContentKey],
 ) -> Result<Seq<(ContentKey, Content)>, NoMemory>
     ensures { IfOk result
-        (λ found. found ≡ filter_map (answers.keyed_content contents.now.list map.now) keys.now) }
+        (λ found. found ≡ filter_map (answers.keyed_content contents.now map.now) keys.now) }
 {
     let mut found = Seq::new(alloc);
     for key in keys {

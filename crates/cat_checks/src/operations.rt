@@ -68,7 +68,8 @@ fn is_made(alloc: Global, op: &Op, left: &[Content]) -> Result<bool, NoMemory>
 
 /// Whether each PUT has the next of the contents.
 fn are_made(alloc: Global, ops: &[Op], contents: &[Content]) -> Result<bool, NoMemory>
-    ensures { IfOk result (λ b. b ≡ list_all (is_made sha256) (with_their_contents ops.now contents.now)) }
+    ensures { IfOk result
+        (λ b. b ≡ list_all (is_made sha256) (with_their_contents ops.now contents.now)) }
 {
     let mut left = contents;
     for op in ops {

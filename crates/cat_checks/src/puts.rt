@@ -44,7 +44,9 @@ pub(crate) fn is_put(
     fresh: bool,
     content: &Content,
 ) -> Result<bool, NoMemory>
-    ensures { IfOk result (λ b. b ≡ may_stand_at key.now content.now.body && is_of sha256 entry.now fresh content.now) }
+    ensures { IfOk result
+        (λ b. b
+        ≡ may_stand_at key.now content.now.body && is_of sha256 entry.now fresh content.now) }
 {
     Ok(content.body.may_stand_at(key) && is_of(alloc, entry, fresh, content)?)
 }

@@ -205,10 +205,3 @@ pub one_before : (generation before greatest next : ℕ) → before + 1 ≡ gene
 one_before generation before greatest next less more =
     same_from_decides {P = before ≡ greatest} (nat_eq before greatest) (nat_eq generation next) (unsigned_Decides before greatest)
     (λ e. let same = eqb-true generation next e in omega arith, λ e. eq-eqb generation next (omega arith))
-
--- ---- the commits added first
-
-pub linked_drop : (n : ℕ) (commits : Commits) → AreLinked commits → AreLinked (drop n commits)
-linked_drop zero commits are = are
-linked_drop (suc n) [] are = are
-linked_drop (suc n) (x ∷ older) are = linked_drop n older are.2

@@ -1,6 +1,7 @@
 //! Why a commit was not added.
 
 use cat_codes::fault::NoMemory;
+use std::alloc::AllocError;
 use thiserror::Error;
 
 /// Why a commit was not added.
@@ -21,6 +22,17 @@ impl From<NoMemory> for AddFault {
     ghost from_gives = { λ _ fault. fault ≡ faults.NoMemory };
 
     fn from(_: NoMemory) -> AddFault {
+        AddFault::NoMemory
+    }
+}
+
+impl From<AllocError> for AddFault {
+    ghost use Rattle.std.specs.Prelude.{◌≡◌};
+    ghost use Rattle.cat_graph.specs.declared.add_fault.AddFault.TheVariants as faults;
+
+    ghost from_gives = { λ _ fault. fault ≡ faults.NoMemory };
+
+    fn from(_: AllocError) -> AddFault {
         AddFault::NoMemory
     }
 }

@@ -16,14 +16,14 @@ use std::cmp::Ordering;
 impl Graph {
     /// The hash with its generation.
     fn reached(&self, hash: &Hash) -> Reached
-        ensures { result ≡ reached self.now.list hash.now }
+        ensures { result ≡ reached self.now hash.now }
     {
         Reached::new(self.generation(hash), *hash)
     }
 
     /// A front of one hash.
     fn front(&self, alloc: Global, hash: &Hash) -> Result<Front, NoMemory>
-        ensures { IfOk result (λ f. f ≡ reached self.now.list hash.now ∷ []) }
+        ensures { IfOk result (λ f. f ≡ reached self.now hash.now ∷ []) }
     {
         let mut front = Front::new(alloc);
         front.put(self.reached(hash))?;
@@ -33,9 +33,9 @@ impl Graph {
     /// Goes on from the nearest hash of a front to its parents. One that is there once more is only
     /// taken off, so that each hash is gone on from once.
     fn go_on(&self, front: &mut Front) -> Result<(), NoMemory>
-        requires generations { HaveGenerations self.now.list front.old }
+        requires generations { HaveGenerations self.now front.old }
         requires some { 0 < length front.old }
-        ensures { OnOk result (GoesOn self.now.list front.old front.new) }
+        ensures { OnOk result (GoesOn self.now front.old front.new) }
     {
         self.known();
         let Some(at) = front.take() else {
@@ -60,12 +60,15 @@ impl Graph {
     /// From each side it goes on from the ancestors that are nearer than the base, and from no
     /// others: each costs the look-ups of its parents and a place for them in a heap.
     pub fn base(&self, alloc: Global, left: &Hash, right: &Hash) -> Result<Hash, NoMemory>
-        requires left { IsTrue (is_known self.now.list left.now) }
-        requires right { IsTrue (is_known self.now.list right.now) }
-        ensures value { IfOk result (λ h. h ≡ base self.now.list left.now right.now) }
-        ensures common { IfOk result (λ h. IsTrue (is_among (common_ancestors self.now.list left.now right.now) h)) }
-        ensures nearest { IfOk result (λ h. (x : Hash) → IsTrue (is_among (common_ancestors self.now.list left.now right.now) x) → is_nearer self.now.list x h ≡ false) }
-        ensures known { IfOk result (λ h. IsTrue (is_known self.now.list h)) }
+        requires left { IsTrue (is_known self.now left.now) }
+        requires right { IsTrue (is_known self.now right.now) }
+        ensures value { IfOk result (λ h. h ≡ base self.now left.now right.now) }
+        ensures common { IfOk result
+            (λ h. IsTrue (is_among (common_ancestors self.now left.now right.now) h)) }
+        ensures nearest { IfOk result
+            (λ h. (x : Hash) → IsTrue (is_among (common_ancestors self.now left.now right.now) x)
+            → is_nearer self.now x h ≡ false) }
+        ensures known { IfOk result (λ h. IsTrue (is_known self.now h)) }
     {
         self.known();
         let mut left_front = self.front(alloc, left)?;

@@ -8,31 +8,30 @@ ghost use Rattle.cat_model.specs.Transplants.{are_children, are_consecutive, has
 ghost use Rattle.cat_graph.specs.Linked.{AreLinked, IsNext, IsOther, is_known, is_merge_known, is_next, merge_generation, next_generation, values, with_commit};
 
 use crate::add_fault::AddFault;
-use crate::copying::copy_table;
 use cat_codes::fault::NoMemory;
 use cat_model::commit::Commit;
 use cat_names::hash::Hash;
+use cat_tables::batch::Batch;
 use cat_tables::table::Table;
-use std::alloc::Global;
+use std::alloc::{AllocError, Global};
 use std::marker::Model;
 
-/// Commits under their hashes. Contracts see the list, the newest first, and how many more can be
-/// pushed without memory.
+/// Commits under their hashes. A graph is never changed: one with more commits shares with it those
+/// that it has. Contracts see the list, the newest first.
 #[derive(Drop)]
 pub struct Graph {
     table: Table<Commit>,
 }
 
 impl Model for Graph {
-    ghost use Rattle.cat_model.specs.declared.commit.Commit.{Commit};
-    ghost use Rattle.cat_tables.specs.Tables.{Recorded};
+    ghost use Rattle.cat_model.specs.Chain.{Commits};
     ghost use Rattle.cat_graph.specs.Linked.{AreLinked};
 
-    ghost Value = { Recorded Commit };
+    ghost Value = { Commits };
 
     ghost view = { λ g. g.table };
 
-    ghost invariant = { λ g. AreLinked g.table.list };
+    ghost invariant = { λ g. AreLinked g.table };
 }
 
 /// Whether the commits are the same.
@@ -42,10 +41,21 @@ fn is_same(kept: &Commit, commit: &Commit) -> bool
     *kept == *commit
 }
 
+impl Clone for Graph {
+    ghost is_clone = { λ a b. b ≡ a };
+
+    /// The same graph, which shares all commits.
+    fn clone(&self) -> Result<Graph, AllocError> {
+        Ok(Graph {
+            table: self.table.clone()?,
+        })
+    }
+}
+
 impl Graph {
     /// No commits.
     pub fn new(alloc: Global) -> Graph
-        ensures { result.list ≡ [] }
+        ensures { result ≡ [] }
     {
         Graph {
             table: Table::new(alloc),
@@ -55,23 +65,14 @@ impl Graph {
     /// What holds of each graph: no hash comes twice, each commit stands above its parents, and its
     /// generation is one more than the greatest of theirs.
     pub fn known(&self)
-        ensures { AreLinked self.now.list }
+        ensures { AreLinked self.now }
     {
         let _ = &self.table;
     }
 
-    /// A copy of it.
-    pub fn copy(&self, alloc: Global) -> Result<Graph, NoMemory>
-        ensures { IfOk result (λ graph. graph.list ≡ self.now.list) }
-    {
-        Ok(Graph {
-            table: copy_table(alloc, &self.table)?,
-        })
-    }
-
     /// How many commits there are.
     pub fn len(&self) -> usize
-        ensures { result ≡ length self.now.list }
+        ensures { result ≡ length self.now }
     {
         self.table.len()
     }
@@ -79,14 +80,14 @@ impl Graph {
     /// The commit of a hash.
     #[tactic(auto, using(crate::proofs::Walks::commit_is))]
     pub fn get(&self, hash: &Hash) -> Option<&Commit>
-        ensures { option_map (λ c. c.now) result ≡ commit_of self.now.list hash.now }
+        ensures { option_map (λ c. c.now) result ≡ commit_of self.now hash.now }
     {
         self.table.get(hash)
     }
 
     /// Whether a commit has the hash, or it is the one that has no ancestor.
     pub fn is_known(&self, hash: &Hash) -> bool
-        ensures { result ≡ is_known self.now.list hash.now }
+        ensures { result ≡ is_known self.now hash.now }
     {
         self.get(hash).is_some() || Hash::none() == *hash
     }
@@ -94,7 +95,7 @@ impl Graph {
     /// The generation of a hash; 0 for the one that has no ancestor, and for one that isn't known.
     #[tactic(auto, using(crate::proofs::Walks::generation_none, crate::proofs::Walks::generation_some))]
     pub fn generation(&self, hash: &Hash) -> u64
-        ensures { result ≡ generation self.now.list hash.now }
+        ensures { result ≡ generation self.now hash.now }
     {
         match self.get(hash) {
             None => 0,
@@ -104,7 +105,7 @@ impl Graph {
 
     /// Whether a merge's other parent is known, where there is one.
     fn is_merge_known(&self, merge_parent: &Option<Hash>) -> bool
-        ensures { result ≡ is_merge_known self.now.list merge_parent.now }
+        ensures { result ≡ is_merge_known self.now merge_parent.now }
     {
         match merge_parent {
             None => true,
@@ -114,7 +115,7 @@ impl Graph {
 
     /// The generation of a merge's other parent; 0 where there is none.
     fn merge_generation(&self, merge_parent: &Option<Hash>) -> u64
-        ensures { result ≡ merge_generation self.now.list merge_parent.now }
+        ensures { result ≡ merge_generation self.now merge_parent.now }
     {
         match merge_parent {
             None => 0,
@@ -124,7 +125,7 @@ impl Graph {
 
     /// Whether the commit's generation is one more than the greatest of its parents'.
     fn has_next_generation(&self, commit: &Commit) -> bool
-        ensures { result ≡ nat_eq commit.now.generation (next_generation self.now.list commit.now) }
+        ensures { result ≡ nat_eq commit.now.generation (next_generation self.now commit.now) }
     {
         let parent = self.generation(&commit.parent);
         let merge_parent = self.merge_generation(&commit.merge_parent);
@@ -135,7 +136,7 @@ impl Graph {
     }
 
     fn passes(&self, hash: &Hash, commit: &Commit) -> bool
-        ensures { result ≡ is_next self.now.list hash.now commit.now }
+        ensures { result ≡ is_next self.now hash.now commit.now }
     {
         Hash::none() != *hash
             && self.is_known(&commit.parent)
@@ -147,74 +148,48 @@ impl Graph {
     /// its parents are known, and its generation is one more than the greatest of theirs.
     #[tactic(auto, using(crate::proofs::Walks::next_decides))]
     pub fn is_next(&self, hash: &Hash, commit: &Commit) -> bool
-        ensures { IsTrue result ↔ IsNext self.now.list hash.now commit.now }
+        ensures { IsTrue result ↔ IsNext self.now hash.now commit.now }
     {
         self.passes(hash, commit)
     }
 
-    /// Makes room, so that this many more can be pushed.
-    pub fn reserve(&mut self, more: usize) -> Result<(), NoMemory>
-        ensures list { self.new.list ≡ self.old.list }
-        ensures ok { OnOk result (more ≤ self.new.spare) }
-        ensures succeeds { more ≤ self.old.spare → IsOk result }
-        ensures spare { self.old.spare ≤ self.new.spare }
+    /// The graph with the commits of a batch above its own.
+    pub fn with(&self, alloc: Global, more: Batch<Commit>) -> Result<Graph, NoMemory>
+        requires { AreLinked (more.list ++ self.now) }
+        ensures { IfOk result (λ graph. graph ≡ more.list ++ self.now) }
     {
-        self.table.reserve(more)
+        Ok(Graph {
+            table: self.table.with(alloc, more)?,
+        })
     }
 
-    /// Adds a commit under a hash that is not there, into room that was made before.
-    pub fn push(&mut self, hash: Hash, commit: Commit)
-        requires room { 0 < self.old.spare }
-        requires absent { commit_of self.old.list hash ≡ None }
-        requires next { IsNext self.old.list hash commit }
-        ensures list { self.new.list ≡ (hash, commit) ∷ self.old.list }
-        ensures spare { self.old.spare ≤ self.new.spare + 1 }
+    /// The graph with one commit more. One that is there changes nothing, and another commit under
+    /// the hash is a collision.
+    pub fn add(&self, alloc: Global, hash: Hash, commit: Commit) -> Result<Graph, AddFault>
+        requires next { IsNext self.now hash commit }
+        ensures ok { IfOk result (λ graph. graph ≡ with_commit hash commit self.now) }
+        ensures collision { (result ≡ Err AddFault.Collision)
+            ↔ IsOther (commit_of self.now hash) commit }
     {
-        self.table.push(hash, commit);
-    }
-
-    /// Adds the commits of a table above those that are there, into room that was made before.
-    pub fn append(&mut self, more: Table<Commit>)
-        requires room { length more.list ≤ self.old.spare }
-        requires linked { AreLinked (more.list ++ self.old.list) }
-        ensures list { self.new.list ≡ more.list ++ self.old.list }
-    {
-        self.table.append(more);
-    }
-
-    /// Adds a commit. One that is there is left alone, and another commit under the hash is a
-    /// collision. A fault leaves the commits as they were.
-    pub fn add(&mut self, hash: Hash, commit: Commit) -> Result<(), AddFault>
-        requires next { IsNext self.old.list hash commit }
-        ensures ok { OnOk result (self.new.list ≡ with_commit hash commit self.old.list) }
-        ensures err { OnErr result (self.new.list ≡ self.old.list) }
-        ensures collision { (result ≡ Err AddFault.Collision) ↔ IsOther (commit_of self.old.list hash) commit }
-        ensures there { IsTrue (is_some (commit_of self.old.list hash)) → result ≢ Err AddFault.NoMemory }
-        ensures succeeds { 0 < self.old.spare → result ≢ Err AddFault.NoMemory }
-        ensures spare { self.old.spare ≤ self.new.spare + 1 }
-    {
+        self.known();
         if let Some(kept) = self.get(&hash) {
             if is_same(kept, &commit) {
-                return Ok(());
+                return match self.clone() {
+                    Ok(graph) => Ok(graph),
+                    Err(_) => Err(AddFault::NoMemory),
+                };
             }
             return Err(AddFault::Collision);
         }
-        self.reserve(1)?;
-        self.push(hash, commit);
-        Ok(())
-    }
-
-    /// Keeps the commits that were added first, so many.
-    pub fn cut(&mut self, len: usize)
-        ensures list { self.new.list ≡ drop (length self.old.list - len) self.old.list }
-        ensures spare { self.old.spare ≤ self.new.spare }
-    {
-        self.table.cut(len);
+        let mut more = Batch::new(alloc);
+        more.reserve(1)?;
+        more.push(hash, commit);
+        Ok(self.with(alloc, more)?)
     }
 
     /// Whether the hash is on the chain of the head, which ends in the hash that has no ancestor.
     pub fn on_chain(&self, head: &Hash, hash: &Hash) -> bool
-        ensures { result ≡ on_chain self.now.list head.now hash.now }
+        ensures { result ≡ on_chain self.now head.now hash.now }
     {
         self.known();
         let mut at = *head;
@@ -234,7 +209,7 @@ impl Graph {
         from: &'a Hash,
         limit: usize,
     ) -> Result<Vec<(&'a Hash, &'a Commit)>, NoMemory>
-        ensures { IfOk result (λ v. values v.items ≡ take limit (Chain.chain self.now.list from.now)) }
+        ensures { IfOk result (λ v. values v.items ≡ take limit (Chain.chain self.now from.now)) }
     {
         self.known();
         let mut found = Vec::new(alloc);
@@ -251,7 +226,7 @@ impl Graph {
 
     /// Whether there is a commit of the hash, and its parent is this one.
     fn is_child(&self, parent: &Hash, hash: &Hash) -> bool
-        ensures { result ≡ has_parent parent.now (commit_of self.now.list hash.now) }
+        ensures { result ≡ has_parent parent.now (commit_of self.now hash.now) }
     {
         match self.get(hash) {
             None => false,
@@ -261,7 +236,7 @@ impl Graph {
 
     /// Whether each is the hash of a commit whose parent is the one before, the first one's this.
     fn are_children(&self, first: &Hash, hashes: &[Hash]) -> bool
-        ensures { result ≡ are_children self.now.list first.now hashes.now }
+        ensures { result ≡ are_children self.now first.now hashes.now }
     {
         let mut parent = first;
         for hash in hashes {
@@ -276,7 +251,7 @@ impl Graph {
     /// Whether each is the hash of a commit, and each but the first has the one before for its
     /// parent.
     pub fn consecutive(&self, hashes: &[Hash]) -> bool
-        ensures { result ≡ are_consecutive self.now.list hashes.now }
+        ensures { result ≡ are_consecutive self.now hashes.now }
     {
         match hashes {
             [] => true,

@@ -1,5 +1,5 @@
 -- The maps at commits, the newest first.
-use Rattle.std.specs.Prelude.{◌≡◌, refl, List, [], ◌∷◌, Option, Some, None, is_some, if◌then◌else◌}
+use Rattle.std.specs.Prelude.{◌≡◌, refl, List, [], ◌∷◌, Option, Some, None, if◌then◌else◌}
 use Rattle.cat_names.specs.declared.hash.Hash.{Hash}
 use Rattle.cat_tables.specs.LookUps.{value_is_only}
 use Rattle.cat_tables.specs.Tables.{value_of}
@@ -10,10 +10,6 @@ use Rattle.cat_model.specs.Same.{same_hash}
 abbrev pub map_at : List (Hash × Map) → Hash → Option Map
 map_at [] hash = None
 map_at (x ∷ maps) hash = if same_hash x.0 hash then Some x.1 else map_at maps hash
-
--- one map more, unless there is one of its hash
-abbrev pub with_map : Hash → Map → List (Hash × Map) → List (Hash × Map)
-with_map hash map maps = if is_some (map_at maps hash) then maps else (hash, map) ∷ maps
 
 -- the look-up of any values under hashes
 pub map_is : (maps : List (Hash × Map)) (hash : Hash) → map_at maps hash ≡ value_of maps hash

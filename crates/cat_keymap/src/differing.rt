@@ -64,7 +64,11 @@ fn take_up(
     entry: Entry,
 ) -> Result<(), NoMemory>
     requires { IsMap left.old }
-    ensures keys { OnOk result (out.new ≡ out.old ++ (keys_of (below left.old key.now) ++ Walking.unless_same (key.now, entry) (entry_of left.old key.now))) }
+    ensures keys { OnOk result
+        (out.new
+        ≡ out.old
+        ++ (keys_of (below left.old key.now)
+        ++ Walking.unless_same (key.now, entry) (entry_of left.old key.now))) }
     ensures left { OnOk result (left.new ≡ above left.old key.now) }
 {
     add_below(out, left, key)?;

@@ -184,7 +184,9 @@ impl KeyMap {
         after: Option<&ContentKey>,
         limit: u32,
     ) -> Result<ListingPart, NoMemory>
-        ensures { IfOk result (λ part. part ≡ Parts.part self.now filter.now (option_map (λ key. key.now) after.entry) limit) }
+        ensures { IfOk result
+            (λ part. part
+            ≡ Parts.part self.now filter.now (option_map (λ key. key.now) after.entry) limit) }
     {
         listing::part(alloc, self, filter, after, limit)
     }

@@ -33,7 +33,10 @@ fn chosen_part(
     limit: u32,
     pairs: &[(ContentKey, Entry)],
 ) -> Result<ListingPart, NoMemory>
-    ensures { IfOk result (λ part. part ≡ Parts.first_part limit (admitted filter.now (option_map (λ key. key.now) after.entry) pairs.now)) }
+    ensures { IfOk result
+        (λ part. part
+        ≡ Parts.first_part limit
+        (admitted filter.now (option_map (λ key. key.now) after.entry) pairs.now)) }
 {
     let mut out = Seq::new(alloc);
     for pair in pairs {
@@ -62,7 +65,10 @@ fn walked_part(
     pairs: Walk<'_>,
 ) -> Result<ListingPart, NoMemory>
     requires { IsMap pairs }
-    ensures { IfOk result (λ part. part ≡ Parts.first_part limit (admitted filter.now (option_map (λ key. key.now) after.entry) pairs.entry)) }
+    ensures { IfOk result
+        (λ part. part
+        ≡ Parts.first_part limit
+        (admitted filter.now (option_map (λ key. key.now) after.entry) pairs.entry)) }
 {
     let mut out = Seq::new(alloc);
     let mut rest = pairs;
@@ -98,7 +104,9 @@ pub(crate) fn part(
     after: Option<&ContentKey>,
     limit: u32,
 ) -> Result<ListingPart, NoMemory>
-    ensures { IfOk result (λ part. part ≡ Parts.part map.now filter.now (option_map (λ key. key.now) after.entry) limit) }
+    ensures { IfOk result
+        (λ part. part
+        ≡ Parts.part map.now filter.now (option_map (λ key. key.now) after.entry) limit) }
 {
     match filter.keys.as_slice() {
         [] => {

@@ -41,7 +41,10 @@ fn look_up(
     last: Option<&ContentKey>,
     key: &ContentKey,
 ) -> Result<(), NoMemory>
-    ensures { OnOk result (out.new.items ≡ out.old.items ++ Range.looked_up (option_map (λ k. k.now) last.entry) key.now within.now) }
+    ensures { OnOk result
+        (out.new.items
+        ≡ out.old.items
+        ++ Range.looked_up (option_map (λ k. k.now) last.entry) key.now within.now) }
 {
     if !comes_after(last, key) {
         return Ok(());
@@ -57,7 +60,8 @@ fn looked_up(
     within: &KeyMap,
     sorted: &[&ContentKey],
 ) -> Result<Vec<(ContentKey, Entry)>, NoMemory>
-    ensures { IfOk result (λ v. v.items ≡ Range.all_looked_up None (map (λ k. k.now) sorted.now) within.now) }
+    ensures { IfOk result
+        (λ v. v.items ≡ Range.all_looked_up None (map (λ k. k.now) sorted.now) within.now) }
 {
     let mut out = Vec::new(alloc);
     let mut last = None;

@@ -15,7 +15,9 @@ use cat_model::filter::Filter;
 use cat_names::key::ContentKey;
 
 fn later<'a>(a: Option<&'a ContentKey>, b: Option<&'a ContentKey>) -> Option<&'a ContentKey>
-    ensures { option_map (λ key. key.now) result ≡ Range.later (option_map (λ key. key.now) a.entry) (option_map (λ key. key.now) b.entry) }
+    ensures { option_map (λ key. key.now) result
+        ≡ Range.later (option_map (λ key. key.now) a.entry)
+        (option_map (λ key. key.now) b.entry) }
 {
     match (a, b) {
         (None, _) => b,
@@ -26,7 +28,8 @@ fn later<'a>(a: Option<&'a ContentKey>, b: Option<&'a ContentKey>) -> Option<&'a
 
 /// The key that no key of the page is below, if there is one.
 fn start<'a>(filter: &'a Filter, after: Option<&'a ContentKey>) -> Option<&'a ContentKey>
-    ensures { option_map (λ key. key.now) result ≡ Range.start filter.now (option_map (λ key. key.now) after.entry) }
+    ensures { option_map (λ key. key.now) result
+        ≡ Range.start filter.now (option_map (λ key. key.now) after.entry) }
 {
     later(later(filter.min.as_ref(), filter.prefix.as_ref()), after)
 }
@@ -37,7 +40,9 @@ pub(crate) fn from_start<'a>(
     filter: &Filter,
     after: Option<&ContentKey>,
 ) -> Walk<'a>
-    ensures { result ≡ Range.from_start map.now (Range.start filter.now (option_map (λ key. key.now) after.entry)) }
+    ensures { result
+        ≡ Range.from_start map.now
+        (Range.start filter.now (option_map (λ key. key.now) after.entry)) }
 {
     match start(filter, after) {
         None => map.walk(),

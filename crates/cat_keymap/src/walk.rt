@@ -45,7 +45,8 @@ impl<'a> Walk<'a> {
 
     /// The next key and its entry; the walk stays where it is.
     pub fn peek(&self) -> Option<(&'a ContentKey, Entry)>
-        ensures { MatchOption result (self.now ≡ []) (λ x. self.now ≡ (x.0.now, x.1) ∷ drop 1 self.now) }
+        ensures { MatchOption result (self.now ≡ [])
+            (λ x. self.now ≡ (x.0.now, x.1) ∷ drop 1 self.now) }
     {
         match &self.pairs {
             None => None,
@@ -76,7 +77,10 @@ impl<'a> Walk<'a> {
 
     /// The next key, if it is below this one; the walk then goes past its pair.
     pub(crate) fn next_below(&mut self, key: &ContentKey) -> Option<&'a ContentKey>
-        ensures { MatchOption result ((self.new ≡ self.old) × (from_key key_cmp self.old key.now ≡ self.old)) (λ lower. (key_cmp lower.now key.now ≡ Less) × ((entry : Entry) × (self.old ≡ (lower.now, entry) ∷ self.new))) }
+        ensures { MatchOption result
+            ((self.new ≡ self.old) × (from_key key_cmp self.old key.now ≡ self.old))
+            (λ lower. (key_cmp lower.now key.now ≡ Less)
+            × ((entry : Entry) × (self.old ≡ (lower.now, entry) ∷ self.new))) }
     {
         let (next, _) = self.peek()?;
         if !next.cmp(key).is_lt() {

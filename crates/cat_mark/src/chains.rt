@@ -17,7 +17,7 @@ pub(crate) fn kept_parent<'a>(
     commit: &Commit,
 ) -> Option<&'a Commit>
     ensures { option_map (λ c. c.now) result
-        ≡ if_kept cutoff.now index (commit_of graph.now.list commit.now.parent) }
+        ≡ if_kept cutoff.now index (commit_of graph.now commit.now.parent) }
 {
     match graph.get(&commit.parent) {
         None => None,

@@ -125,9 +125,9 @@ impl Marks {
     /// Marks what the map of a hash has at each of its keys.
     fn mark_all_at(&mut self, maps: &Maps, hash: &Hash) -> Result<(), NoMemory>
         ensures ok { OnOk result
-            (AddsAll self.old self.new (hashes (found_map (map_at maps.now.list hash.now)))) }
+            (AddsAll self.old self.new (hashes (found_map (map_at maps.now hash.now)))) }
         ensures err { OnErr result
-            (AddsSome self.old self.new (hashes (found_map (map_at maps.now.list hash.now)))) }
+            (AddsSome self.old self.new (hashes (found_map (map_at maps.now hash.now)))) }
     {
         match maps.get(hash) {
             None => Ok(()),
@@ -139,10 +139,10 @@ impl Marks {
     fn mark_changed_at(&mut self, maps: &Maps, hash: &Hash, commit: &Commit) -> Result<(), NoMemory>
         ensures ok { OnOk result
             (AddsAll self.old self.new
-            (at_keys (found_map (map_at maps.now.list hash.now)) commit.now.ops)) }
+            (at_keys (found_map (map_at maps.now hash.now)) commit.now.ops)) }
         ensures err { OnErr result
             (AddsSome self.old self.new
-            (at_keys (found_map (map_at maps.now.list hash.now)) commit.now.ops)) }
+            (at_keys (found_map (map_at maps.now hash.now)) commit.now.ops)) }
     {
         match maps.get(hash) {
             None => Ok(()),
@@ -163,11 +163,11 @@ impl Marks {
         head: &Hash,
         cutoff: &Cutoff,
     ) -> Result<(), NoMemory>
-        requires { HaveMaps graph.now.list maps.now.list }
+        requires { HaveMaps graph.now maps.now }
         ensures ok { OnOk result
-            (AddsAll self.old self.new (live_from graph.now.list cutoff.now head.now)) }
+            (AddsAll self.old self.new (live_from graph.now cutoff.now head.now)) }
         ensures err { OnErr result
-            (AddsSome self.old self.new (live_from graph.now.list cutoff.now head.now)) }
+            (AddsSome self.old self.new (live_from graph.now cutoff.now head.now)) }
     {
         graph.known();
         cutoff.known();
@@ -192,9 +192,9 @@ impl Marks {
     /// each head, and the hashes themselves. Where memory runs out, a part of that may have been
     /// marked, and something of it is not.
     pub fn mark_all(&mut self, graph: &Graph, maps: &Maps, roots: &Roots) -> Result<(), NoMemory>
-        requires { HaveMaps graph.now.list maps.now.list }
-        ensures ok { OnOk result (AddsAll self.old self.new (live_of graph.now.list roots.now)) }
-        ensures err { OnErr result (AddsSome self.old self.new (live_of graph.now.list roots.now)) }
+        requires { HaveMaps graph.now maps.now }
+        ensures ok { OnOk result (AddsAll self.old self.new (live_of graph.now roots.now)) }
+        ensures err { OnErr result (AddsSome self.old self.new (live_of graph.now roots.now)) }
     {
         self.mark_heads(graph, maps, roots.heads.as_slice())?;
         self.add_all(roots.hashes.as_slice())
@@ -207,13 +207,13 @@ impl Marks {
         maps: &Maps,
         heads: &[(Hash, Cutoff)],
     ) -> Result<(), NoMemory>
-        requires { HaveMaps graph.now.list maps.now.list }
+        requires { HaveMaps graph.now maps.now }
         ensures ok { OnOk result
             (AddsAll self.old self.new
-            (flat_map (λ head. live_from graph.now.list head.1 head.0) heads.now)) }
+            (flat_map (λ head. live_from graph.now head.1 head.0) heads.now)) }
         ensures err { OnErr result
             (AddsSome self.old self.new
-            (flat_map (λ head. live_from graph.now.list head.1 head.0) heads.now)) }
+            (flat_map (λ head. live_from graph.now head.1 head.0) heads.now)) }
     {
         for (head, cutoff) in heads {
             self.mark_root(graph, maps, head, cutoff)?;

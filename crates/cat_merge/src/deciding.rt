@@ -92,7 +92,8 @@ pub(crate) fn decide(
     modes: &Modes,
     keys: Seq<ContentKey>,
 ) -> Result<Seq<Decided>, NoMemory>
-    ensures { IfOk result (λ list. list ≡ map (Decisions.decided_at base.now source.now target.now modes.now) keys) }
+    ensures { IfOk result
+        (λ list. list ≡ map (Decisions.decided_at base.now source.now target.now modes.now) keys) }
 {
     let mut out = Seq::new(alloc);
     for key in keys.into_vec() {

@@ -82,9 +82,15 @@ pub fn plan_merge(
 ) -> Result<Plan, NoMemory>
     ensures exact { IfOk result (λ p. planned p ≡ plan base.now source.now target.now modes.now) }
     ensures after { IfOk result (λ p. p.map ≡ after_changes p.ops target.now) }
-    ensures well_formed { IsTrue (is_well_formed target.now) → IfOk result (λ p. p.conflicts ≡ [] → IsTrue (is_well_formed p.map)) }
-    ensures set { (passes : Entry → Bool) → IsTrue (list_all (λ x. passes x.1) source.now) → IfOk result (λ p. IsTrue (list_all (λ x. passes x.1) (entries_set p.ops))) }
-    ensures entries { (passes : Entry → Bool) → IsTrue (list_all (λ x. passes x.1) source.now) → IsTrue (list_all (λ x. passes x.1) target.now) → IfOk result (λ p. IsTrue (list_all (λ x. passes x.1) p.map)) }
+    ensures well_formed { IsTrue (is_well_formed target.now)
+        → IfOk result (λ p. p.conflicts ≡ [] → IsTrue (is_well_formed p.map)) }
+    ensures set { (passes : Entry → Bool)
+        → IsTrue (list_all (λ x. passes x.1) source.now)
+        → IfOk result (λ p. IsTrue (list_all (λ x. passes x.1) (entries_set p.ops))) }
+    ensures entries { (passes : Entry → Bool)
+        → IsTrue (list_all (λ x. passes x.1) source.now)
+        → IsTrue (list_all (λ x. passes x.1) target.now)
+        → IfOk result (λ p. IsTrue (list_all (λ x. passes x.1) p.map)) }
 {
     target.known();
     let keys = base.changed(alloc, source)?;

@@ -40,11 +40,24 @@ pub fn plan_transplant(
     target: &KeyMap,
     modes: &Modes,
 ) -> Result<Vec<Plan>, NoMemory>
-    ensures exact { IfOk result (λ plans. map planned plans.items ≡ plan_each modes.now target.now (map step_of steps.now)) }
+    ensures exact { IfOk result
+        (λ plans. map planned plans.items
+        ≡ plan_each modes.now target.now (map step_of steps.now)) }
     ensures after { IfOk result (λ plans. AreUpon target.now plans.items) }
-    ensures well_formed { IsTrue (is_well_formed target.now) → IfOk result (λ plans. flat_map (λ p. p.conflicts) plans.items ≡ [] → IsTrue (list_all (λ p. is_well_formed p.map) plans.items)) }
-    ensures entries { (passes : Entry → Bool) → IsTrue (list_all (λ s. list_all (λ x. passes x.1) s.source) steps.now) → IsTrue (list_all (λ x. passes x.1) target.now) → IfOk result (λ plans. IsTrue (list_all (λ p. list_all (λ x. passes x.1) p.map) plans.items)) }
-    ensures set { (passes : Entry → Bool) → IsTrue (list_all (λ s. list_all (λ x. passes x.1) s.source) steps.now) → IfOk result (λ plans. IsTrue (list_all (λ p. list_all (λ x. passes x.1) (entries_set p.ops)) plans.items)) }
+    ensures well_formed { IsTrue (is_well_formed target.now)
+        → IfOk result
+        (λ plans. flat_map (λ p. p.conflicts) plans.items ≡ []
+        → IsTrue (list_all (λ p. is_well_formed p.map) plans.items)) }
+    ensures entries { (passes : Entry → Bool)
+        → IsTrue (list_all (λ s. list_all (λ x. passes x.1) s.source) steps.now)
+        → IsTrue (list_all (λ x. passes x.1) target.now)
+        → IfOk result
+        (λ plans. IsTrue (list_all (λ p. list_all (λ x. passes x.1) p.map) plans.items)) }
+    ensures set { (passes : Entry → Bool)
+        → IsTrue (list_all (λ s. list_all (λ x. passes x.1) s.source) steps.now)
+        → IfOk result
+        (λ plans. IsTrue
+        (list_all (λ p. list_all (λ x. passes x.1) (entries_set p.ops)) plans.items)) }
 {
     let mut plans = Vec::new(alloc);
     for step in steps {

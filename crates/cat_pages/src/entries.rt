@@ -40,10 +40,13 @@ pub fn entries_page(
     after: Option<&ContentKey>,
     limit: u32,
 ) -> Result<Page<(ContentKey, Entry)>, NoMemory>
-    ensures items { let left = entries_after (listing map.now filter.now) (option_map (λ key. key.now) after.entry) in
+    ensures items { let left = entries_after (listing map.now filter.now)
+        (option_map (λ key. key.now) after.entry) in
         IfOk result (λ page. page.items ≡ take limit left) }
-    ensures token { let left = entries_after (listing map.now filter.now) (option_map (λ key. key.now) after.entry) in
-        IfOk result (λ page. page.token ≡ option_map (λ x. Token.Entries at.now x.0) (last_shown limit left)) }
+    ensures token { let left = entries_after (listing map.now filter.now)
+        (option_map (λ key. key.now) after.entry) in
+        IfOk result
+        (λ page. page.token ≡ option_map (λ x. Token.Entries at.now x.0) (last_shown limit left)) }
 {
     let part = map.page(alloc, filter, after, limit)?;
     let token = following(at, &part)?;

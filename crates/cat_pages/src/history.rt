@@ -41,7 +41,8 @@ fn len_until(commits: &[(&Hash, &Commit)], until: &Option<Hash>) -> usize
 
 // The token of the commit behind so many, where there is one.
 fn following(commits: &[(&Hash, &Commit)], shown: usize) -> Option<Token>
-    ensures { result ≡ option_map (λ x. Token.History x.0) (first (drop shown (values commits.now))) }
+    ensures { result
+        ≡ option_map (λ x. Token.History x.0) (first (drop shown (values commits.now))) }
 {
     match commits.get(shown) {
         None => None,
@@ -58,10 +59,11 @@ pub fn history_page<'a>(
     until: &Option<Hash>,
     limit: u32,
 ) -> Result<Page<(&'a Hash, &'a Commit)>, NoMemory>
-    ensures items { let left = history graph.now.list from.now until.now in
+    ensures items { let left = history graph.now from.now until.now in
         IfOk result (λ page. values page.items ≡ take limit left) }
-    ensures token { let left = history graph.now.list from.now until.now in
-        IfOk result (λ page. page.token ≡ option_map (λ x. Token.History x.0) (first (drop limit left))) }
+    ensures token { let left = history graph.now from.now until.now in
+        IfOk result
+        (λ page. page.token ≡ option_map (λ x. Token.History x.0) (first (drop limit left))) }
 {
     let shown = limit as usize;
     let mut commits = graph.chain(alloc, from, shown + 1)?;

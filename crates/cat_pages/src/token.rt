@@ -94,8 +94,10 @@ fn known(bytes: [u8; 32])
 
 // `e.`, the hash's digits, a dot and the path form of the key.
 fn entries_text(alloc: Global, hash: &Hash, key: &ContentKey) -> Result<String, NoMemory>
-    ensures text { IfOk result (λ text. string_bytes text ≡ token_text (Token.Entries hash.now key.now)) }
-    ensures reads_again { IfOk result (λ text. token_of (string_bytes text) ≡ Some (Token.Entries hash.now key.now)) }
+    ensures text { IfOk result
+        (λ text. string_bytes text ≡ token_text (Token.Entries hash.now key.now)) }
+    ensures reads_again { IfOk result
+        (λ text. token_of (string_bytes text) ≡ Some (Token.Entries hash.now key.now)) }
 {
     known(hash.bytes);
     let mut text = String::from_str(alloc, "e.")?;
@@ -108,7 +110,8 @@ fn entries_text(alloc: Global, hash: &Hash, key: &ContentKey) -> Result<String, 
 // `h.` and the hash's digits.
 fn history_text(alloc: Global, hash: &Hash) -> Result<String, NoMemory>
     ensures text { IfOk result (λ text. string_bytes text ≡ token_text (Token.History hash.now)) }
-    ensures reads_again { IfOk result (λ text. token_of (string_bytes text) ≡ Some (Token.History hash.now)) }
+    ensures reads_again { IfOk result
+        (λ text. token_of (string_bytes text) ≡ Some (Token.History hash.now)) }
 {
     known(hash.bytes);
     let mut text = String::from_str(alloc, "h.")?;
@@ -118,8 +121,10 @@ fn history_text(alloc: Global, hash: &Hash) -> Result<String, NoMemory>
 
 // `r.` and the name.
 fn references_text(alloc: Global, name: &RefName) -> Result<String, NoMemory>
-    ensures text { IfOk result (λ text. string_bytes text ≡ token_text (Token.References name.now)) }
-    ensures reads_again { IfOk result (λ text. token_of (string_bytes text) ≡ Some (Token.References name.now)) }
+    ensures text { IfOk result
+        (λ text. string_bytes text ≡ token_text (Token.References name.now)) }
+    ensures reads_again { IfOk result
+        (λ text. token_of (string_bytes text) ≡ Some (Token.References name.now)) }
 {
     name.known();
     let mut text = String::from_str(alloc, "r.")?;

@@ -35,7 +35,11 @@ fn note_deleted(
     op: &Op,
     found: &Option<Entry>,
 ) -> Result<(), NoMemory>
-    ensures { OnOk result ((name : ContentName) → list_any (Rules.same_name name) gone.new.keys ≡ (list_any (Rules.same_name name) gone.old.keys || Rules.is_deleted name op.now found.now)) }
+    ensures { OnOk result
+        ((name : ContentName)
+        → list_any (Rules.same_name name) gone.new.keys
+        ≡ (list_any (Rules.same_name name) gone.old.keys || Rules.is_deleted name op.now
+        found.now)) }
 {
     match (op, found) {
         (Op::Delete { .. }, Some(entry)) => {
@@ -52,7 +56,10 @@ pub(crate) fn deleted(
     head: &KeyMap,
     ops: &[Op],
 ) -> Result<HashSet<ContentName>, NoMemory>
-    ensures { IfOk result (λ gone. (name : ContentName) → list_any (Rules.same_name name) gone.keys ≡ list_any (Rules.deletes head.now name) ops.now) }
+    ensures { IfOk result
+        (λ gone. (name : ContentName)
+        → list_any (Rules.same_name name) gone.keys
+        ≡ list_any (Rules.deletes head.now name) ops.now) }
 {
     let mut gone = HashSet::new(alloc);
     for op in ops {

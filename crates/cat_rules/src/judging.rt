@@ -150,7 +150,9 @@ fn conflicts(
     gone: &HashSet<ContentName>,
     sorted: &[&Op],
 ) -> Result<Seq<Conflict>, NoMemory>
-    ensures { IfOk result (λ list. list ≡ Rules.conflicts expected.now head.now after.now gone.now.keys (values sorted.now)) }
+    ensures { IfOk result
+        (λ list. list
+        ≡ Rules.conflicts expected.now head.now after.now gone.now.keys (values sorted.now)) }
 {
     let mut out = Seq::new(alloc);
     for op in sorted {
@@ -182,7 +184,8 @@ pub fn judge(
     ops: &[Op],
 ) -> Result<Judged, NoMemory>
     requires { IsTrue (are_distinct ops.now) }
-    ensures exact { IfOk result (λ judged. Rules.verdict judged ≡ Judge.judge expected.now head.now ops.now) }
+    ensures exact { IfOk result
+        (λ judged. Rules.verdict judged ≡ Judge.judge expected.now head.now ops.now) }
     ensures well_formed { IsTrue (is_well_formed head.now) → IfOk result Rules.GivesWellFormed }
 {
     let sorted = in_order(alloc, ops)?;

@@ -33,8 +33,8 @@ module _ {V : Type 0} where
 
 -- ---- contents and commits
 
-pub content_over : (more base : List (Hash × Content)) (hash : Hash) → content_at (more ++ base) hash ≡ option_or (content_at more hash) (content_at base hash)
-content_over more base hash = sym (value_is_found (more ++ base) hash) ∙ value_over more base hash ∙ rw (value_is_found more hash, value_is_found base hash) refl
+pub content_over : (more base : List (Hash × Content)) (hash : Hash) → content_at (more ++ base) hash ≡ option_or (value_of more hash) (content_at base hash)
+content_over more base hash = sym (value_is_found (more ++ base) hash) ∙ value_over more base hash ∙ ap (option_or (value_of more hash)) (value_is_found base hash)
 
 commit_is : (commits : Commits) (hash : Hash) → commit_of commits hash ≡ value_of commits hash
 commit_is commits hash = value_is_only commit_of (λ h. refl) (λ x older h. refl) commits hash

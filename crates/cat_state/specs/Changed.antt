@@ -1,26 +1,17 @@
--- Tables that take a change: the room that they have for it, and what is new to them.
-use Rattle.std.specs.Prelude.{◌≡◌, ◌<◌, ◌≤◌, List, ◌++◌, None, length, IsTrue}
+-- Tables that take a change: what is new to them.
+use Rattle.std.specs.Prelude.{◌≡◌, List, ◌++◌, None, IsTrue}
 use Rattle.cat_names.specs.declared.hash.Hash.{Hash}
 use Rattle.cat_graph.specs.Linked.{AreLinked}
-use Rattle.cat_model.specs.declared.commit.Commit.{Commit}
 use Rattle.cat_model.specs.declared.content.Content.{Content}
 use Rattle.cat_model.specs.declared.reference.Reference.{Reference}
 use Rattle.cat_model.specs.Chain.{Commits}
 use Rattle.cat_model.specs.Maps.{Map}
 use Rattle.cat_model.specs.State.{reference_of}
-use Rattle.cat_tables.specs.References.{Listed}
-use Rattle.cat_tables.specs.Tables.{Recorded, are_distinct}
+use Rattle.cat_tables.specs.Tables.{are_distinct}
 use Rattle.cat_state.specs.declared.additions.Additions.{Additions}
 use Rattle.cat_state.specs.declared.change.Change.{Change}
 use Rattle.cat_state.specs.declared.change.ReferenceChange.{ReferenceChange}
 use Rattle.cat_state.specs.declared.change.ReferenceChange.TheVariants.{Made, Moved, Removed}
-
--- room for one reference more, and for what is added
-pub record HaveRoom (references : Listed) (contents : Recorded Content) (commits : Recorded Commit) (maps : Recorded Map) (a : Additions) : Type 0 where
-  pub for_reference : 0 < references.spare
-  pub for_contents : length a.contents.list ≤ contents.spare
-  pub for_commits : length a.commits.list ≤ commits.spare
-  pub for_maps : length a.maps.list ≤ maps.spare
 
 -- a reference that is made has a new name
 abbrev pub HasNewName : List Reference → ReferenceChange → Type 0

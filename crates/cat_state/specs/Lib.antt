@@ -10,5 +10,4 @@ pub mod Kept
 pub mod HeldLaws
 pub mod Planning
 pub mod Views
-pub mod Sharing
 pub mod Counting

@@ -4,19 +4,19 @@ ghost use Rattle.std.specs.Prelude.{◌≡◌};
 ghost use Rattle.cat_state.specs.Changing.{AreNewTo, with_additions};
 
 use crate::catalogue::Catalogue;
-use cat_keymap::maps::Maps;
+use cat_keymap::key_map::KeyMap;
 use cat_model::commit::Commit;
 use cat_model::content::Content;
-use cat_tables::table::Table;
+use cat_tables::batch::Batch;
 use std::alloc::Global;
 
 /// Contents and commits that a call adds, each under the hash of its bytes, with the map at each
 /// commit. The catalogue has none of these hashes yet.
 #[derive(Drop)]
 pub struct Additions {
-    pub(crate) contents: Table<Content>,
-    pub(crate) commits: Table<Commit>,
-    pub(crate) maps: Maps,
+    pub(crate) contents: Batch<Content>,
+    pub(crate) commits: Batch<Commit>,
+    pub(crate) maps: Batch<KeyMap>,
 }
 
 impl Catalogue {
@@ -28,9 +28,9 @@ impl Catalogue {
         self.commits().known();
         self.contents().known();
         Additions {
-            contents: Table::new(alloc),
-            commits: Table::new(alloc),
-            maps: Maps::new(alloc),
+            contents: Batch::new(alloc),
+            commits: Batch::new(alloc),
+            maps: Batch::new(alloc),
         }
     }
 }

@@ -26,7 +26,8 @@ use cat_tables::table::Table;
 use std::alloc::{AllocError, Global};
 use std::marker::Model;
 
-/// A catalogue in memory, at one place of its log.
+/// A catalogue in memory, at one place of its log. It is never changed: the one after a change shares
+/// with it all that the change doesn't meet.
 #[derive(Drop)]
 pub struct Catalogue {
     pub(crate) place: u32,
@@ -46,14 +47,13 @@ impl Model for Catalogue {
 
     ghost view = { λ c. record {
       place = c.place;
-      references = c.references.list;
-      commits = c.commits.list;
-      present = c.contents.list;
+      references = c.references;
+      commits = c.commits;
+      present = c.contents;
       limits = c.limits;
     } };
 
-    ghost invariant = { λ c. IsCatalogue c.limits c.references.list c.commits.list c.maps.list
-        c.contents.list };
+    ghost invariant = { λ c. IsCatalogue c.limits c.references c.commits c.maps c.contents };
 }
 
 impl Catalogue {
@@ -63,16 +63,14 @@ impl Catalogue {
         requires commits { limits.commits ≤ 4294967295 }
         ensures { IfOk result (λ catalogue. catalogue ≡ first_state sha256 limits) }
     {
-        let mut references = References::new(alloc);
-        references.reserve(1)?;
-        references.insert(Reference {
+        let main = Reference {
             name: RefName::main(alloc)?,
             kind: Kind::Branch,
             head: Hash::none(),
-        });
+        };
         Ok(Catalogue {
             place: 0,
-            references,
+            references: References::new(alloc).with(alloc, main)?,
             commits: Graph::new(alloc),
             maps: Maps::new(alloc),
             contents: Table::new(alloc),
@@ -145,7 +143,7 @@ impl Catalogue {
 
     /// Its references, in the order of their names.
     pub fn references(&self) -> &References
-        ensures list { result.now.list ≡ self.now.references }
+        ensures list { result.now ≡ self.now.references }
         ensures heads { IsTrue (heads_pass (is_known self.now.commits) self.now.references) }
     {
         &self.references
@@ -153,7 +151,7 @@ impl Catalogue {
 
     /// Its commits under their hashes.
     pub fn commits(&self) -> &Graph
-        ensures list { result.now.list ≡ self.now.commits }
+        ensures list { result.now ≡ self.now.commits }
         ensures linked { AreLinked self.now.commits }
     {
         self.commits.known();
@@ -161,15 +159,15 @@ impl Catalogue {
     }
 
     pub(crate) fn maps(&self) -> &Maps
-        ensures kept { AreKept result.now.list self.now.commits }
-        ensures held { IsTrue (have_contents self.now.present result.now.list) }
+        ensures kept { AreKept result.now self.now.commits }
+        ensures held { IsTrue (have_contents self.now.present result.now) }
     {
         &self.maps
     }
 
     /// Its contents under their hashes.
     pub fn contents(&self) -> &Table<Content>
-        ensures { result.now.list ≡ self.now.present }
+        ensures { result.now ≡ self.now.present }
     {
         &self.contents
     }

@@ -7,9 +7,9 @@ ghost use Rattle.cat_state.specs.Counting.{main_head};
 
 use crate::catalogue::Catalogue;
 use cat_model::entry::Entry;
-use cat_model::reference::Reference;
 use cat_names::hash::Hash;
 use cat_names::key::ContentKey;
+use cat_tables::references::References;
 
 /// How much a catalogue holds.
 #[derive(Clone, Copy)]
@@ -25,10 +25,11 @@ pub struct Counts {
     pub head: Hash,
 }
 
-fn main_head(references: &[Reference]) -> Hash
+fn main_head(references: &References) -> Hash
     ensures { result ≡ main_head references.now }
 {
-    for reference in references {
+    let mut rest = references.walk();
+    while let Some(reference) = rest.next() {
         if reference.name.as_str() == "main" {
             return reference.head;
         }
@@ -41,7 +42,7 @@ impl Catalogue {
     pub fn main_head(&self) -> Hash
         ensures { result ≡ main_head self.now.references }
     {
-        main_head(self.references().as_slice())
+        main_head(self.references())
     }
 
     fn keys_at(&self, hash: &Hash) -> usize

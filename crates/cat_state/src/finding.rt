@@ -1,7 +1,7 @@
 //! What is found among additions to a catalogue, or else in the catalogue.
 
 ghost use Rattle.std.specs.Prelude.{◌≡◌, ◌≤◌, None, Some, false, IfOk, IsTrue, is_none, length};
-ghost use Rattle.std.specs.Option.{option_map};
+ghost use Rattle.std.specs.Option.{option_copied, option_map};
 ghost use Rattle.sha2.specs.Sha256.{sha256};
 ghost use Rattle.cat_model.specs.declared.commit.Commit.{Commit};
 ghost use Rattle.cat_model.specs.Chain.{commit_of, generation};
@@ -14,16 +14,28 @@ ghost use Rattle.cat_state.specs.Changing.{AreNewTo, with_additions};
 
 use crate::additions::Additions;
 use crate::catalogue::Catalogue;
-use crate::contents::content_bytes;
+use crate::contents::find_content;
 use cat_codes::fault::NoMemory;
 use cat_codes::field::to_bytes;
 use cat_model::commit::Commit;
+use cat_model::content::Content;
 use cat_names::hash::Hash;
 use std::alloc::Global;
 
 impl Catalogue {
-    /// The bytes under a hash as a content's.
+    /// The content of a hash.
     #[tactic(auto, using(crate::proofs::Over::content_over))]
+    fn find_content<'a>(&'a self, more: &'a Additions, hash: &Hash) -> Option<&'a Content>
+        ensures { option_copied result
+            ≡ content_at (with_additions self.now more.now).present hash.now }
+    {
+        match more.contents.get(hash) {
+            None => find_content(self.contents(), hash),
+            Some(content) => Some(content),
+        }
+    }
+
+    /// The bytes under a hash as a content's.
     pub(crate) fn content_bytes_with(
         &self,
         alloc: Global,
@@ -35,10 +47,10 @@ impl Catalogue {
             ≡ option_map (λ c. (content_code).spell c)
             (content_at (with_additions self.now more.now).present hash.now)) }
     {
-        if let Some(bytes) = content_bytes(alloc, &more.contents, hash)? {
-            return Ok(Some(bytes));
+        match self.find_content(more, hash) {
+            None => Ok(None),
+            Some(content) => Ok(Some(to_bytes(alloc, content)?)),
         }
-        content_bytes(alloc, self.contents(), hash)
     }
 
     /// The commit of a hash.

@@ -1,22 +1,28 @@
 //! A catalogue that views share.
 
-ghost use Rattle.std.specs.Prelude.{◌≡◌, ◌≤◌, IfOk};
-ghost use Rattle.std.specs.Borrow.{sem};
+ghost use Rattle.std.specs.Prelude.{◌≡◌, ◌≤◌, ◌<◌, ◌+◌, ◌∷◌, [], None, IfErr, IfOk, IsTrue, OnErr, OnOk};
 ghost use Rattle.sha2.specs.Sha256.{sha256};
-ghost use Rattle.cat_state.specs.Views.{catalogue_in};
-ghost use Rattle.cat_state.specs.Sharing.{LendsAlone};
+ghost use Rattle.cat_frames.specs.Entries.{is_logged};
 ghost use Rattle.cat_model.specs.State.{first_state};
+ghost use Rattle.cat_state.specs.Changing.{MayBeMade, applied};
+ghost use Rattle.cat_state.specs.Kept.{IsUnrefused, Keeps};
+ghost use Rattle.cat_state.specs.Views.{catalogue_in};
 
 use crate::catalogue::Catalogue;
+use crate::change::Change;
+use crate::keeping::append;
+use crate::unmade::Unmade;
 use crate::view::View;
 use cat_codes::fault::NoMemory;
+use cat_keeper::Keeper;
 use cat_model::limits::Limits;
+use cat_model::log_entry::LogEntry;
 use std::alloc::Global;
 use std::marker::Model;
 use std::sync::Arc;
 
-/// A catalogue that views may share. It is changed alone: while a view holds it, a copy takes its
-/// place, and the view's stays as it is.
+/// A catalogue that views may share. A change puts another in its place, and a view's stays as it
+/// is.
 #[derive(Drop)]
 pub struct SharedCatalogue {
     catalogue: Arc<Catalogue>,
@@ -36,18 +42,6 @@ fn sharing(alloc: Global, catalogue: Catalogue) -> Result<Arc<Catalogue>, NoMemo
     ensures { IfOk result (λ shared. catalogue_in shared ≡ catalogue) }
 {
     Ok(Arc::new(alloc, catalogue)?)
-}
-
-/// Puts a copy in its place while a view holds it.
-fn part(alloc: Global, shared: &mut Arc<Catalogue>) -> Result<(), NoMemory>
-    ensures { catalogue_in shared.new ≡ catalogue_in shared.old }
-{
-    if Arc::strong_count(shared) == 1 {
-        return Ok(());
-    }
-    let copy = shared.copy(alloc)?;
-    *shared = sharing(alloc, copy)?;
-    Ok(())
 }
 
 impl SharedCatalogue {
@@ -78,31 +72,50 @@ impl SharedCatalogue {
         Ok(View::new(shared))
     }
 
-    /// Sees to it that no view holds it.
-    fn part(&mut self, alloc: Global) -> Result<(), NoMemory>
-        ensures { self.new ≡ self.old }
+    /// The catalogue after a change, in memory that can be shared.
+    fn next(&self, alloc: Global, change: Change) -> Result<Arc<Catalogue>, NoMemory>
+        requires { MayBeMade self.now change }
+        ensures { IfOk result (λ next. catalogue_in next ≡ applied self.now change) }
     {
-        part(alloc, &mut self.catalogue)
+        let next = self.get().after(alloc, change)?;
+        sharing(alloc, next)
     }
 
-    /// The catalogue that no view holds.
-    fn sole(&mut self) -> Result<&mut Catalogue, NoMemory>
-        ensures* writes_back { sem 𝓛 (LendsAlone self.entry result) }
-        ensures value { IfOk result (λ catalogue. catalogue.now ≡ self.old) }
+    /// Makes the catalogue after a change, has the keeper keep the entry of the change, and then puts
+    /// the new catalogue in the place of the old one, which can't fail and takes no memory; or changes
+    /// nothing. Views keep the old one.
+    pub fn make<K: Keeper>(
+        &mut self,
+        alloc: Global,
+        keeper: &mut K,
+        entry: &LogEntry,
+        change: Change,
+    ) -> Result<(), Unmade>
+        requires may { MayBeMade self.old change }
+        requires logged { IsTrue (is_logged sha256 entry.now) }
+        requires up { K.down keeper.old ≡ None }
+        requires few { K.kept keeper.old < 4294967295 }
+        ensures ok { OnOk result (self.new ≡ applied self.old change) }
+        ensures err { OnErr result (self.new ≡ self.old) }
+        ensures unrefused { IfErr result IsUnrefused }
+        ensures more { OnOk result (K.kept keeper.new ≡ K.kept keeper.old + 1) }
+        ensures as_many { OnErr result (K.kept keeper.new ≡ K.kept keeper.old) }
+        ensures keeps { Keeps K.Keeper keeper.old keeper.new (entry.now ∷ []) result }
     {
-        match Arc::get_mut(&mut self.catalogue) {
-            Some(catalogue) => Ok(catalogue),
-            None => Err(NoMemory),
-        }
+        let next = self.next(alloc, change)?;
+        append(alloc, keeper, entry)?;
+        self.catalogue = next;
+        Ok(())
     }
 
-    /// The catalogue, to be changed: views that hold it keep it as it is. A change takes it once,
-    /// before its first write, so that no memory is wanted for it later.
-    pub fn alone(&mut self, alloc: Global) -> Result<&mut Catalogue, NoMemory>
-        ensures* writes_back { sem 𝓛 (LendsAlone self.entry result) }
-        ensures value { IfOk result (λ catalogue. catalogue.now ≡ self.old) }
+    /// Puts the catalogue after a change in the place of the old one; or changes nothing. Views keep
+    /// the old one.
+    pub fn apply(&mut self, alloc: Global, change: Change) -> Result<(), NoMemory>
+        requires { MayBeMade self.old change }
+        ensures ok { OnOk result (self.new ≡ applied self.old change) }
+        ensures err { OnErr result (self.new ≡ self.old) }
     {
-        self.part(alloc)?;
-        self.sole()
+        self.catalogue = self.next(alloc, change)?;
+        Ok(())
     }
 }

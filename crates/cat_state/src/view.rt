@@ -7,8 +7,7 @@ use crate::catalogue::Catalogue;
 use std::marker::Model;
 use std::sync::Arc;
 
-/// The catalogue at a place of its log. It stays as it is: a change is made on a copy while a view
-/// holds it.
+/// The catalogue at a place of its log. It stays as it is: a change puts another in its place.
 #[derive(Drop)]
 pub struct View {
     catalogue: Arc<Catalogue>,

@@ -10,7 +10,7 @@ use Rattle.cat_tables.specs.Tables.{same_hash, value_of, are_distinct, place_of,
 
 -- ---- hashes
 
-same_is : (a b : Hash) → same_hash a b ≡ true → a ≡ b
+pub same_is : (a b : Hash) → same_hash a b ≡ true → a ≡ b
 same_is a b e = ap (λ (bytes : List ℕ). record { bytes = bytes }) ((bytes_decides a.bytes b.bytes).0 e)
 
 parts : (b c : Bool) → (b && c) ≡ true → (b ≡ true) × (c ≡ true)

@@ -1,3 +1,5 @@
+pub mod Arrivals
+pub mod HashOrder
 pub mod LookUps
 pub mod ReferenceLaws
 pub mod References

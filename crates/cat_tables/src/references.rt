@@ -1,218 +1,181 @@
 //! Named references, by ascending names.
 
-ghost use Rattle.std.specs.Prelude.{◌≡◌, ◌≤◌, ◌<◌, ◌+◌, [], None, Some, IsTrue, IsOk, IfOk, IfSome, IfNone, OnOk, length, drop};
+ghost use Rattle.std.specs.Prelude.{◌≡◌, [], None, IfOk, IsTrue, drop, length};
 ghost use Rattle.std.specs.Option.{option_copied, option_map};
 ghost use Rattle.cat_model.specs.Pages.{references_after};
 ghost use Rattle.cat_model.specs.State.{moved_reference, reference_of, with_reference, without_reference};
-ghost use Rattle.cat_tables.specs.References.{names_ascend, place_of};
-ghost use Rattle.cat_tables.specs.References as order;
+ghost use Rattle.cat_ordered.specs.Maps.{first_of};
+ghost use Rattle.cat_tables.specs.References.{names_ascend};
 
 use cat_codes::fault::NoMemory;
 use cat_model::reference::Reference;
 use cat_names::ref_name::RefName;
+use cat_ordered::change::Change;
+use cat_ordered::ordered_map::OrderedMap;
+use cat_ordered::walk::Walk;
 use std::alloc::{AllocError, Global};
 use std::marker::Model;
 
-/// References by ascending names. Contracts see the list, and how many more can be inserted
-/// without memory.
+/// References by ascending names. A change makes new ones, which share with these all but the path
+/// to the reference that it meets. Contracts see the list.
 #[derive(Drop)]
 pub struct References {
-    items: Vec<Reference>,
+    named: OrderedMap<RefName, Reference>,
 }
 
 impl Model for References {
-    ghost use Rattle.std.specs.Prelude.{◌-◌, IsTrue};
-    ghost use Rattle.std.specs.Vec.{vec_capacity, vec_len};
-    ghost use Rattle.cat_tables.specs.References.{Listed, names_ascend};
+    ghost use Rattle.std.specs.Prelude.{List, map};
+    ghost use Rattle.cat_model.specs.declared.reference.Reference.{Reference};
+    ghost use Rattle.cat_tables.specs.References.{AreNamed};
 
-    ghost Value = { Listed };
+    ghost Value = { List Reference };
 
-    ghost view = { λ r. record { list = r.items.items; spare = vec_capacity r.items - vec_len r.items } };
+    ghost view = { λ r. map (λ x. x.1) r.named };
 
-    ghost invariant = { λ r. IsTrue (names_ascend r.items.items) };
+    ghost invariant = { λ r. AreNamed r.named };
+}
+
+impl Clone for References {
+    ghost is_clone = { λ a b. b ≡ a };
+
+    /// The same references, which share their memory. It takes memory for one list of owners: one
+    /// for each 4,096 to 262,144 references.
+    fn clone(&self) -> Result<References, AllocError> {
+        Ok(References {
+            named: self.named.clone()?,
+        })
+    }
+}
+
+/// A walk over references, names ascending. It is seen as the list of those that are still to
+/// come, and takes no memory.
+#[derive(Drop)]
+pub struct ReferenceWalk<'a> {
+    rest: Walk<'a, RefName, Reference>,
+}
+
+impl<'a> Model for ReferenceWalk<'a> {
+    ghost use Rattle.std.specs.Prelude.{List, map};
+    ghost use Rattle.cat_model.specs.declared.reference.Reference.{Reference};
+
+    ghost Value = { List Reference };
+
+    ghost view = { λ w. map (λ x. x.1) w.rest };
+}
+
+impl<'a> ReferenceWalk<'a> {
+    /// The next reference, past which the walk goes.
+    pub fn next(&mut self) -> Option<&'a Reference>
+        ensures found { option_copied result ≡ first_of self.old }
+        ensures left { self.new ≡ drop 1 self.old }
+    {
+        match self.rest.next() {
+            None => None,
+            Some(pair) => Some(pair.value()),
+        }
+    }
 }
 
 impl References {
-    /// No references.
+    /// No references. It takes no memory.
     pub fn new(alloc: Global) -> References
-        ensures { result.list ≡ [] }
+        ensures { result ≡ [] }
     {
         References {
-            items: Vec::new(alloc),
+            named: OrderedMap::new(alloc),
         }
     }
 
     /// What holds of all references: names ascend, each once.
     pub fn known(&self)
-        ensures { IsTrue (names_ascend self.now.list) }
+        ensures { IsTrue (names_ascend self.now) }
     {
-        let _ = &self.items;
-    }
-
-    /// A copy of them.
-    pub fn copy(&self, alloc: Global) -> Result<References, NoMemory>
-        ensures { IfOk result (λ copy. copy.list ≡ self.now.list) }
-    {
-        Ok(References {
-            items: copies(alloc, self.items.as_slice())?,
-        })
+        self.named.known();
     }
 
     /// How many references there are.
     pub fn len(&self) -> usize
-        ensures { result ≡ length self.now.list }
+        ensures { result ≡ length self.now }
     {
-        self.items.len()
-    }
-
-    /// The references, names ascending.
-    pub fn as_slice(&self) -> &[Reference]
-        ensures { result.now ≡ self.now.list }
-    {
-        self.items.as_slice()
+        self.named.len()
     }
 
     /// The reference of a name.
     pub fn get(&self, name: &RefName) -> Option<&Reference>
-        ensures { option_copied result ≡ reference_of self.now.list name.now }
+        ensures { option_copied result ≡ reference_of self.now name.now }
     {
-        match position(self.items.as_slice(), name) {
-            None => None,
-            Some(at) => Some(&self.items[at]),
+        self.named.get(name)
+    }
+
+    /// A walk over all references, names ascending.
+    pub fn walk(&self) -> ReferenceWalk<'_>
+        ensures { result ≡ self.now }
+    {
+        ReferenceWalk {
+            rest: self.named.walk(),
         }
     }
 
-    /// The references whose names are above this one, or all.
-    pub fn after(&self, name: Option<&RefName>) -> &[Reference]
-        ensures { result.now ≡ references_after self.now.list (option_map (λ n. n.now) name.entry) }
+    /// A walk over the references whose names are above this one.
+    fn walk_above(&self, name: &RefName) -> ReferenceWalk<'_>
+        ensures { result ≡ references_after self.now (Some name.now) }
+    {
+        self.known();
+        let mut rest = self.named.walk_from(name);
+        if let Some(pair) = rest.peek() {
+            if *pair.key() == *name {
+                let _ = rest.next();
+            }
+        }
+        ReferenceWalk { rest }
+    }
+
+    /// A walk over the references whose names are above this one, or over all.
+    pub fn walk_after(&self, name: Option<&RefName>) -> ReferenceWalk<'_>
+        ensures { result ≡ references_after self.now (option_map (λ n. n.now) name.entry) }
     {
         match name {
-            None => self.items.as_slice(),
-            Some(name) => above(self.items.as_slice(), name),
+            None => self.walk(),
+            Some(name) => self.walk_above(name),
         }
     }
 
-    /// Makes room, so that this many more can be inserted.
-    pub fn reserve(&mut self, more: usize) -> Result<(), NoMemory>
-        ensures list { self.new.list ≡ self.old.list }
-        ensures ok { OnOk result (more ≤ self.new.spare) }
-        ensures succeeds { more ≤ self.old.spare → IsOk result }
-        ensures spare { self.old.spare ≤ self.new.spare }
+    /// The references with one more, of a name that is not there.
+    pub fn with(&self, alloc: Global, reference: Reference) -> Result<References, NoMemory>
+        requires { reference_of self.now reference.name ≡ None }
+        ensures { IfOk result (λ made. made ≡ with_reference self.now reference) }
     {
-        self.items.try_reserve(more)?;
-        Ok(())
+        let name = reference.name.clone()?;
+        let change = Change::put(alloc, name, reference)?;
+        Ok(References {
+            named: self.named.with_changes(alloc, &[change])?,
+        })
     }
 
-    /// Adds a reference of a name that is not there, into room that was made before.
-    pub fn insert(&mut self, reference: Reference)
-        requires room { 0 < self.old.spare }
-        requires absent { reference_of self.old.list reference.name ≡ None }
-        ensures list { self.new.list ≡ with_reference self.old.list reference }
-        ensures spare { self.old.spare ≤ self.new.spare + 1 }
+    /// The references with the one of this name set to it, if there is one.
+    pub fn with_moved(&self, alloc: Global, moved: Reference) -> Result<References, NoMemory>
+        ensures { IfOk result (λ made. made ≡ moved_reference self.now moved) }
     {
-        let at = place(self.items.as_slice(), &reference.name);
-        let Ok(()) = self.items.insert(at, reference) else {
-            unreachable!()
-        };
-    }
-
-    /// Sets the kind and the head of the reference of the same name, if there is one.
-    pub fn set(&mut self, moved: &Reference)
-        ensures list { self.new.list ≡ moved_reference self.old.list moved.now }
-        ensures spare { self.new.spare ≡ self.old.spare }
-    {
-        if let Some(at) = position(self.items.as_slice(), &moved.name) {
-            take_over(&mut self.items[at], moved);
+        self.known();
+        if self.get(&moved.name).is_none() {
+            return Ok(self.clone()?);
         }
+        let name = moved.name.clone()?;
+        let change = Change::put(alloc, name, moved)?;
+        Ok(References {
+            named: self.named.with_changes(alloc, &[change])?,
+        })
     }
 
-    /// Takes the reference of a name away, if there is one.
-    pub fn remove(&mut self, name: &RefName)
-        ensures list { self.new.list ≡ without_reference self.old.list name.now }
-        ensures spare { self.old.spare ≤ self.new.spare }
+    /// The references without the one of a name, if there is one.
+    pub fn without(&self, alloc: Global, name: &RefName) -> Result<References, NoMemory>
+        ensures { IfOk result (λ made. made ≡ without_reference self.now name.now) }
     {
-        if let Some(at) = position(self.items.as_slice(), name) {
-            self.items.remove(at);
-        }
+        self.known();
+        let name = name.clone()?;
+        let change = Change::remove(alloc, name)?;
+        Ok(References {
+            named: self.named.with_changes(alloc, &[change])?,
+        })
     }
-}
-
-fn copy_reference(reference: &Reference) -> Result<Reference, AllocError>
-    ensures { IfOk result (λ copy. copy ≡ reference.now) }
-{
-    reference.clone()
-}
-
-fn copies(alloc: Global, references: &[Reference]) -> Result<Vec<Reference>, NoMemory>
-    ensures { IfOk result (λ copies. copies.items ≡ references.now) }
-{
-    let mut copies = Vec::new(alloc);
-    copies.try_reserve(references.len())?;
-    for reference in references {
-        copies.push(copy_reference(reference)?)?;
-    }
-    Ok(copies)
-}
-
-/// Sets a reference to this one of its name.
-fn take_over(reference: &mut Reference, moved: &Reference)
-    requires { reference.old.name ≡ moved.now.name }
-    ensures { reference.new ≡ moved.now }
-{
-    reference.kind = moved.kind;
-    reference.head = moved.head;
-}
-
-fn is_below(reference: &Reference, name: &RefName) -> bool
-    ensures { result ≡ order.is_below reference.now.name name.now }
-{
-    reference.name.cmp(name).is_lt()
-}
-
-fn is_above(reference: &Reference, name: &RefName) -> bool
-    ensures { result ≡ order.is_below name.now reference.now.name }
-{
-    name.cmp(&reference.name).is_lt()
-}
-
-/// How many names are below this one.
-fn place(references: &[Reference], name: &RefName) -> usize
-    requires { IsTrue (names_ascend references.now) }
-    ensures place { result ≡ place_of references.now name.now }
-    ensures bound { result ≤ length references.now }
-{
-    references.partition_point(|reference| is_below(reference, name))
-}
-
-/// Where the reference of a name stands.
-fn position(references: &[Reference], name: &RefName) -> Option<usize>
-    requires { IsTrue (names_ascend references.now) }
-    ensures there { IfSome result (λ i. order.IsAt references.now name.now i) }
-    ensures absent { IfNone result (reference_of references.now name.now ≡ None) }
-{
-    let at = place(references, name);
-    if at >= references.len() {
-        return None;
-    }
-    if references[at].name == *name {
-        Some(at)
-    } else {
-        None
-    }
-}
-
-/// The references whose names are above this one.
-fn above<'a>(references: &'a [Reference], name: &RefName) -> &'a [Reference]
-    requires { IsTrue (names_ascend references.now) }
-    ensures { result.now ≡ references_after references.now (Some name.now) }
-{
-    let at = references.partition_point(|reference| !is_above(reference, name));
-    rest_of(references, at)
-}
-
-fn rest_of(references: &[Reference], at: usize) -> &[Reference]
-    requires { at ≤ length references.now }
-    ensures { result.now ≡ drop at references.now }
-{
-    &references[at..]
 }

@@ -1,153 +1,111 @@
-//! Values under distinct hashes.
+//! Tables whose versions share their values.
 
-ghost use Rattle.std.specs.Prelude.{◌≡◌, ◌≤◌, ◌<◌, ◌+◌, ◌-◌, [], ◌∷◌, ◌++◌, None, IsTrue, IsOk, is_some, OnOk, OnErr, length, reverse, drop};
+ghost use Rattle.std.specs.Prelude.{◌≡◌, [], ◌∷◌, ◌++◌, None, IfOk, IsTrue, length};
 ghost use Rattle.std.specs.Option.{option_map};
-ghost use Rattle.cat_tables.specs.Tables.{are_distinct, value_of, with_value};
+ghost use Rattle.cat_tables.specs.Tables.{are_distinct, value_of};
 
+use crate::batch::Batch;
 use cat_codes::fault::NoMemory;
 use cat_names::hash::Hash;
-use std::alloc::Global;
-use std::collections::HashMap;
+use cat_ordered::change::Change;
+use cat_ordered::ordered_map::OrderedMap;
+use std::alloc::{AllocError, Global};
 use std::marker::Model;
 
-/// Values under distinct hashes. Contracts see the list, the newest first, and how many more can
-/// be pushed without memory.
+/// A value, and how many were added before it.
 #[derive(Drop)]
-pub struct Table<V> {
-    items: Vec<(Hash, V)>,
-    places: HashMap<Hash, usize>,
+pub(crate) struct Placed<V> {
+    pub(crate) place: usize,
+    pub(crate) value: V,
 }
 
-impl<V> Model for Table<V> {
-    ghost use Rattle.std.specs.Prelude.{◌-◌, min, reverse};
-    ghost use Rattle.std.specs.Vec.{vec_capacity, vec_len};
-    ghost use Rattle.std.specs.HashMap as hash;
-    ghost use Rattle.cat_tables.specs.Tables.{Recorded, IsIndexed};
-
-    ghost Value = { Recorded V };
-
-    ghost view = { λ t. record { list = reverse t.items.items; spare = min (vec_capacity t.items - vec_len t.items) (hash.spare t.places) } };
-
-    ghost invariant = { λ t. IsIndexed (reverse t.items.items) t.places.entries };
+/// Values under distinct hashes, in the order in which they were added. A table is never changed:
+/// one with more values shares with it all values, and all but the path to each new one. Contracts
+/// see the list, the newest first.
+#[derive(Drop)]
+pub struct Table<V: Drop> {
+    placed: OrderedMap<Hash, Placed<V>>,
 }
 
-impl<V> Table<V> {
-    /// No values.
+impl<V: Drop> Model for Table<V> {
+    ghost use Rattle.std.specs.Prelude.{List, length};
+    ghost use Rattle.cat_names.specs.declared.hash.Hash.{Hash};
+    ghost use Rattle.cat_tables.specs.Arrivals.{IsPlaced, arrived};
+
+    ghost Value = { List (Hash × V) };
+
+    ghost view = { λ t. arrived (length t.placed) t.placed };
+
+    ghost invariant = { λ t. IsPlaced t.placed };
+}
+
+impl<V: Drop> Clone for Table<V> {
+    ghost is_clone = { λ a b. b ≡ a };
+
+    /// The same table, which shares all values. It takes memory for one list of owners, unless the
+    /// table is empty: one owner for each 4,096 to 262,144 values.
+    fn clone(&self) -> Result<Table<V>, AllocError> {
+        Ok(Table {
+            placed: self.placed.clone()?,
+        })
+    }
+}
+
+impl<V: Drop> Table<V> {
+    /// No values. It takes no memory.
     pub fn new(alloc: Global) -> Table<V>
-        ensures { result.list ≡ [] }
+        ensures { result ≡ [] }
     {
         Table {
-            items: Vec::new(alloc),
-            places: HashMap::new(alloc),
+            placed: OrderedMap::new(alloc),
         }
     }
 
     /// What holds of each table: no hash comes twice.
     pub fn known(&self)
-        ensures { IsTrue (are_distinct self.now.list) }
+        ensures { IsTrue (are_distinct self.now) }
     {
-        let _ = &self.items;
+        let _ = &self.placed;
     }
 
     /// How many values there are.
     pub fn len(&self) -> usize
-        ensures { result ≡ length self.now.list }
+        ensures { result ≡ length self.now }
     {
-        self.items.len()
+        self.placed.len()
     }
 
     /// The value of a hash.
     pub fn get(&self, hash: &Hash) -> Option<&V>
-        ensures { option_map (λ v. v.now) result ≡ value_of self.now.list hash.now }
+        ensures { option_map (λ v. v.now) result ≡ value_of self.now hash.now }
     {
-        match self.places.get(hash) {
+        match self.placed.get(hash) {
             None => None,
-            Some(place) => Some(&self.items[*place].1),
+            Some(placed) => Some(&placed.value),
         }
     }
 
-    /// The hashes and values, the oldest first.
-    pub fn as_slice(&self) -> &[(Hash, V)]
-        ensures { reverse result.now ≡ self.now.list }
+    /// The table with one value more, under a hash that is not there.
+    fn with_next(&self, alloc: Global, hash: Hash, value: V) -> Result<Table<V>, NoMemory>
+        requires { value_of self.now hash ≡ None }
+        ensures { IfOk result (λ table. table ≡ (hash, value) ∷ self.now) }
     {
-        self.items.as_slice()
+        let place = self.len();
+        let change = Change::put(alloc, hash, Placed { place, value })?;
+        Ok(Table {
+            placed: self.placed.with_changes(alloc, &[change])?,
+        })
     }
 
-    /// Makes room, so that this many more can be pushed.
-    pub fn reserve(&mut self, more: usize) -> Result<(), NoMemory>
-        ensures list { self.new.list ≡ self.old.list }
-        ensures ok { OnOk result (more ≤ self.new.spare) }
-        ensures succeeds { more ≤ self.old.spare → IsOk result }
-        ensures spare { self.old.spare ≤ self.new.spare }
+    /// The table with the values of a batch, under hashes that are not there, above its own.
+    pub fn with(&self, alloc: Global, more: Batch<V>) -> Result<Table<V>, NoMemory>
+        requires { IsTrue (are_distinct (more.list ++ self.now)) }
+        ensures { IfOk result (λ table. table ≡ more.list ++ self.now) }
     {
-        self.items.try_reserve(more)?;
-        self.places.reserve(more)?;
-        Ok(())
-    }
-}
-
-impl<V: Drop> Table<V> {
-    /// Adds a value under a hash that is not there, into room that was made before.
-    pub fn push(&mut self, hash: Hash, value: V)
-        requires room { 0 < self.old.spare }
-        requires absent { value_of self.old.list hash ≡ None }
-        ensures list { self.new.list ≡ (hash, value) ∷ self.old.list }
-        ensures spare { self.old.spare ≤ self.new.spare + 1 }
-    {
-        let place = self.items.len();
-        let Ok(_) = self.places.insert(hash, place) else {
-            unreachable!()
-        };
-        let Ok(()) = self.items.push((hash, value)) else {
-            unreachable!()
-        };
-    }
-
-    /// Adds a value; a hash that is there keeps its first value.
-    pub fn add(&mut self, hash: Hash, value: V) -> Result<(), NoMemory>
-        ensures ok { OnOk result (self.new.list ≡ with_value hash value self.old.list) }
-        ensures err { OnErr result (self.new.list ≡ self.old.list) }
-        ensures there { IsTrue (is_some (value_of self.old.list hash)) → IsOk result }
-        ensures succeeds { 0 < self.old.spare → IsOk result }
-        ensures spare { self.old.spare ≤ self.new.spare + 1 }
-    {
-        if self.get(&hash).is_some() {
-            return Ok(());
-        }
-        self.reserve(1)?;
-        self.push(hash, value);
-        Ok(())
-    }
-
-    /// Adds the values of another table, under hashes that are not there, into room that was made
-    /// before.
-    pub fn append(&mut self, more: Table<V>)
-        requires room { length more.list ≤ self.old.spare }
-        requires absent { IsTrue (are_distinct (more.list ++ self.old.list)) }
-        ensures list { self.new.list ≡ more.list ++ self.old.list }
-    {
+        let mut table = self.clone()?;
         for (hash, value) in more.items {
-            self.push(hash, value);
+            table = table.with_next(alloc, hash, value)?;
         }
-    }
-
-    /// Takes the newest value away.
-    fn drop_newest(&mut self)
-        ensures list { self.new.list ≡ drop 1 self.old.list }
-        ensures spare { self.old.spare ≤ self.new.spare }
-    {
-        if let Some((hash, _)) = self.items.pop() {
-            self.places.remove(&hash);
-        }
-    }
-
-    /// Keeps the values that were added first, so many.
-    pub fn cut(&mut self, len: usize)
-        ensures list { self.new.list ≡ drop (length self.old.list - len) self.old.list }
-        ensures spare { self.old.spare ≤ self.new.spare }
-    {
-        for _ in len..self.len() {
-            self.drop_newest();
-        }
+        Ok(table)
     }
 }

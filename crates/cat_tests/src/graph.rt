@@ -70,8 +70,11 @@ fn add(
         drop(commit);
         return Answer::NotNext;
     }
-    match graph.add(hash, commit) {
-        Ok(()) => Answer::Added,
+    match graph.add(alloc, hash, commit) {
+        Ok(more) => {
+            *graph = more;
+            Answer::Added
+        }
         Err(fault) => Answer::Refused(fault),
     }
 }
@@ -102,9 +105,9 @@ fn a_hash_keeps_its_first_commit(rt: HostRuntime) {
     assert!(rt; graph.len() == 5);
 }
 
-/// Whether so many commits are added above one another.
-fn add_chain(graph: &mut Graph, alloc: Global, count: u64) -> bool {
-    for n in 0..count {
+/// Whether the commits of a range of numbers are added above one another.
+fn add_chain(graph: &mut Graph, alloc: Global, from: u64, to: u64) -> bool {
+    for n in from..to {
         if add(graph, alloc, n.wrapping_add(1), n, None, n.wrapping_add(1)) != Answer::Added {
             return false;
         }
@@ -138,7 +141,7 @@ fn walked(graph: &Graph, alloc: Global, from: u64, limit: usize) -> Option<usize
 fn a_chain_of_a_thousand_commits_is_walked(rt: HostRuntime) {
     let alloc = rt.alloc();
     let mut graph = Graph::new(alloc);
-    assert!(rt; add_chain(&mut graph, alloc, 1000));
+    assert!(rt; add_chain(&mut graph, alloc, 0, 1000));
     // beside the chain, above its first commit
     assert!(rt; add(&mut graph, alloc, 2000, 1, None, 2) == Answer::Added);
     assert!(rt; graph.len() == 1001);
@@ -146,6 +149,26 @@ fn a_chain_of_a_thousand_commits_is_walked(rt: HostRuntime) {
     assert!(rt; graph.on_chain(&hash(1000), &hash(1)));
     assert!(rt; !graph.on_chain(&hash(1000), &hash(2000)));
     assert!(rt; is_base(&graph, alloc, 1000, 2000, 1));
-    graph.cut(400);
-    assert!(rt; graph.len() == 400 && !graph.is_known(&hash(401)));
+}
+
+/// Whether a graph has a chain of so many commits and no more.
+fn has_chain(graph: &Graph, alloc: Global, count: u64) -> bool {
+    graph.len() as u64 == count
+        && walked(graph, alloc, count, 5000) == Some(graph.len())
+        && !graph.is_known(&hash(count.wrapping_add(1)))
+}
+
+#[test]
+fn a_graph_with_more_commits_leaves_the_one_before(rt: HostRuntime) {
+    let alloc = rt.alloc();
+    let mut graph = Graph::new(alloc);
+    assert!(rt; add_chain(&mut graph, alloc, 0, 400));
+    let Ok(before) = graph.clone() else {
+        panic!(rt; "there is memory");
+    };
+    assert!(rt; add_chain(&mut graph, alloc, 400, 600));
+    assert!(rt; has_chain(&before, alloc, 400));
+    assert!(rt; has_chain(&graph, alloc, 600));
+    drop(graph);
+    assert!(rt; has_chain(&before, alloc, 400));
 }

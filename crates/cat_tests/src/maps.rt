@@ -1,5 +1,7 @@
 //! Tables and maps of a thousand records and more.
 
+ghost use Rattle.std.specs.Prelude.{◌≡◌, [], ◌∷◌, IfOk};
+
 use cat_codes::fault::NoMemory;
 use cat_keymap::distinct::are_distinct;
 use cat_keymap::key_map::KeyMap;
@@ -9,6 +11,7 @@ use cat_model::op::Op;
 use cat_names::hash::{ContentId, Hash};
 use cat_names::key::ContentKey;
 use cat_names::key_fault::KeyFault;
+use cat_tables::batch::Batch;
 use cat_tables::table::Table;
 use std::alloc::Global;
 use std::test::Fail;
@@ -18,14 +21,43 @@ fn hash(n: u64) -> Hash {
     Hash::of(n.to_be_bytes().as_slice())
 }
 
-/// A table of the first thousand numbers, to the first of which another value is added.
-fn thousand(alloc: Global) -> Result<Table<u64>, NoMemory> {
-    let mut table = Table::new(alloc);
+/// The first thousand numbers under their hashes.
+fn thousand(alloc: Global) -> Result<Batch<u64>, NoMemory> {
+    let mut numbers = Batch::new(alloc);
     for n in 0..1000u64 {
-        table.add(hash(n), n)?;
+        let hash = hash(n);
+        if numbers.get(&hash).is_none() {
+            numbers.reserve(1)?;
+            numbers.push(hash, n);
+        }
     }
-    table.add(hash(0), 7)?;
-    Ok(table)
+    Ok(numbers)
+}
+
+/// A table of these numbers.
+fn table_of(alloc: Global, numbers: Batch<u64>) -> Result<Table<u64>, NoMemory> {
+    numbers.known();
+    Table::new(alloc).with(alloc, numbers)
+}
+
+/// A value alone, under a hash.
+fn one<V: Drop>(alloc: Global, hash: Hash, value: V) -> Result<Batch<V>, NoMemory>
+    ensures { IfOk result (λ batch. batch.list ≡ (hash, value) ∷ []) }
+{
+    let mut batch = Batch::new(alloc);
+    batch.reserve(1)?;
+    batch.push(hash, value);
+    Ok(batch)
+}
+
+/// The table with a number more, unless there is one of its hash.
+fn with_number(table: &Table<u64>, alloc: Global, n: u64) -> Result<Table<u64>, NoMemory> {
+    let hash = hash(n);
+    if table.get(&hash).is_some() {
+        return Ok(table.clone()?);
+    }
+    table.known();
+    table.with(alloc, one(alloc, hash, n)?)
 }
 
 fn at(table: &Table<u64>, n: u64) -> Option<u64> {
@@ -35,9 +67,9 @@ fn at(table: &Table<u64>, n: u64) -> Option<u64> {
     }
 }
 
-/// Whether each number below `held` is found, and none from there up to a thousand.
+/// Whether each number below `held` is found, and none from there up to 1,001.
 fn holds(table: &Table<u64>, held: u64) -> bool {
-    for n in 0..1001u64 {
+    for n in 0..1002u64 {
         let wanted = if n < held { Some(n) } else { None };
         if at(table, n) != wanted {
             return false;
@@ -47,15 +79,17 @@ fn holds(table: &Table<u64>, held: u64) -> bool {
 }
 
 #[test]
-fn a_hash_keeps_its_first_value_until_it_is_cut(rt: HostRuntime) {
-    let Ok(mut table) = thousand(rt.alloc()) else {
-        panic!(&rt; "there is memory");
-    };
-    assert!(&rt; holds(&table, 1000));
-    table.cut(400);
-    assert!(&rt; holds(&table, 400));
-    assert!(&rt; table.add(hash(400), 400).is_ok());
-    assert!(&rt; holds(&table, 401));
+fn a_table_with_more_numbers_leaves_the_one_before(rt: HostRuntime) -> Result<(), Fail> {
+    let alloc = rt.alloc();
+    let table = table_of(alloc, thousand(alloc)?)?;
+    assert!(rt; holds(&table, 1000));
+    let same = with_number(&table, alloc, 400)?;
+    let more = with_number(&same, alloc, 1000)?;
+    assert!(rt; holds(&same, 1000) && holds(&table, 1000));
+    drop(table);
+    drop(same);
+    assert!(rt; holds(&more, 1001));
+    Ok(())
 }
 
 /// The key of two elements, of which the second is a number.
@@ -172,22 +206,26 @@ fn keys_at(maps: &Maps, hash: &Hash) -> Option<usize> {
     }
 }
 
-/// Maps of one hash, under which two are added.
-fn added(alloc: Global, hash: Hash) -> Result<Maps, Fail> {
-    let first = after_others(alloc, &KeyMap::empty())?;
-    let mut maps = Maps::new(alloc);
-    maps.add(hash, first)?;
-    maps.add(hash, KeyMap::empty())?;
-    Ok(maps)
+/// The maps with one more, unless there is one of its hash.
+fn with_map(maps: &Maps, alloc: Global, hash: Hash, map: KeyMap) -> Result<Maps, NoMemory> {
+    if maps.get(&hash).is_some() {
+        return Ok(maps.clone()?);
+    }
+    maps.known();
+    maps.with(alloc, one(alloc, hash, map)?)
 }
 
 #[test]
-fn a_hash_keeps_its_first_map(rt: HostRuntime) -> Result<(), Fail> {
+fn maps_with_one_more_leave_those_before(rt: HostRuntime) -> Result<(), Fail> {
+    let alloc = rt.alloc();
     let hash = Hash { bytes: [1; 32] };
-    let mut maps = added(rt.alloc(), hash)?;
-    assert!(rt; maps.len() == 1);
-    assert!(rt; keys_at(&maps, &hash) == Some(1));
-    maps.cut(0);
-    assert!(rt; keys_at(&maps, &hash).is_none());
+    let before = Maps::new(alloc);
+    let map = after_others(alloc, &KeyMap::empty())?;
+    let maps = with_map(&before, alloc, hash, map)?;
+    let same = with_map(&maps, alloc, hash, KeyMap::empty())?;
+    assert!(rt; before.len() == 0 && keys_at(&before, &hash).is_none());
+    assert!(rt; same.len() == 1 && keys_at(&same, &hash) == Some(1));
+    drop(maps);
+    assert!(rt; keys_at(&same, &hash) == Some(1));
     Ok(())
 }

@@ -20,8 +20,8 @@ use cat_state::unmade::Unmade;
 use std::alloc::Global;
 
 impl Ledger {
-    /// Takes room for a change and its entry, has the keeper keep the entry, and then applies the
-    /// change and adds the entry to the log, which takes no memory; or changes nothing.
+    /// Takes room for an entry in the log, makes the change whole once the keeper has the entry, and
+    /// adds the entry to the log, which takes no memory; or changes nothing.
     fn make<K: Keeper>(
         &mut self,
         alloc: Global,
@@ -46,12 +46,7 @@ impl Ledger {
             drop(change);
             return Err(Unmade::Failed(Failure::NoMemory));
         }
-        let Ok(catalogue) = self.catalogue.alone(alloc) else {
-            drop(entry);
-            drop(change);
-            return Err(Unmade::Failed(Failure::NoMemory));
-        };
-        match catalogue.make(alloc, keeper, &entry, change) {
+        match self.catalogue.make(alloc, keeper, &entry, change) {
             Ok(()) => {
                 self.log.push_reserved(entry);
                 Ok(())

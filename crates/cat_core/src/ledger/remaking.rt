@@ -30,12 +30,7 @@ impl Ledger {
             drop(change);
             return Err(NoMemory);
         }
-        let Ok(catalogue) = self.catalogue.alone(alloc) else {
-            drop(entry);
-            drop(change);
-            return Err(NoMemory);
-        };
-        match catalogue.apply(change) {
+        match self.catalogue.apply(alloc, change) {
             Ok(()) => {
                 self.log.push_reserved(entry);
                 Ok(())

@@ -3,4 +3,4 @@ use Rattle.cat_model.specs.Answer.{change_of}
 use Rattle.cat_answers.proofs.histories.changes_of.Given as goal
 
 abbrev pub invariant-loop-op : goal.invariant-loop-op
-invariant-loop-op l = l.changes ≡ map (change_of l.contents.list) (take l.op-index l.ops)
+invariant-loop-op l = l.changes ≡ map (change_of l.contents) (take l.op-index l.ops)

@@ -8,21 +8,21 @@ use Rattle.cat_graph.proofs.graph.Graph.base.Goals as goal
 
 pub loop-left_at-init : goal.loop-left_at-init
 loop-left_at-init c =
-    rw (c.in_ok-left_front.ensures, c.in_ok-right_front.ensures) (sides_first c.args.self.now.list c.args.left.now c.args.right.now)
+    rw (c.in_ok-left_front.ensures, c.in_ok-right_front.ensures) (sides_first c.args.self.now c.args.left.now c.args.right.now)
 
 pub unreachable-requires : goal.unreachable-requires
 unreachable-requires c =
-    let none = none_common c.args.self.now.list c.args.left.now c.args.right.now c.known.ensures c.requires.left c.requires.right in
+    let none = none_common c.args.self.now c.args.left.now c.args.right.now c.known.ensures c.requires.left c.requires.right in
     some_near _ _ _ _ (no_ancestor sha256) c.loop-left_at.invariant none (sym c.nearest.ensures.first ∙ c.in_default.is)
 
 pub unreachable-requires-in_default-nearest : goal.unreachable-requires-in_default-nearest
 unreachable-requires-in_default-nearest c =
-    let none = none_common c.args.self.now.list c.args.left.now c.args.right.now c.known.ensures c.requires.left c.requires.right in
+    let none = none_common c.args.self.now c.args.left.now c.args.right.now c.known.ensures c.requires.left c.requires.right in
     some_near _ _ _ _ (no_ancestor sha256) (turned _ _ _ _ c.loop-left_at.invariant) none (sym c.nearest-in-loop-left_at.ensures.first ∙ c.in_default-nearest.is)
 
 pub returns-in-Equal : goal.returns-in-Equal
 returns-in-Equal c =
-    let commits = c.args.self.now.list in
+    let commits = c.args.self.now in
     let left = c.args.left.now in
     let right = c.args.right.now in
     let common =
@@ -36,11 +36,11 @@ returns-in-Equal c =
 
 pub loop-left_at-preserved-in-Continue-branch-3 : goal.loop-left_at-preserved-in-Continue-branch-3
 loop-left_at-preserved-in-Continue-branch-3 c =
-    sides_more c.args.self.now.list _ _ _ _ c.in-Some.left_at c.in-Some-nearest.right_at c.known.ensures c.loop-left_at.invariant (sym c.in-Some.ensures.first) (sym c.in-Some-nearest.ensures.first)
+    sides_more c.args.self.now _ _ _ _ c.in-Some.left_at c.in-Some-nearest.right_at c.known.ensures c.loop-left_at.invariant (sym c.in-Some.ensures.first) (sym c.in-Some-nearest.ensures.first)
     c.in-Some-nearest.ensures.nearest (under_greater c.in-Some.left_at c.in-Some-nearest.right_at (sym c.in-Greater.ensures)) c.in_ok-go_on-in-Greater.ensures
 
 pub loop-left_at-preserved : goal.loop-left_at-preserved
 loop-left_at-preserved c =
     turned _ _ _ _
-    (sides_more c.args.self.now.list _ _ _ _ c.in-Some-nearest.right_at c.in-Some.left_at c.known.ensures (turned _ _ _ _ c.loop-left_at.invariant) (sym c.in-Some-nearest.ensures.first)
+    (sides_more c.args.self.now _ _ _ _ c.in-Some-nearest.right_at c.in-Some.left_at c.known.ensures (turned _ _ _ _ c.loop-left_at.invariant) (sym c.in-Some-nearest.ensures.first)
     (sym c.in-Some.ensures.first) c.in-Some.ensures.nearest (ap is_lt (sym c.in-Less.ensures)) c.in_ok-go_on-in-Less.ensures)

@@ -5,7 +5,7 @@ use Rattle.cat_graph.proofs.graph.Graph.chain.Given as goal
 
 abbrev pub invariant-loop-at : goal.invariant-loop-at
 invariant-loop-at l = record {
-  walked : values l.found.items ++ chain l.self.list l.at ≡ chain l.self.list l.from;
+  walked : values l.found.items ++ chain l.self l.at ≡ chain l.self l.from;
   few : length l.found.items ≤ l.limit;
 }
 

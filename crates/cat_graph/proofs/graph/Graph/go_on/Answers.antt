@@ -19,12 +19,12 @@ returns-in_default-get c =
 pub returns-in_default-merge_parent : goal.returns-in_default-merge_parent
 returns-in_default-merge_parent c =
     let put = subst (λ (r : Reached). IsPermutation (r ∷ c.take.new.self) c.put.new.self) c.reached.ensures c.in_ok-put.ensures in
-    goes_up_one c.args.self.now.list _ _ _ c.in-Some.at c.in-Some-get.commit.now c.known.ensures (sym c.in-Some.ensures.first) c.in-Some.ensures.others c.requires.generations
+    goes_up_one c.args.self.now _ _ _ c.in-Some.at c.in-Some-get.commit.now c.known.ensures (sym c.in-Some.ensures.first) c.in-Some.ensures.others c.requires.generations
     (sym c.in-Some-get.ensures) c.in_default-merge_parent.is put
 
 pub returns-in_ok-put-2 : goal.returns-in_ok-put-2
 returns-in_ok-put-2 c =
     let put = subst (λ (r : Reached). IsPermutation (r ∷ c.take.new.self) c.put.new.self) c.reached.ensures c.in_ok-put.ensures in
     let put_both = subst (λ (r : Reached). IsPermutation (r ∷ c.put.new.self) c.put-in-Some-merge_parent.new.self) c.reached-in-Some-merge_parent.ensures c.in_ok-put-2.ensures in
-    goes_up_two c.args.self.now.list _ _ _ _ c.in-Some.at c.in-Some-get.commit.now c.in-Some-merge_parent.merge_parent c.known.ensures (sym c.in-Some.ensures.first) c.in-Some.ensures.others c.requires.generations
+    goes_up_two c.args.self.now _ _ _ _ c.in-Some.at c.in-Some-get.commit.now c.in-Some-merge_parent.merge_parent c.known.ensures (sym c.in-Some.ensures.first) c.in-Some.ensures.others c.requires.generations
     (sym c.in-Some-get.ensures) c.in-Some-merge_parent.is put put_both

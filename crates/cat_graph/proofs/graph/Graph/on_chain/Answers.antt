@@ -8,17 +8,17 @@ pub returns-in_default : goal.returns-in_default
 returns-in_default c =
     let other = not-true (same_hash c.loop-at.at c.args.hash.now) (sym c.ne.ensures ∙ c.loop-at-test.true) in
     let none = nothing_there c.get.result _ c.get.ensures c.in_default.is in
-    sym other ∙ sym (on_chain_end c.args.self.now.list c.loop-at.at c.args.hash.now none) ∙ c.loop-at.invariant
+    sym other ∙ sym (on_chain_end c.args.self.now c.loop-at.at c.args.hash.now none) ∙ c.loop-at.invariant
 
 pub loop-at-smaller : goal.loop-at-smaller
-loop-at-smaller c = shorter c.args.self.now.list c.loop-at.at c.in-Some.commit.now c.known.ensures (sym c.in-Some.ensures)
+loop-at-smaller c = shorter c.args.self.now c.loop-at.at c.in-Some.commit.now c.known.ensures (sym c.in-Some.ensures)
 
 pub loop-at-preserved : goal.loop-at-preserved
 loop-at-preserved c =
     let other = not-true (same_hash c.loop-at.at c.args.hash.now) (sym c.ne.ensures ∙ c.loop-at-test.true) in
-    on_chain_next c.args.self.now.list c.loop-at.at c.in-Some.commit.now c.args.hash.now c.known.ensures (sym c.in-Some.ensures) other ∙ c.loop-at.invariant
+    on_chain_next c.args.self.now c.loop-at.at c.in-Some.commit.now c.args.hash.now c.known.ensures (sym c.in-Some.ensures) other ∙ c.loop-at.invariant
 
 pub returns : goal.returns
 returns c =
     let here = not-false (same_hash c.loop-at.at c.args.hash.now) (sym c.ne.ensures ∙ c.loop-at-test.false) in
-    sym (on_chain_here c.args.self.now.list c.loop-at.at c.args.hash.now here) ∙ c.loop-at.invariant
+    sym (on_chain_here c.args.self.now c.loop-at.at c.args.hash.now here) ∙ c.loop-at.invariant

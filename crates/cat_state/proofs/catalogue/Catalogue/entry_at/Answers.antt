@@ -6,9 +6,9 @@ use Rattle.cat_state.proofs.catalogue.Catalogue.entry_at.Goals as goal
 
 pub returns-in-None : goal.returns-in-None
 returns-in-None c =
-    sym (ap (λ (map : Map). entry_of map c.args.key.now) (map_is c.maps.result.now.list c.args.self.now.commits c.args.hash.now c.maps.ensures.kept ∙ ap found_map (sym c.in-None.ensures)))
+    sym (ap (λ (map : Map). entry_of map c.args.key.now) (map_is c.maps.result.now c.args.self.now.commits c.args.hash.now c.maps.ensures.kept ∙ ap found_map (sym c.in-None.ensures)))
 
 pub returns-in-Some : goal.returns-in-Some
 returns-in-Some c =
     c.get-in-Some.ensures
-    ∙ sym (ap (λ (map : Map). entry_of map c.args.key.now) (map_is c.maps.result.now.list c.args.self.now.commits c.args.hash.now c.maps.ensures.kept ∙ ap found_map (sym c.in-Some.ensures)))
+    ∙ sym (ap (λ (map : Map). entry_of map c.args.key.now) (map_is c.maps.result.now c.args.self.now.commits c.args.hash.now c.maps.ensures.kept ∙ ap found_map (sym c.in-Some.ensures)))

@@ -1,5 +1,9 @@
-use Rattle.cat_tables.proofs.Places.{empty_is_indexed}
+use Rattle.std.proofs.Common.{refl}
+use Rattle.cat_tables.proofs.Arriving.{split3}
 use Rattle.cat_tables.proofs.table.Table.new.Goals as goal
 
 pub invariant_of-result : goal.invariant_of-result
-invariant_of-result g c = rw (c.new.ensures.items, c.new-2.ensures.empty) empty_is_indexed
+invariant_of-result g c = rw c.new.ensures (record { below = refl; number = refl; distinct = refl; found = λ hash. refl })
+
+pub returns : goal.returns
+returns g c = rw c.new.ensures refl

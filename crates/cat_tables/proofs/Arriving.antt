@@ -1,0 +1,179 @@
+-- Tables after one value more.
+use Rattle.std.proofs.Common.{◌≡◌, ℕ, zero, suc, ◌+◌, ◌<◌, ◌≤◌, List, [], ◌∷◌, ◌++◌, Option, Some, None, Bool, true, false, cond, length, nat_eq, nat_lt, if◌then◌else◌, refl, sym, ap, subst, ◌∙◌, arith}
+use Rattle.std.proofs.lemmas.Bool.Decides.{nat_tests}
+use Rattle.std.proofs.lemmas.List.{length-append}
+use Rattle.std.proofs.lemmas.List.Folds.{list_all-append}
+use Rattle.std.proofs.lemmas.Option.{none-some}
+use Rattle.std.specs.Cmp.Lexicographic.{texts_ties}
+use Rattle.std.specs.List.{list_all}
+use Rattle.std.specs.Option.{option_map}
+use Rattle.std.specs.Ordering.{is_eq}
+use Rattle.std.specs.declared.cmp.Ordering.{Ordering}
+use Rattle.std.specs.declared.cmp.Ordering.TheVariants.{Less, Equal, Greater}
+use Rattle.cat_names.specs.declared.hash.Hash.{Hash}
+use Rattle.cat_ordered.specs.Maps as ordered
+use Rattle.cat_tables.specs.declared.table.Placed.{Placed}
+use Rattle.cat_tables.specs.Arrivals.{at_place, arrived, IsPlaced}
+use Rattle.cat_tables.specs.HashOrder.{hash_cmp}
+use Rattle.cat_tables.specs.ReferenceLaws.{both_true, and_true, split}
+use Rattle.cat_tables.specs.Tables.{same_hash, value_of, are_distinct}
+use Rattle.cat_tables.proofs.Places.{same_is}
+
+-- ---- the order of hashes
+
+pub split3 : {P : Type 0} (o : Ordering) → (o ≡ Less → P) → (o ≡ Equal → P) → (o ≡ Greater → P) → P
+split3 Less f g h = f refl
+split3 Equal f g h = g refl
+split3 Greater f g h = h refl
+
+-- hashes are the same where they compare equal
+pub ties : (a b : Hash) → same_hash a b ≡ is_eq (hash_cmp a b)
+ties a b = texts_ties a.bytes b.bytes
+
+-- two that are the same as a third are the same
+never_both : (a b hash : Hash) → is_eq (hash_cmp a b) ≡ false → is_eq (hash_cmp a hash) ≡ true → is_eq (hash_cmp b hash) ≡ true → ⊥
+never_both a b hash other e f =
+    let tied : is_eq (hash_cmp a b) ≡ true = ap (λ (h : Hash). is_eq (hash_cmp a h)) (same_is b hash (ties b hash ∙ f)) ∙ e in
+    absurd cc
+
+module _ {A : Type 0} where
+  exchanged : (b c : Bool) (x y : A) (rest : Option A) → (b ≡ true → c ≡ true → ⊥) → cond b (Some x) (cond c (Some y) rest) ≡ cond c (Some y) (cond b (Some x) rest)
+  exchanged true true x y rest never = absurd (never refl refl)
+  exchanged true false x y rest never = refl
+  exchanged false c x y rest never = refl
+
+  absent_parts : (b : Bool) (x : A) (rest : Option A) → cond b (Some x) rest ≡ None → (b ≡ false) × (rest ≡ None)
+  absent_parts true x rest e = absurd (none-some x (sym e))
+  absent_parts false x rest e = (refl, e)
+
+  kept_front : (b : Bool) (x : A) (all front back : List A) → all ≡ front ++ back → cond b (x ∷ all) all ≡ cond b (x ∷ front) front ++ back
+  kept_front true x all front back e = ap (λ (l : List A). x ∷ l) e
+  kept_front false x all front back e = e
+
+  both_empty : (front back : List A) → front ++ back ≡ [] → (front ≡ []) × (back ≡ [])
+  both_empty [] back e = (refl, e)
+  both_empty (x ∷ front) back e = absurd cc
+
+module _ {V : Type 0} where
+  -- the pairs and one more among them
+  pub record IsMore (x : Hash × Placed V) (pairs more : List (Hash × Placed V)) : Type 0 where
+    pub front : List (Hash × Placed V)
+    pub back : List (Hash × Placed V)
+    pub was : pairs ≡ front ++ back
+    pub is : more ≡ front ++ x ∷ back
+
+  pub put_more : (hash : Hash) (p : Placed V) (pairs : List (Hash × Placed V)) → ordered.value_of hash_cmp pairs hash ≡ None → IsMore (hash, p) pairs (ordered.after_change hash_cmp (hash, Some p) pairs)
+  put_more hash p [] absent = record { front = []; back = []; was = refl; is = refl }
+  put_more hash p (x ∷ pairs) absent = split3 (hash_cmp x.0 hash)
+      (λ o. let rest = put_more hash p pairs (rw o at absent) in
+      record { front = x ∷ rest.front; back = rest.back; was = ap (λ (l : List (Hash × Placed V)). x ∷ l) rest.was; is = rw o (ap (λ (l : List (Hash × Placed V)). x ∷ l) rest.is) })
+      (λ o. let there : Some x.1 ≡ None = rw o at absent in absurd (none-some x.1 (sym there)))
+      (λ o. record { front = []; back = x ∷ pairs; was = refl; is = rw o refl })
+
+  -- ---- what they hold at a place
+
+  at_both : (i : ℕ) (front back : List (Hash × Placed V)) → at_place i (front ++ back) ≡ at_place i front ++ at_place i back
+  at_both i [] back = refl
+  at_both i (x ∷ front) back = kept_front (nat_eq x.1.place i) (x.0, x.1.value) (at_place i (front ++ back)) (at_place i front) (at_place i back) (at_both i front back)
+
+  pub at_other : (i : ℕ) (x : Hash × Placed V) (pairs more : List (Hash × Placed V)) → nat_eq x.1.place i ≡ false → IsMore x pairs more → at_place i more ≡ at_place i pairs
+  at_other i x pairs more other m =
+      ap (at_place i) m.is ∙ at_both i m.front (x ∷ m.back) ∙ rw other refl ∙ sym (at_both i m.front m.back) ∙ ap (at_place i) (sym m.was)
+
+  pub at_own : (i : ℕ) (x : Hash × Placed V) (pairs more : List (Hash × Placed V)) → nat_eq x.1.place i ≡ true → at_place i pairs ≡ [] → IsMore x pairs more → at_place i more ≡ (x.0, x.1.value) ∷ []
+  at_own i x pairs more own none m =
+      let empty = both_empty (at_place i m.front) (at_place i m.back) (sym (ap (at_place i) m.was ∙ at_both i m.front m.back) ∙ none) in
+      ap (at_place i) m.is ∙ at_both i m.front (x ∷ m.back) ∙ rw (own, empty.0, empty.1) refl
+
+  -- no place is so high
+  pub none_at : (n i : ℕ) (pairs : List (Hash × Placed V)) → n ≤ i → list_all (λ x. nat_lt x.1.place n) pairs ≡ true → at_place i pairs ≡ []
+  none_at n i [] le below = refl
+  none_at n i (x ∷ pairs) le below =
+      let parts = and_true (nat_lt x.1.place n) (list_all (λ y. nat_lt y.1.place n) pairs) below in
+      let other : nat_eq x.1.place i ≡ false = grind (arith, nat_tests) in
+      rw other (none_at n i pairs le parts.1)
+
+  pub arrived_alike : (n : ℕ) (pairs more : List (Hash × Placed V)) → ((i : ℕ) → i < n → at_place i more ≡ at_place i pairs) → arrived n more ≡ arrived n pairs
+  arrived_alike zero pairs more alike = refl
+  arrived_alike (suc n) pairs more alike = (λ j. alike n (omega arith) j ++ arrived_alike n pairs more (λ i lt. alike i (omega (arith, lt))) j)
+
+  -- ---- how many there are, and which
+
+  pub more_long : (x : Hash × Placed V) (pairs more : List (Hash × Placed V)) → IsMore x pairs more → length more ≡ suc (length pairs)
+  more_long x pairs more m =
+      let long = ap length m.is ∙ length-append m.front (x ∷ m.back) in
+      let was = ap length m.was ∙ length-append m.front m.back in
+      omega (arith, long, was)
+
+  pub more_pass : (p : Hash × Placed V → Bool) (x : Hash × Placed V) (pairs more : List (Hash × Placed V)) → p x ≡ true → list_all p pairs ≡ true → IsMore x pairs more → list_all p more ≡ true
+  more_pass p x pairs more e all m =
+      let parts = and_true (list_all p m.front) (list_all p m.back) (sym (list_all-append p m.front m.back) ∙ ap (list_all p) (sym m.was) ∙ all) in
+      ap (list_all p) m.is ∙ list_all-append p m.front (x ∷ m.back) ∙ both_true _ _ parts.0 (both_true _ _ e parts.1)
+
+  found_among : (x : Hash × Placed V) (front back : List (Hash × Placed V)) (hash : Hash) → ordered.value_of hash_cmp (front ++ back) x.0 ≡ None
+      → ordered.value_of hash_cmp (front ++ x ∷ back) hash ≡ cond (is_eq (hash_cmp x.0 hash)) (Some x.1) (ordered.value_of hash_cmp (front ++ back) hash)
+  found_among x [] back hash absent = refl
+  found_among x (y ∷ front) back hash absent =
+      let other = absent_parts (is_eq (hash_cmp y.0 x.0)) y.1 (ordered.value_of hash_cmp (front ++ back) x.0) absent in
+      ap (λ (rest : Option (Placed V)). cond (is_eq (hash_cmp y.0 hash)) (Some y.1) rest) (found_among x front back hash other.1)
+      ∙ exchanged (is_eq (hash_cmp y.0 hash)) (is_eq (hash_cmp x.0 hash)) y.1 x.1 _ (never_both y.0 x.0 hash other.0)
+
+  pub found_more : (x : Hash × Placed V) (pairs more : List (Hash × Placed V)) (hash : Hash) → ordered.value_of hash_cmp pairs x.0 ≡ None → IsMore x pairs more
+      → ordered.value_of hash_cmp more hash ≡ cond (is_eq (hash_cmp x.0 hash)) (Some x.1) (ordered.value_of hash_cmp pairs hash)
+  found_more x pairs more hash absent m =
+      ap (λ (l : List (Hash × Placed V)). ordered.value_of hash_cmp l hash) m.is
+      ∙ found_among x m.front m.back hash (ap (λ (l : List (Hash × Placed V)). ordered.value_of hash_cmp l x.0) (sym m.was) ∙ absent)
+      ∙ ap (λ (l : List (Hash × Placed V)). cond (is_eq (hash_cmp x.0 hash)) (Some x.1) (ordered.value_of hash_cmp l hash)) (sym m.was)
+
+  -- ---- one more
+
+  below_more : (n m : ℕ) (pairs : List (Hash × Placed V)) → n ≤ m → list_all (λ x. nat_lt x.1.place n) pairs ≡ true → list_all (λ x. nat_lt x.1.place m) pairs ≡ true
+  below_more n m [] le below = refl
+  below_more n m (x ∷ pairs) le below =
+      let parts = and_true (nat_lt x.1.place n) (list_all (λ y. nat_lt y.1.place n) pairs) below in
+      let lower : nat_lt x.1.place m ≡ true = grind (arith, nat_tests) in
+      both_true _ _ lower (below_more n m pairs le parts.1)
+
+  none_mapped : (f : Placed V → V) (o : Option (Placed V)) → option_map f o ≡ None → o ≡ None
+  none_mapped f None e = refl
+  none_mapped f (Some p) e = absurd (none-some (f p) (sym e))
+
+  pub absent_there : (hash : Hash) (pairs : List (Hash × Placed V)) → IsPlaced pairs → value_of (arrived (length pairs) pairs) hash ≡ None → ordered.value_of hash_cmp pairs hash ≡ None
+  absent_there hash pairs are absent = none_mapped (λ p. p.value) _ (sym (are.found hash) ∙ absent)
+
+  arrived_more : (hash : Hash) (p : Placed V) (pairs more : List (Hash × Placed V)) → IsPlaced pairs → p.place ≡ length pairs → IsMore (hash, p) pairs more
+      → arrived (length more) more ≡ (hash, p.value) ∷ arrived (length pairs) pairs
+  arrived_more hash p pairs more are last m =
+      let n = length pairs in
+      let own : nat_eq p.place n ≡ true = grind (arith, nat_tests, last) in
+      let here = at_own n (hash, p) pairs more own (none_at n n pairs (omega arith) are.below) m in
+      let others = arrived_alike n pairs more (λ i lt. at_other i (hash, p) pairs more (grind (arith, nat_tests, last, lt)) m) in
+      ap (λ (k : ℕ). arrived k more) (more_long (hash, p) pairs more m) ∙ (λ j. here j ++ others j)
+
+  value_by : (b c : Bool) (p : Placed V) (value : Option V) (found : Option (Placed V)) → b ≡ c → value ≡ option_map (λ q. q.value) found
+      → cond b (Some p.value) value ≡ option_map (λ q. q.value) (cond c (Some p) found)
+  value_by true true p value found same e = refl
+  value_by true false p value found same e = absurd cc
+  value_by false true p value found same e = absurd cc
+  value_by false false p value found same e = e
+
+  pub placed_more : (hash : Hash) (p : Placed V) (pairs more : List (Hash × Placed V)) → IsPlaced pairs → p.place ≡ length pairs → value_of (arrived (length pairs) pairs) hash ≡ None
+      → more ≡ ordered.after_change hash_cmp (hash, Some p) pairs → IsPlaced more × (arrived (length more) more ≡ (hash, p.value) ∷ arrived (length pairs) pairs)
+  placed_more hash p pairs more are last absent is =
+      let none = absent_there hash pairs are absent in
+      let m : IsMore (hash, p) pairs more = subst (λ (l : List (Hash × Placed V)). IsMore (hash, p) pairs l) (sym is) (put_more hash p pairs none) in
+      let view = arrived_more hash p pairs more are last m in
+      let long = more_long (hash, p) pairs more m in
+      let number = are.number in
+      let size = ap length view in
+      let own : nat_lt p.place (length more) ≡ true = grind (arith, nat_tests, last, long) in (
+        record {
+          below = more_pass (λ x. nat_lt x.1.place (length more)) (hash, p) pairs more own (below_more (length pairs) (length more) pairs (omega (arith, long)) are.below) m;
+          number = omega (arith, long, number, size);
+          distinct = ap are_distinct view ∙ rw absent are.distinct;
+          found = λ other. ap (λ (l : List (Hash × V)). value_of l other) view
+              ∙ value_by (same_hash hash other) (is_eq (hash_cmp hash other)) p _ _ (ties hash other) (are.found other)
+              ∙ ap (option_map (λ q. q.value)) (sym (found_more (hash, p) pairs more other none m));
+        },
+        view,
+      )
