@@ -14,6 +14,7 @@ mod commit;
 mod counting;
 pub mod deciding;
 pub mod decision;
+mod differing;
 pub mod drafts;
 mod gathering;
 pub mod given;

@@ -12,6 +12,7 @@ ghost use Rattle.cat_decisions.specs.Drafts.{AreKnown, ArePlans, IsMergeDraft};
 ghost use Rattle.cat_decisions.specs.Expiring.{fails_expired};
 
 use crate::decision::Decision;
+use crate::differing::changed_since;
 use crate::drafts::{Asked, Draft};
 use crate::logged::logged_merge;
 use crate::settling::settle;
@@ -45,10 +46,11 @@ fn plan_from(
 {
     let before = catalogue.map_at(ancestor)?;
     let merged = catalogue.map_at(source)?;
+    let changed = changed_since(alloc, catalogue, source, ancestor, &before, &merged)?;
     let target = catalogue.map_at(head)?;
     catalogue.map_is_well_formed(head);
     catalogue.contents_are_held();
-    let made = plan_merge(alloc, &before, &merged, &target, modes);
+    let made = plan_merge(alloc, &before, &merged, &target, modes, changed);
     // By calls, once, so that the proof has no maps at the ways out below.
     drop(before);
     drop(merged);

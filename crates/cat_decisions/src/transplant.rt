@@ -5,7 +5,7 @@ ghost use Rattle.sha2.specs.Sha256.{sha256};
 ghost use Rattle.cat_model.specs.Chain.{entries};
 ghost use Rattle.cat_model.specs.State.{is_known};
 ghost use Rattle.cat_model.specs.Transplants.{change_made, commits_at, plan_each, step_transplant, transplant_opening};
-ghost use Rattle.cat_merge.specs.Planned.{planned, step_of};
+ghost use Rattle.cat_merge.specs.Planned.{AreTouched, planned, step_of};
 ghost use Rattle.cat_model.specs.declared.command.Command.TheVariants as commands;
 ghost use Rattle.cat_decisions.specs.Decisions.{Decides};
 ghost use Rattle.cat_decisions.specs.Drafts.{ArePlans, IsTransplantDraft, meta_of, paired, steps_are_held};
@@ -30,17 +30,25 @@ use cat_state::failure::Failure;
 use std::alloc::Global;
 
 /// Adds what the commit of a hash changed, if there is one.
-fn add_step(catalogue: &Catalogue, out: &mut Vec<Step>, hash: &Hash) -> Result<(), NoMemory>
-    ensures { OnOk result
+fn add_step(
+    alloc: Global,
+    catalogue: &Catalogue,
+    out: &mut Vec<Step>,
+    hash: &Hash,
+) -> Result<(), NoMemory>
+    ensures exact { OnOk result
         (map step_of out.new.items
         ≡ map step_of out.old.items
         ++ map (change_made catalogue.now.commits)
         (commits_at catalogue.now.commits (hash.now ∷ []))) }
+    ensures touched { AreTouched out.old.items → OnOk result (AreTouched out.new.items) }
 {
     if let Some(commit) = catalogue.commit(hash) {
+        let touched = catalogue.commits().touched_at(alloc, hash, commit)?;
         out.push(Step {
             base: catalogue.map_at(&commit.parent)?,
             source: catalogue.map_at(hash)?,
+            touched,
         })?;
     }
     Ok(())
@@ -48,13 +56,14 @@ fn add_step(catalogue: &Catalogue, out: &mut Vec<Step>, hash: &Hash) -> Result<(
 
 /// What commits changed.
 fn steps(alloc: Global, catalogue: &Catalogue, hashes: &[Hash]) -> Result<Vec<Step>, NoMemory>
-    ensures { IfOk result
+    ensures exact { IfOk result
         (λ steps. map step_of steps.items
         ≡ map (change_made catalogue.now.commits) (commits_at catalogue.now.commits hashes.now)) }
+    ensures touched { IfOk result (λ steps. AreTouched steps.items) }
 {
     let mut out = Vec::new(alloc);
     for hash in hashes {
-        add_step(catalogue, &mut out, hash)?;
+        add_step(alloc, catalogue, &mut out, hash)?;
     }
     Ok(out)
 }
@@ -110,6 +119,7 @@ fn plan_onto(
     steps: &[Step],
     head: &Hash,
 ) -> Result<Vec<Plan>, NoMemory>
+    requires touched { AreTouched steps.now }
     requires held { IsTrue (steps_are_held catalogue.now.present steps.now) }
     ensures exact { IfOk result
         (λ plans. map planned plans.items

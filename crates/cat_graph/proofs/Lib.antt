@@ -2,4 +2,5 @@ pub mod Alike
 pub mod Walks
 pub mod Ancestors
 pub mod Nearest
+pub mod TouchedKeys
 pub mod Meeting

@@ -1,3 +1,4 @@
 pub mod Linked
 pub mod GraphLaws
 pub mod Fronts
+pub mod Touched

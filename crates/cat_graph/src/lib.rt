@@ -10,3 +10,4 @@ pub mod add_fault;
 mod base;
 mod front;
 pub mod graph;
+mod touched;

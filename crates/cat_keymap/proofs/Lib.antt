@@ -3,7 +3,7 @@ pub mod Within
 pub mod Ranges
 pub mod Pages
 pub mod Sorting
-pub mod KeyLists
 pub mod Walks
 pub mod Twice
 pub mod LookUps
+pub mod Once

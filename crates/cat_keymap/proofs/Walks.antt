@@ -1,5 +1,5 @@
 -- Where two maps differ, from the lowest key on.
-use Rattle.std.proofs.Common.{◌≡◌, ℕ, suc, ◌+◌, ◌<◌, List, [], ◌∷◌, ◌++◌, length, get_or, drop, Option, Some, None, Bool, true, false, ◌&&◌, ◌||◌, ◌⊎◌, inl, inr, if◌then◌else◌, refl, sym, ap, ◌∙◌, arith, append_assoc, drop-cons}
+use Rattle.std.proofs.Common.{◌≡◌, List, [], ◌∷◌, ◌++◌, Option, Some, None, Bool, true, false, ◌&&◌, ◌||◌, ◌⊎◌, inl, inr, if◌then◌else◌, refl, sym, ap, ◌∙◌, append_assoc}
 use Rattle.std.specs.Prelude.{is_none, is_some, not}
 use Rattle.std.specs.Ordering.{is_lt, is_eq, ordering_reverse}
 use Rattle.std.specs.Cmp.{tied_back}
@@ -14,7 +14,7 @@ use Rattle.cat_keymap.specs.Places.{below, above}
 use Rattle.cat_model.specs.Changed.{keys_of, is_changed, changed_keys}
 use Rattle.cat_model.specs.KeySets.{key_set}
 use Rattle.cat_keymap.specs.MapLaws.{entry_is, none_above, none_past, key_same}
-use Rattle.cat_keymap.proofs.KeyLists.{is_in, one_list, rise_lower, rise_filter, set_rises, in_set, in_filter, in_both}
+use Rattle.cat_keymap.specs.KeyListLaws.{is_in, one_list, rise_lower, changed_rises, in_set, in_filter, in_both}
 use Rattle.cat_keymap.specs.Ordered.{rise}
 use Rattle.cat_keymap.specs.Walking.{unless_same, walk}
 use Rattle.cat_keymap.proofs.Within.{above_ascends, IsMap-above}
@@ -176,13 +176,13 @@ some_there None None = refl
 some_there None (Some b) = refl
 some_there (Some a) b = refl
 
+-- a key is among those whose entries differ where its own do
+pub changed_in : (a b : Map) (key : Key) → is_in key (changed_keys a b) ≡ is_changed a b key
+changed_in a b key =
+    let keys = keys_of a ++ keys_of b in
+    let there = in_set key keys ∙ in_both key (keys_of a) (keys_of b) ∙ (λ i. in_map a key i || in_map b key i) in
+    in_filter (is_changed a b) key (key_set keys) ∙ ap (λ (c : Bool). c && is_changed a b key) there ∙ sym (some_there (entry_of a key) (entry_of b key))
+
 -- the walk finds the keys whose entries differ
 pub walk_is : (a b : Map) → IsMap a → IsMap b → walk a b ≡ changed_keys a b
-walk_is a b up_a up_b =
-    one_list (walk a b) (changed_keys a b) (walk_rises a b up_a up_b) (rise_filter (is_changed a b) None (key_set (keys_of a ++ keys_of b)) (set_rises (keys_of a ++ keys_of b)))
-    (λ key. walk_in key a b up_a up_b ∙ sym (in_filter (is_changed a b) key (key_set (keys_of a ++ keys_of b)) ∙ there key))
-  where
-    there : (key : Key) → (is_in key (key_set (keys_of a ++ keys_of b)) && is_changed a b key) ≡ is_changed a b key
-    there key =
-        ap (λ (c : Bool). c && is_changed a b key) (in_set key (keys_of a ++ keys_of b) ∙ in_both key (keys_of a) (keys_of b) ∙ (λ i. in_map a key i || in_map b key i))
-        ∙ sym (some_there (entry_of a key) (entry_of b key))
+walk_is a b up_a up_b = one_list (walk a b) (changed_keys a b) (walk_rises a b up_a up_b) (changed_rises a b) (λ key. walk_in key a b up_a up_b ∙ sym (changed_in a b key))

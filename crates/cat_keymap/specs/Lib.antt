@@ -5,7 +5,9 @@ pub mod Shared
 pub mod Parents
 pub mod Ordered
 pub mod Parts
+pub mod KeyListLaws
 pub mod Range
+pub mod Among
 pub mod MapsAt
 pub mod Walking
 pub mod Unlike

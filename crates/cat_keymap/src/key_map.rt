@@ -10,6 +10,7 @@ ghost use Rattle.cat_model.specs.Judge.{changes_of};
 ghost use Rattle.cat_model.specs.Maps.{IsMap, entry_of, after_changes};
 ghost use Rattle.cat_model.specs.Namespaces;
 ghost use Rattle.cat_ordered.specs.Maps.{from_key};
+ghost use Rattle.cat_keymap.specs.Among.{Covers};
 ghost use Rattle.cat_keymap.specs.Ordered.{rise};
 ghost use Rattle.cat_keymap.specs.Parents;
 ghost use Rattle.cat_keymap.specs.Parts;
@@ -17,7 +18,7 @@ ghost use Rattle.cat_keymap.specs.Parts;
 use crate::changing::changed_pairs;
 use crate::listing::ListingPart;
 use crate::walk::Walk;
-use crate::{children, differing, listing, order};
+use crate::{among, children, differing, listing, order};
 use cat_codes::ascending::Ascending;
 use cat_codes::fault::NoMemory;
 use cat_codes::seq::Seq;
@@ -199,6 +200,21 @@ impl KeyMap {
         self.known();
         other.known();
         differing::changed(alloc, self.walk(), other.walk())
+    }
+
+    /// The keys whose entries differ in another map, ascending, where each of them is among these.
+    /// They may stand in any order, and may come more than once. It costs two searches for each.
+    pub fn changed_among(
+        &self,
+        alloc: Global,
+        other: &KeyMap,
+        among: &[ContentKey],
+    ) -> Result<Seq<ContentKey>, NoMemory>
+        requires { Covers among.now self.now other.now }
+        ensures exact { IfOk result (λ keys. keys ≡ changed_keys self.now other.now) }
+        ensures ascend { IfOk result (λ keys. IsTrue (rise None keys)) }
+    {
+        among::changed_among(alloc, self, other, among)
     }
 
     /// Whether a key of the map is a child of this one.

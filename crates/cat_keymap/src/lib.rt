@@ -5,6 +5,7 @@
 //! begin, and where two maps differ by a walk over both.
 #![tactic(auto)]
 
+mod among;
 mod changing;
 mod children;
 mod differing;

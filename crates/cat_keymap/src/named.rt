@@ -25,7 +25,8 @@ fn references(alloc: Global, keys: &[ContentKey]) -> Result<Vec<&ContentKey>, No
     Ok(out)
 }
 
-fn sorted(alloc: Global, keys: &[ContentKey]) -> Result<Vec<&ContentKey>, NoMemory>
+/// The keys, none below the one before it.
+pub(crate) fn sorted(alloc: Global, keys: &[ContentKey]) -> Result<Vec<&ContentKey>, NoMemory>
     ensures same { IfOk result (λ v. IsPermutation keys.now (map (λ k. k.now) v.items)) }
     ensures order { IfOk result (λ v. IsTrue (climbs key_cmp None (map (λ k. k.now) v.items))) }
 {

@@ -5,10 +5,12 @@ use Rattle.cat_names.specs.Fields.{Key}
 use Rattle.cat_model.specs.declared.conflict.Conflict.{Conflict}
 use Rattle.cat_model.specs.declared.conflict.ConflictKind.{ConflictKind}
 use Rattle.cat_model.specs.declared.merging.Modes.{Modes}
+use Rattle.cat_model.specs.Changed.{changed_keys}
 use Rattle.cat_model.specs.Judge.{conflict_at}
 use Rattle.cat_model.specs.Maps.{Map, Change, IsMap, after_changes}
 use Rattle.cat_model.specs.Namespaces.{is_well_formed}
 use Rattle.cat_model.specs.Plan.{Decision, keeps, sets, clashes, decided, set_by, fault_of, detail_of, changes_set, conflicts_of, Plan, plan_of}
+use Rattle.cat_keymap.specs.KeyListLaws.{changed_rises}
 use Rattle.cat_keymap.specs.Ordered.{rise}
 use Rattle.cat_rules.specs.WellFormed.{Keeps, stays_well_formed}
 use Rattle.cat_merge.proofs.Made.{changes_ascend}
@@ -29,6 +31,10 @@ all_kept base source target after modes (key ∷ keys) e =
     let d = decided base source target modes key in
     let parts = no_conflict_at key (fault_of target after key d) (conflicts_of (map (detail_of base source target modes after) keys)) e in
     one_kept target after d key (changes_set base source target modes keys) parts.0 (all_kept base source target after modes keys parts.1)
+
+-- the keys whose entries differ ascend
+pub ascending : (base source : Map) (keys : List Key) → keys ≡ changed_keys base source → rise None keys ≡ true
+ascending base source keys e = subst (λ (l : List Key). rise None l ≡ true) (sym e) (changed_rises base source)
 
 pub stays : (base source target : Map) (modes : Modes) (keys : List Key) (p : Plan) → rise None keys ≡ true → IsMap target → p ≡ plan_of base source target modes keys
     → is_well_formed target ≡ true → p.conflicts ≡ [] → is_well_formed p.map ≡ true

@@ -1,8 +1,9 @@
 -- Plans as the definitions have them.
-use Rattle.std.specs.Prelude.{◌≡◌, List, [], ◌∷◌}
+use Rattle.std.specs.Prelude.{◌≡◌, List, [], ◌∷◌, All}
 use Rattle.cat_model.specs.Maps.{Map, after_changes}
 use Rattle.cat_model.specs.Merges as merges
 use Rattle.cat_model.specs.Plan as definition
+use Rattle.cat_keymap.specs.Among.{Covers}
 use Rattle.cat_merge.specs.declared.plan.Plan.{Plan}
 use Rattle.cat_merge.specs.declared.plan.Planned.{Planned}
 use Rattle.cat_merge.specs.declared.transplant.Step.{Step}
@@ -17,6 +18,10 @@ as_planned p = record { merge_parent = p.merge_parent; meta = p.meta; plan = pla
 -- what a commit changed
 abbrev pub step_of : Step → Map × Map
 step_of s = (s.base, s.source)
+
+-- each key whose entries differ is among those that were touched
+abbrev pub AreTouched : List Step → Type 0
+AreTouched steps = All (λ s. Covers s.touched s.base s.source) steps
 
 -- the map that plans leave: the last one's, or the one before them
 abbrev pub map_after : Map → List Plan → Map

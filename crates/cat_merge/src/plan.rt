@@ -2,6 +2,7 @@
 
 ghost use Rattle.std.specs.Prelude.{Bool, IfOk, IsTrue, None, ◌≡◌, []};
 ghost use Rattle.std.specs.List.{list_all};
+ghost use Rattle.cat_model.specs.Changed.{changed_keys};
 ghost use Rattle.cat_model.specs.Maps.{after_changes};
 ghost use Rattle.cat_model.specs.Merges.{entries_set};
 ghost use Rattle.cat_model.specs.Namespaces.{is_well_formed};
@@ -70,16 +71,17 @@ fn plan_keys(
     })
 }
 
-/// What a merge of the source into the target does, given the map at their base. Beside one walk
-/// over base and source it costs a few searches for each key that the source changed, and one pass
-/// over the target.
+/// What a merge of the source into the target does, given the map at their base, and the keys whose
+/// entries differ in the source. It costs a few searches for each of these keys.
 pub fn plan_merge(
     alloc: Global,
     base: &KeyMap,
     source: &KeyMap,
     target: &KeyMap,
     modes: &Modes,
+    changed: Seq<ContentKey>,
 ) -> Result<Plan, NoMemory>
+    requires { changed ≡ changed_keys base.now source.now }
     ensures exact { IfOk result (λ p. planned p ≡ plan base.now source.now target.now modes.now) }
     ensures after { IfOk result (λ p. p.map ≡ after_changes p.ops target.now) }
     ensures well_formed { IsTrue (is_well_formed target.now)
@@ -93,6 +95,5 @@ pub fn plan_merge(
         → IfOk result (λ p. IsTrue (list_all (λ x. passes x.1) p.map)) }
 {
     target.known();
-    let keys = base.changed(alloc, source)?;
-    plan_keys(alloc, base, source, target, modes, keys)
+    plan_keys(alloc, base, source, target, modes, changed)
 }

@@ -5,13 +5,15 @@ ghost use Rattle.std.specs.List.{list_all};
 ghost use Rattle.cat_model.specs.Merges.{entries_set};
 ghost use Rattle.cat_model.specs.Namespaces.{is_well_formed};
 ghost use Rattle.cat_model.specs.Transplants.{plan_each};
-ghost use Rattle.cat_merge.specs.Planned.{AreUpon, map_after, planned, step_of};
+ghost use Rattle.cat_merge.specs.Planned.{AreTouched, AreUpon, map_after, planned, step_of};
 
 use crate::plan::{Plan, plan_merge};
 use cat_codes::fault::NoMemory;
+use cat_codes::seq::Seq;
 use cat_keymap::key_map::KeyMap;
 use cat_model::entry::Entry;
 use cat_model::merging::Modes;
+use cat_names::key::ContentKey;
 use std::alloc::Global;
 
 /// What a commit changed: from the map at its parent to the map at it.
@@ -19,6 +21,8 @@ use std::alloc::Global;
 pub struct Step {
     pub base: KeyMap,
     pub source: KeyMap,
+    /// Keys that have those whose entries differ among them, in any order.
+    pub touched: Seq<ContentKey>,
 }
 
 /// The map that plans leave.
@@ -33,13 +37,14 @@ fn map_after<'a>(target: &'a KeyMap, plans: &'a [Plan]) -> &'a KeyMap
 }
 
 /// The plans of changes in turn, each onto the map after the one before, also where that one has
-/// conflicts. Each costs what its merge does.
+/// conflicts. Each costs what its merge does, and two searches for each key that its step touched.
 pub fn plan_transplant(
     alloc: Global,
     steps: &[Step],
     target: &KeyMap,
     modes: &Modes,
 ) -> Result<Vec<Plan>, NoMemory>
+    requires { AreTouched steps.now }
     ensures exact { IfOk result
         (λ plans. map planned plans.items
         ≡ plan_each modes.now target.now (map step_of steps.now)) }
@@ -62,7 +67,9 @@ pub fn plan_transplant(
     let mut plans = Vec::new(alloc);
     for step in steps {
         let before = map_after(target, plans.as_slice());
-        let plan = plan_merge(alloc, &step.base, &step.source, before, modes)?;
+        let touched = step.touched.as_slice();
+        let changed = step.base.changed_among(alloc, &step.source, touched)?;
+        let plan = plan_merge(alloc, &step.base, &step.source, before, modes, changed)?;
         plans.push(plan)?;
     }
     Ok(plans)

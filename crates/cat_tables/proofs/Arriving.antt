@@ -1,10 +1,11 @@
--- Tables after one value more.
-use Rattle.std.proofs.Common.{◌≡◌, ℕ, zero, suc, ◌+◌, ◌<◌, ◌≤◌, List, [], ◌∷◌, ◌++◌, Option, Some, None, Bool, true, false, cond, length, nat_eq, nat_lt, if◌then◌else◌, refl, sym, ap, subst, ◌∙◌, arith}
+-- Values in the order of their arrival, and tables after one change.
+use Rattle.std.proofs.Common.{◌≡◌, ◌⊎◌, inl, inr, ℕ, zero, suc, ◌<◌, ◌≤◌, List, [], ◌∷◌, ◌++◌, Option, Some, None, Bool, true, false, cond, is_none, length, nat_eq, nat_lt, refl, sym, ap, subst, ◌∙◌, arith}
 use Rattle.std.proofs.lemmas.Bool.Decides.{nat_tests}
 use Rattle.std.proofs.lemmas.List.{length-append}
 use Rattle.std.proofs.lemmas.List.Folds.{list_all-append}
 use Rattle.std.proofs.lemmas.Option.{none-some}
-use Rattle.std.specs.Cmp.Lexicographic.{texts_ties}
+use Rattle.std.specs.Cmp.{IsTotalOrder, tied_itself}
+use Rattle.std.specs.Cmp.Lexicographic.{on_texts, texts_ties}
 use Rattle.std.specs.List.{list_all}
 use Rattle.std.specs.Option.{option_map}
 use Rattle.std.specs.Ordering.{is_eq}
@@ -15,7 +16,7 @@ use Rattle.cat_ordered.specs.Maps as ordered
 use Rattle.cat_tables.specs.declared.table.Placed.{Placed}
 use Rattle.cat_tables.specs.Arrivals.{at_place, arrived, IsPlaced}
 use Rattle.cat_tables.specs.HashOrder.{hash_cmp}
-use Rattle.cat_tables.specs.ReferenceLaws.{both_true, and_true, split}
+use Rattle.cat_tables.specs.ReferenceLaws.{both_true, and_true, split, either}
 use Rattle.cat_tables.specs.Tables.{same_hash, value_of, are_distinct}
 use Rattle.cat_tables.proofs.Places.{same_is}
 
@@ -25,6 +26,9 @@ pub split3 : {P : Type 0} (o : Ordering) → (o ≡ Less → P) → (o ≡ Equal
 split3 Less f g h = f refl
 split3 Equal f g h = g refl
 split3 Greater f g h = h refl
+
+pub hash_total : IsTotalOrder hash_cmp
+hash_total = on_texts (λ h. h.bytes)
 
 -- hashes are the same where they compare equal
 pub ties : (a b : Hash) → same_hash a b ≡ is_eq (hash_cmp a b)
@@ -42,7 +46,7 @@ module _ {A : Type 0} where
   exchanged true false x y rest never = refl
   exchanged false c x y rest never = refl
 
-  absent_parts : (b : Bool) (x : A) (rest : Option A) → cond b (Some x) rest ≡ None → (b ≡ false) × (rest ≡ None)
+  pub absent_parts : (b : Bool) (x : A) (rest : Option A) → cond b (Some x) rest ≡ None → (b ≡ false) × (rest ≡ None)
   absent_parts true x rest e = absurd (none-some x (sym e))
   absent_parts false x rest e = (refl, e)
 
@@ -50,7 +54,7 @@ module _ {A : Type 0} where
   kept_front true x all front back e = ap (λ (l : List A). x ∷ l) e
   kept_front false x all front back e = e
 
-  both_empty : (front back : List A) → front ++ back ≡ [] → (front ≡ []) × (back ≡ [])
+  pub both_empty : (front back : List A) → front ++ back ≡ [] → (front ≡ []) × (back ≡ [])
   both_empty [] back e = (refl, e)
   both_empty (x ∷ front) back e = absurd cc
 
@@ -125,9 +129,88 @@ module _ {V : Type 0} where
       ∙ found_among x m.front m.back hash (ap (λ (l : List (Hash × Placed V)). ordered.value_of hash_cmp l x.0) (sym m.was) ∙ absent)
       ∙ ap (λ (l : List (Hash × Placed V)). cond (is_eq (hash_cmp x.0 hash)) (Some x.1) (ordered.value_of hash_cmp l hash)) (sym m.was)
 
-  -- ---- one more
+  -- ---- each value is found in the order of arrival
 
-  below_more : (n m : ℕ) (pairs : List (Hash × Placed V)) → n ≤ m → list_all (λ x. nat_lt x.1.place n) pairs ≡ true → list_all (λ x. nat_lt x.1.place m) pairs ≡ true
+  abbrev In : Hash × V → List (Hash × V) → Type 0
+  In x [] = ⊥
+  In x (y ∷ list) = (x ≡ y) ⊎ In x list
+
+  in_front : (x : Hash × V) (front back : List (Hash × V)) → In x front → In x (front ++ back)
+  in_front x [] back at = absurd at
+  in_front x (y ∷ front) back (inl e) = inl e
+  in_front x (y ∷ front) back (inr at) = inr (in_front x front back at)
+
+  in_back : (x : Hash × V) (front back : List (Hash × V)) → In x back → In x (front ++ back)
+  in_back x [] back at = at
+  in_back x (y ∷ front) back at = inr (in_back x front back at)
+
+  is_there : (hash : Hash) (value : V) (list : List (Hash × V)) → are_distinct list ≡ true → In (hash, value) list → value_of list hash ≡ Some value
+  is_there hash value [] are at = absurd at
+  is_there hash value (x ∷ list) are (inl e) =
+      let same : same_hash x.0 hash ≡ true = ties x.0 hash ∙ ap (λ (y : Hash × V). is_eq (hash_cmp y.0 hash)) (sym e) ∙ ap is_eq (tied_itself hash_total hash) in
+      rw same (ap (λ (y : Hash × V). Some y.1) (sym e))
+  is_there hash value (x ∷ list) are (inr at) =
+      let parts = and_true (is_none (value_of list x.0)) (are_distinct list) are in
+      let rest = is_there hash value list parts.1 at in
+      split (same_hash x.0 hash)
+      (λ e. let some : is_none (value_of list x.0) ≡ false = ap (λ (h : Hash). is_none (value_of list h)) (same_is x.0 hash e) ∙ ap is_none rest in let none = parts.0 in absurd cc)
+      (λ e. rw e rest)
+
+  some_in : (hash : Hash) (p : Placed V) (pairs : List (Hash × Placed V)) → ordered.value_of hash_cmp pairs hash ≡ Some p → In (hash, p.value) (at_place p.place pairs)
+  some_in hash p [] e = absurd (none-some p e)
+  some_in hash p (x ∷ pairs) e = split (is_eq (hash_cmp x.0 hash))
+      (λ h.
+      let one : x.1 ≡ p = let found : Some x.1 ≡ Some p = rw h at e in cc in
+      let own : nat_eq x.1.place p.place ≡ true = ap (λ (q : Placed V). nat_eq q.place p.place) one ∙ grind (arith, nat_tests) in
+      rw own (inl (λ i. (sym (same_is x.0 hash (ties x.0 hash ∙ h)) i, (sym one i).value))))
+      (λ h.
+      let rest = some_in hash p pairs (rw h at e) in
+      either (λ (l : List (Hash × V)). In (hash, p.value) l) (nat_eq x.1.place p.place) _ _ (λ k. inr rest) (λ k. rest))
+
+  in_arrived : (x : Hash × V) (i n : ℕ) (pairs : List (Hash × Placed V)) → i < n → In x (at_place i pairs) → In x (arrived n pairs)
+  in_arrived x i zero pairs lt at = absurd (omega (arith, lt))
+  in_arrived x i (suc n) pairs lt at = split (nat_eq i n)
+      (λ e. in_front x (at_place n pairs) (arrived n pairs) (subst (λ (k : ℕ). In x (at_place k pairs)) (grind (arith, nat_tests)) at))
+      (λ e. in_back x (at_place n pairs) (arrived n pairs) (in_arrived x i n pairs (grind (arith, nat_tests)) at))
+
+  place_below : (n : ℕ) (hash : Hash) (p : Placed V) (pairs : List (Hash × Placed V)) → list_all (λ x. nat_lt x.1.place n) pairs ≡ true → ordered.value_of hash_cmp pairs hash ≡ Some p → p.place < n
+  place_below n hash p [] below e = absurd (none-some p e)
+  place_below n hash p (x ∷ pairs) below e =
+      let parts = and_true (nat_lt x.1.place n) (list_all (λ y. nat_lt y.1.place n) pairs) below in
+      split (is_eq (hash_cmp x.0 hash))
+      (λ h.
+      let one : x.1 ≡ p = let found : Some x.1 ≡ Some p = rw h at e in cc in
+      let here : nat_lt p.place n ≡ true = ap (λ (q : Placed V). nat_lt q.place n) (sym one) ∙ parts.0 in
+      grind (arith, nat_tests))
+      (λ h. place_below n hash p pairs parts.1 (rw h at e))
+
+  none_both : (front back : List (Hash × V)) (hash : Hash) → value_of front hash ≡ None → value_of back hash ≡ None → value_of (front ++ back) hash ≡ None
+  none_both [] back hash e f = f
+  none_both (x ∷ front) back hash e f = let parts = absent_parts (same_hash x.0 hash) x.1 (value_of front hash) e in rw parts.0 (none_both front back hash parts.1 f)
+
+  none_here : (i : ℕ) (hash : Hash) (pairs : List (Hash × Placed V)) → ordered.value_of hash_cmp pairs hash ≡ None → value_of (at_place i pairs) hash ≡ None
+  none_here i hash [] e = refl
+  none_here i hash (x ∷ pairs) e =
+      let parts = absent_parts (is_eq (hash_cmp x.0 hash)) x.1 (ordered.value_of hash_cmp pairs hash) e in
+      let rest = none_here i hash pairs parts.1 in
+      let other : same_hash x.0 hash ≡ false = ties x.0 hash ∙ parts.0 in
+      either (λ (l : List (Hash × V)). value_of l hash ≡ None) (nat_eq x.1.place i) _ _ (λ k. rw other rest) (λ k. rest)
+
+  none_arrived : (n : ℕ) (hash : Hash) (pairs : List (Hash × Placed V)) → ordered.value_of hash_cmp pairs hash ≡ None → value_of (arrived n pairs) hash ≡ None
+  none_arrived zero hash pairs e = refl
+  none_arrived (suc n) hash pairs e = none_both (at_place n pairs) (arrived n pairs) hash (none_here n hash pairs e) (none_arrived n hash pairs e)
+
+  pub found_of : (n : ℕ) (pairs : List (Hash × Placed V)) (hash : Hash) → list_all (λ x. nat_lt x.1.place n) pairs ≡ true → are_distinct (arrived n pairs) ≡ true
+      → value_of (arrived n pairs) hash ≡ option_map (λ p. p.value) (ordered.value_of hash_cmp pairs hash)
+  found_of n pairs hash below are = by (ordered.value_of hash_cmp pairs hash) refl
+    where
+      by : (found : Option (Placed V)) → ordered.value_of hash_cmp pairs hash ≡ found → value_of (arrived n pairs) hash ≡ option_map (λ p. p.value) (ordered.value_of hash_cmp pairs hash)
+      by None e = rw e (none_arrived n hash pairs e)
+      by (Some p) e = rw e (is_there hash p.value (arrived n pairs) are (in_arrived (hash, p.value) p.place n pairs (place_below n hash p pairs below e) (some_in hash p pairs e)))
+
+  -- ---- what is known of a table
+
+  pub below_more : (n m : ℕ) (pairs : List (Hash × Placed V)) → n ≤ m → list_all (λ x. nat_lt x.1.place n) pairs ≡ true → list_all (λ x. nat_lt x.1.place m) pairs ≡ true
   below_more n m [] le below = refl
   below_more n m (x ∷ pairs) le below =
       let parts = and_true (nat_lt x.1.place n) (list_all (λ y. nat_lt y.1.place n) pairs) below in
@@ -140,40 +223,3 @@ module _ {V : Type 0} where
 
   pub absent_there : (hash : Hash) (pairs : List (Hash × Placed V)) → IsPlaced pairs → value_of (arrived (length pairs) pairs) hash ≡ None → ordered.value_of hash_cmp pairs hash ≡ None
   absent_there hash pairs are absent = none_mapped (λ p. p.value) _ (sym (are.found hash) ∙ absent)
-
-  arrived_more : (hash : Hash) (p : Placed V) (pairs more : List (Hash × Placed V)) → IsPlaced pairs → p.place ≡ length pairs → IsMore (hash, p) pairs more
-      → arrived (length more) more ≡ (hash, p.value) ∷ arrived (length pairs) pairs
-  arrived_more hash p pairs more are last m =
-      let n = length pairs in
-      let own : nat_eq p.place n ≡ true = grind (arith, nat_tests, last) in
-      let here = at_own n (hash, p) pairs more own (none_at n n pairs (omega arith) are.below) m in
-      let others = arrived_alike n pairs more (λ i lt. at_other i (hash, p) pairs more (grind (arith, nat_tests, last, lt)) m) in
-      ap (λ (k : ℕ). arrived k more) (more_long (hash, p) pairs more m) ∙ (λ j. here j ++ others j)
-
-  value_by : (b c : Bool) (p : Placed V) (value : Option V) (found : Option (Placed V)) → b ≡ c → value ≡ option_map (λ q. q.value) found
-      → cond b (Some p.value) value ≡ option_map (λ q. q.value) (cond c (Some p) found)
-  value_by true true p value found same e = refl
-  value_by true false p value found same e = absurd cc
-  value_by false true p value found same e = absurd cc
-  value_by false false p value found same e = e
-
-  pub placed_more : (hash : Hash) (p : Placed V) (pairs more : List (Hash × Placed V)) → IsPlaced pairs → p.place ≡ length pairs → value_of (arrived (length pairs) pairs) hash ≡ None
-      → more ≡ ordered.after_change hash_cmp (hash, Some p) pairs → IsPlaced more × (arrived (length more) more ≡ (hash, p.value) ∷ arrived (length pairs) pairs)
-  placed_more hash p pairs more are last absent is =
-      let none = absent_there hash pairs are absent in
-      let m : IsMore (hash, p) pairs more = subst (λ (l : List (Hash × Placed V)). IsMore (hash, p) pairs l) (sym is) (put_more hash p pairs none) in
-      let view = arrived_more hash p pairs more are last m in
-      let long = more_long (hash, p) pairs more m in
-      let number = are.number in
-      let size = ap length view in
-      let own : nat_lt p.place (length more) ≡ true = grind (arith, nat_tests, last, long) in (
-        record {
-          below = more_pass (λ x. nat_lt x.1.place (length more)) (hash, p) pairs more own (below_more (length pairs) (length more) pairs (omega (arith, long)) are.below) m;
-          number = omega (arith, long, number, size);
-          distinct = ap are_distinct view ∙ rw absent are.distinct;
-          found = λ other. ap (λ (l : List (Hash × V)). value_of l other) view
-              ∙ value_by (same_hash hash other) (is_eq (hash_cmp hash other)) p _ _ (ties hash other) (are.found other)
-              ∙ ap (option_map (λ q. q.value)) (sym (found_more (hash, p) pairs more other none m));
-        },
-        view,
-      )

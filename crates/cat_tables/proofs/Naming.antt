@@ -13,7 +13,7 @@ use Rattle.cat_model.specs.declared.reference.Reference.{Reference}
 use Rattle.cat_model.specs.State.{reference_of, with_reference, without_reference, moved_reference}
 use Rattle.cat_ordered.specs.Maps.{value_of, after_change, first_of, from_key}
 use Rattle.cat_tables.specs.References.{is_below, names_ascend, AreNamed}
-use Rattle.cat_tables.specs.ReferenceLaws.{and_true, both_true, same_name, is_same, below_trans, other_name, not_above, other_name_above, is_above, absent_parts}
+use Rattle.cat_tables.specs.ReferenceLaws.{and_true, both_true, same_name, is_same, below_trans, other_name, not_above, other_name_above, absent_parts}
 use Rattle.cat_tables.proofs.Arriving.{split3}
 
 abbrev Name : Type 0

@@ -1,26 +1,17 @@
 -- Where the values of a table stand.
-use Rattle.std.proofs.Common.{◌≡◌, ℕ, ◌<◌, List, [], ◌∷◌, ◌++◌, Option, Some, None, Bool, true, false, cond, length, get_or, reverse, is_none, ◌&&◌, refl, sym, ap, subst, ◌∙◌, arith}
+use Rattle.std.proofs.Common.{◌≡◌, ℕ, ◌<◌, List, [], ◌∷◌, ◌++◌, Option, Some, None, Bool, true, false, cond, length, get_or, reverse, refl, sym, ap, subst, ◌∙◌, arith}
 use Rattle.std.proofs.lemmas.List.{reverse-append, length-reverse, reverse-reverse, get_or_append_left}
 use Rattle.std.proofs.Math.Seq.{get_or-append_seam}
 use Rattle.std.proofs.lemmas.Option.{none-some}
 use Rattle.std.specs.Cmp.Lexicographic.{bytes_decides}
 use Rattle.std.specs.Map.{lookup}
 use Rattle.cat_names.specs.declared.hash.Hash.{Hash}
-use Rattle.cat_tables.specs.Tables.{same_hash, value_of, are_distinct, place_of, IsIndexed}
+use Rattle.cat_tables.specs.Tables.{same_hash, value_of, place_of, IsIndexed}
 
 -- ---- hashes
 
 pub same_is : (a b : Hash) → same_hash a b ≡ true → a ≡ b
 same_is a b e = ap (λ (bytes : List ℕ). record { bytes = bytes }) ((bytes_decides a.bytes b.bytes).0 e)
-
-parts : (b c : Bool) → (b && c) ≡ true → (b ≡ true) × (c ≡ true)
-parts true true e = (refl, refl)
-parts true false e = absurd cc
-parts false c e = absurd cc
-
-none_left : (b : Bool) (n : ℕ) (place : Option ℕ) → (b ≡ true → place ≡ None) → cond b None (cond b (Some n) place) ≡ place
-none_left true n place gone = sym (gone refl)
-none_left false n place gone = refl
 
 -- none in both, where the same test stands before both
 none_by : {A B : Type 0} (b : Bool) (x : A) (y : B) (first : Option A) (second : Option B) → cond b (Some x) first ≡ None → (first ≡ None → second ≡ None) → cond b (Some y) second ≡ None
@@ -30,10 +21,6 @@ none_by false x y first second e more = more e
 -- ---- places and values
 
 module _ {V : Type 0} where
-  no_place : (list : List (Hash × V)) (hash : Hash) → value_of list hash ≡ None → place_of list hash ≡ None
-  no_place [] hash e = refl
-  no_place (x ∷ older) hash e = none_by (same_hash x.0 hash) x.1 (length older) (value_of older hash) (place_of older hash) e (no_place older hash)
-
   pub no_value : (list : List (Hash × V)) (hash : Hash) → place_of list hash ≡ None → value_of list hash ≡ None
   no_value [] hash e = refl
   no_value (x ∷ older) hash e = none_by (same_hash x.0 hash) (length older) x.1 (place_of older hash) (value_of older hash) e (no_value older hash)
@@ -84,22 +71,6 @@ module _ {V : Type 0} where
     found = λ other. puts other ∙ ap (λ (place : Option ℕ). cond (same_hash hash other) (Some (length list)) place) (are.found other);
   }
 
-  is_absent : (value : Option V) → is_none value ≡ true → value ≡ None
-  is_absent None e = refl
-  is_absent (Some v) e = absurd cc
-
-  -- without the newest
-  pub indexed_less : (x : Hash × V) (older : List (Hash × V)) (places less : List (Hash × ℕ)) → IsIndexed (x ∷ older) places
-      → ((other : Hash) → lookup (same_hash other) less ≡ cond (same_hash x.0 other) None (lookup (same_hash other) places)) → IsIndexed older less
-  indexed_less x older places less are takes =
-      let apart = parts (is_none (value_of older x.0)) (are_distinct older) are.distinct in
-      let gone : (other : Hash) → same_hash x.0 other ≡ true → place_of older other ≡ None =
-      λ other e. subst (λ (h : Hash). place_of older h ≡ None) (same_is x.0 other e) (no_place older x.0 (is_absent _ apart.0)) in
-      record {
-        distinct = apart.1;
-        found = λ other. takes other ∙ ap (λ (place : Option ℕ). cond (same_hash x.0 other) None place) (are.found other) ∙ none_left (same_hash x.0 other) (length older) (place_of older other) (gone other);
-      }
-
   -- the same look-ups
   pub indexed_alike : (list : List (Hash × V)) (places others : List (Hash × ℕ)) → IsIndexed list places → ((hash : Hash) → lookup (same_hash hash) others ≡ lookup (same_hash hash) places) → IsIndexed list others
   indexed_alike list places others are alike = record { distinct = are.distinct; found = λ hash. alike hash ∙ are.found hash }
@@ -111,7 +82,3 @@ module _ {V : Type 0} where
       → ((other : Hash) → lookup (same_hash other) more ≡ cond (same_hash hash other) (Some n) (lookup (same_hash other) places)) → IsIndexed (reverse (items ++ (hash, value) ∷ [])) more
   indexed_push hash value items places more n are absent all puts =
       rw (last_first items (hash, value)) (indexed_more hash value (reverse items) places more are absent (λ other. puts other ∙ ap (λ (k : ℕ). cond (same_hash hash other) (Some k) (lookup (same_hash other) places)) (all ∙ sym (length-reverse items))))
-
-  pub indexed_pop : (x : Hash × V) (items : List (Hash × V)) (places less : List (Hash × ℕ)) → IsIndexed (reverse (items ++ x ∷ [])) places
-      → ((other : Hash) → lookup (same_hash other) less ≡ cond (same_hash x.0 other) None (lookup (same_hash other) places)) → IsIndexed (reverse items) less
-  indexed_pop x items places less are takes = indexed_less x (reverse items) places less (subst (λ (list : List (Hash × V)). IsIndexed list places) (last_first items x) are) takes

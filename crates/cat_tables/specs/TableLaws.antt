@@ -1,5 +1,5 @@
 -- Values that are added again, the oldest first.
-use Rattle.std.proofs.Common.{◌≡◌, ℕ, ◌+◌, ◌<◌, List, [], ◌∷◌, ◌++◌, Option, Some, None, true, is_none, length, get_or, take, drop, reverse, refl, sym, ap, subst, ◌∙◌, append_assoc}
+use Rattle.std.proofs.Common.{◌≡◌, ℕ, ◌+◌, ◌<◌, List, [], ◌∷◌, ◌++◌, Option, Some, None, true, is_none, length, get_or, take, drop, reverse, refl, sym, ap, subst, ◌∙◌}
 use Rattle.std.proofs.lemmas.List.{reverse-append, take-append-drop, take_more}
 use Rattle.cat_names.specs.declared.hash.Hash.{Hash}
 use Rattle.cat_tables.specs.ReferenceLaws.{and_true}
@@ -30,12 +30,4 @@ module _ {V : Type 0} where
       = sym all ∙ ap reverse (sym (take-append-drop (i + 1) items)) ∙ reverse-append (take (i + 1) items) (drop (i + 1) items)
       ∙ ap (λ (l : List (Hash × V)). reverse (drop (i + 1) items) ++ l) (sym (next_is_added items i x before was lt is)) in
       let up = older_distinct (reverse (drop (i + 1) items)) (x ∷ before) (subst (λ (l : List (Hash × V)). are_distinct l ≡ true) apart are) in
-      is_absent _ (and_true (is_none (value_of before x.0)) (are_distinct before) up).0
-
-  -- the next one to be put above others has a hash that none of them has
-  pub next_is_new : (left : List (Hash × V)) (x : Hash × V) (rest before list : List (Hash × V)) → left ≡ x ∷ rest → reverse left ++ before ≡ list → are_distinct list ≡ true → value_of before x.0 ≡ None
-  next_is_new left x rest before list is all are =
-      let apart : list ≡ reverse rest ++ x ∷ before
-      = sym all ∙ ap (λ (l : List (Hash × V)). reverse l ++ before) is ∙ ap (λ (l : List (Hash × V)). l ++ before) (reverse-append (x ∷ []) rest) ∙ append_assoc (reverse rest) (x ∷ []) before in
-      let up = older_distinct (reverse rest) (x ∷ before) (subst (λ (l : List (Hash × V)). are_distinct l ≡ true) apart are) in
       is_absent _ (and_true (is_none (value_of before x.0)) (are_distinct before) up).0

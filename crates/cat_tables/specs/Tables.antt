@@ -1,5 +1,5 @@
 -- Values under hashes.
-use Rattle.std.specs.Prelude.{ℕ, List, [], ◌∷◌, Option, Some, None, Bool, true, ◌&&◌, ◌≡◌, is_some, is_none, if◌then◌else◌, length, IsTrue}
+use Rattle.std.specs.Prelude.{ℕ, List, [], ◌∷◌, Option, Some, None, Bool, true, ◌&&◌, ◌≡◌, is_none, if◌then◌else◌, length, IsTrue}
 use Rattle.std.specs.Map.{lookup}
 use Rattle.std.specs.Str.{bytes_eq}
 use Rattle.cat_names.specs.declared.hash.Hash.{Hash}
@@ -17,10 +17,6 @@ same_hash a b = bytes_eq a.bytes b.bytes
 abbrev pub value_of : {V : Type 0} → List (Hash × V) → Hash → Option V
 value_of [] hash = None
 value_of (x ∷ older) hash = if same_hash x.0 hash then Some x.1 else value_of older hash
-
--- one value more, unless there is one of its hash
-abbrev pub with_value : {V : Type 0} → Hash → V → List (Hash × V) → List (Hash × V)
-with_value hash value list = if is_some (value_of list hash) then list else (hash, value) ∷ list
 
 -- no hash comes twice
 abbrev pub are_distinct : {V : Type 0} → List (Hash × V) → Bool

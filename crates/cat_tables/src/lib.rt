@@ -6,6 +6,7 @@
 //! one go is gathered in a batch first.
 #![tactic(auto)]
 
+mod adding;
 pub mod batch;
 pub mod references;
 pub mod table;

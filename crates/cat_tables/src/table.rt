@@ -1,13 +1,13 @@
 //! Tables whose versions share their values.
 
-ghost use Rattle.std.specs.Prelude.{◌≡◌, [], ◌∷◌, ◌++◌, None, IfOk, IsTrue, length};
+ghost use Rattle.std.specs.Prelude.{◌≡◌, [], ◌++◌, IfOk, IsTrue, length};
 ghost use Rattle.std.specs.Option.{option_map};
 ghost use Rattle.cat_tables.specs.Tables.{are_distinct, value_of};
 
+use crate::adding::sorted_changes;
 use crate::batch::Batch;
 use cat_codes::fault::NoMemory;
 use cat_names::hash::Hash;
-use cat_ordered::change::Change;
 use cat_ordered::ordered_map::OrderedMap;
 use std::alloc::{AllocError, Global};
 use std::marker::Model;
@@ -85,27 +85,14 @@ impl<V: Drop> Table<V> {
         }
     }
 
-    /// The table with one value more, under a hash that is not there.
-    fn with_next(&self, alloc: Global, hash: Hash, value: V) -> Result<Table<V>, NoMemory>
-        requires { value_of self.now hash ≡ None }
-        ensures { IfOk result (λ table. table ≡ (hash, value) ∷ self.now) }
-    {
-        let place = self.len();
-        let change = Change::put(alloc, hash, Placed { place, value })?;
-        Ok(Table {
-            placed: self.placed.with_changes(alloc, &[change])?,
-        })
-    }
-
     /// The table with the values of a batch, under hashes that are not there, above its own.
     pub fn with(&self, alloc: Global, more: Batch<V>) -> Result<Table<V>, NoMemory>
         requires { IsTrue (are_distinct (more.list ++ self.now)) }
         ensures { IfOk result (λ table. table ≡ more.list ++ self.now) }
     {
-        let mut table = self.clone()?;
-        for (hash, value) in more.items {
-            table = table.with_next(alloc, hash, value)?;
-        }
-        Ok(table)
+        let changes = sorted_changes(alloc, self.len(), more.items)?;
+        Ok(Table {
+            placed: self.placed.with_changes(alloc, changes.as_slice())?,
+        })
     }
 }

@@ -151,6 +151,26 @@ fn a_chain_of_a_thousand_commits_is_walked(rt: HostRuntime) {
     assert!(rt; is_base(&graph, alloc, 1000, 2000, 1));
 }
 
+/// How many keys the commits between two touched, if they come from the one to the other, and are
+/// so few with their keys.
+fn touched(graph: &Graph, alloc: Global, from: u64, to: u64, most: usize) -> Option<usize> {
+    match graph.touched(alloc, &hash(from), &hash(to), most) {
+        Ok(found) => found.map(|keys| keys.len()),
+        Err(_) => None,
+    }
+}
+
+#[test]
+fn the_keys_of_too_many_commits_are_not_told(rt: HostRuntime) {
+    let alloc = rt.alloc();
+    let mut graph = Graph::new(alloc);
+    assert!(rt; add_chain(&mut graph, alloc, 0, 9));
+    assert!(rt; touched(&graph, alloc, 9, 4, 5) == Some(0));
+    assert!(rt; touched(&graph, alloc, 9, 4, 4) == None);
+    assert!(rt; touched(&graph, alloc, 9, 0, 9) == Some(0));
+    assert!(rt; touched(&graph, alloc, 4, 9, 9) == None);
+}
+
 /// Whether a graph has a chain of so many commits and no more.
 fn has_chain(graph: &Graph, alloc: Global, count: u64) -> bool {
     graph.len() as u64 == count

@@ -9,8 +9,6 @@ mod asking;
 #[cfg(test)]
 mod codes;
 #[cfg(test)]
-mod copies;
-#[cfg(test)]
 mod desk;
 #[cfg(test)]
 mod disks;
@@ -48,3 +46,5 @@ mod rival;
 mod serving;
 #[cfg(test)]
 mod streams;
+#[cfg(test)]
+mod views;

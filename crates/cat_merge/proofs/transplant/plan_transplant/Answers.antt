@@ -1,9 +1,18 @@
-use Rattle.std.proofs.Common.{◌≡◌, ◌∙◌, ap, subst, arith}
+use Rattle.std.proofs.Common.{◌≡◌, ◌∙◌, ap, subst, sym, arith}
 use Rattle.cat_model.specs.Maps.{Map}
 use Rattle.cat_model.specs.Plan as definition
+use Rattle.cat_keymap.specs.Among.{Covers}
+use Rattle.cat_merge.specs.declared.transplant.Step.{Step}
 use Rattle.cat_merge.specs.Planned.{map_after}
 use Rattle.cat_merge.proofs.InTurn.{Fits, are_upon, are_well_formed, entries_pass, fit_more, one_more, sets_pass, source_passes}
 use Rattle.cat_merge.proofs.transplant.plan_transplant.Goals as goal
+
+pub changed_among-requires : goal.changed_among-requires
+changed_among-requires c =
+    let steps = c.args.steps.now in
+    let s = c.step-item.result in
+    let covers : Covers s.touched s.base s.source = subst (λ (s : Step). Covers s.touched s.base s.source) (sym c.step-item.is) (c.requires c.loop-step.step-index s (omega arith)) in
+    rw c.as_slice-touched.ensures covers
 
 pub loop-step-preserved : goal.loop-step-preserved
 loop-step-preserved c =

@@ -7,7 +7,9 @@ use Rattle.std.specs.Ordering.{is_lt, is_eq, ordering_reverse}
 use Rattle.std.specs.declared.cmp.Ordering.TheVariants.{Less, Equal, Greater}
 use Rattle.cat_codes.specs.Code.{follows}
 use Rattle.cat_names.specs.Fields.{Key, key_cmp}
+use Rattle.cat_model.specs.Changed.{keys_of, is_changed, changed_keys}
 use Rattle.cat_model.specs.KeySets.{with_one, key_set}
+use Rattle.cat_model.specs.Maps.{Map}
 use Rattle.cat_keymap.specs.KeyOrder.{key_total, less_is, split3, both_true, and_true}
 use Rattle.cat_keymap.specs.MapLaws.{key_same}
 use Rattle.cat_keymap.specs.Ordered.{rise}
@@ -151,7 +153,11 @@ rise_filter p last (x ∷ keys) up = by (tail last x keys up) (rise_filter p (So
     by t rest true e = rw e (both_true _ _ t.0 rest)
     by t rest false e = rw e (rise_lower x last (filter p keys) t.0 rest)
 
-and_false : (a : Bool) → (a && false) ≡ false
+-- the keys whose entries differ ascend
+pub changed_rises : (a b : Map) → rise None (changed_keys a b) ≡ true
+changed_rises a b = rise_filter (is_changed a b) None (key_set (keys_of a ++ keys_of b)) (set_rises (keys_of a ++ keys_of b))
+
+pub and_false : (a : Bool) → (a && false) ≡ false
 and_false true = refl
 and_false false = refl
 

@@ -1,4 +1,4 @@
-//! Copies of a catalogue, and a view that is held while the catalogue is changed.
+//! A view that is held while the catalogue is changed.
 
 ghost use Rattle.std.specs.Prelude.{◌≡◌, IsTrue};
 ghost use Rattle.sha2.specs.Sha256.{sha256};
@@ -12,7 +12,6 @@ use cat_content::hash;
 use cat_core::Store;
 use cat_keeper::MemKeeper;
 use cat_model::command::Command;
-use cat_model::content::Content;
 use cat_model::limits::Limits;
 use cat_model::moment::Moment;
 use cat_names::hash::Hash;
@@ -50,39 +49,30 @@ fn counts(found: &Counts, place: u32, references: u64) -> bool {
         && Some(found.head) == Hash::parse(FIRST)
 }
 
-/// Whether each content stands under its hash.
-fn are_under_their_hashes(alloc: Global, contents: &[(Hash, Content)]) -> bool {
-    for pair in contents {
-        if hash(alloc, &pair.1) != Ok(pair.0) {
-            return false;
-        }
-    }
-    true
-}
-
-/// Whether a copy counts the same, and has the same commit, content and entry of a key.
-fn is_same(alloc: Global, catalogue: &Catalogue, copy: &Catalogue, key: &ContentKey) -> bool {
+/// Whether a catalogue has one commit, which is the first, and a key's content under its hash.
+fn has_first(alloc: Global, catalogue: &Catalogue, key: &ContentKey) -> bool {
     let head = catalogue.main_head();
-    let entry = copy.entry_at(&head, key);
-    counts(&copy.counts(), 1, 1)
-        && copy.commits().get(&head) == catalogue.commits().get(&head)
-        && are_under_their_hashes(alloc, copy.contents().as_slice())
-        && entry.is_some()
-        && entry == catalogue.entry_at(&head, key)
+    let Some(entry) = catalogue.entry_at(&head, key) else {
+        return false;
+    };
+    let Some(content) = catalogue.contents().get(&entry.hash) else {
+        return false;
+    };
+    counts(&catalogue.counts(), 1, 1)
+        && catalogue.commits().get(&head).is_some()
+        && hash(alloc, content) == Ok(entry.hash)
 }
 
-/// Whether a copy of a catalogue is the same, as far as this key tells.
-fn is_copied<R: Abort>(rt: &R, alloc: Global, catalogue: &Catalogue, path: &str) -> bool {
-    let (Ok(copy), Ok(key)) = (catalogue.copy(alloc), ContentKey::parse_path(alloc, path)) else {
+/// Whether a catalogue has one commit, which is the first, and the content at `t1` under its hash.
+fn is_first<R: Abort>(rt: &R, alloc: Global, catalogue: &Catalogue) -> bool {
+    let Ok(key) = ContentKey::parse_path(alloc, "t1") else {
         panic!(rt; "there is memory");
     };
-    let is_so = is_same(alloc, catalogue, &copy, &key);
-    drop(copy);
-    is_so
+    has_first(alloc, catalogue, &key)
 }
 
 /// What a view of a store of one commit counts that is held while a branch is made, what the store
-/// counts after, and whether the view's catalogue was copied.
+/// counts after, and whether the view still has all of the commit.
 fn held<R: Abort>(
     rt: &R,
     alloc: Global,
@@ -104,8 +94,8 @@ fn held<R: Abort>(
         panic!(rt; "it makes a reference");
     };
     drop(store.refer(alloc, 2, Moment::from_micros(1_000_000), created));
-    let is_copied = is_copied(rt, alloc, view.catalogue(), "t1");
-    let found = (view.catalogue().counts(), store.counts(), is_copied);
+    let is_first = is_first(rt, alloc, view.catalogue());
+    let found = (view.catalogue().counts(), store.counts(), is_first);
     drop(store);
     found
 }
@@ -115,8 +105,8 @@ fn a_view_stays_as_it_is_while_the_catalogue_is_changed(rt: HostRuntime) {
     let alloc = rt.alloc();
     let drafted = change(&rt, alloc, PUT_T2);
     let created = change(&rt, alloc, CREATE_DEV);
-    let (viewed, left, is_copied) = held(&rt, alloc, &drafted, &created);
-    assert!(rt; is_copied);
+    let (viewed, left, is_first) = held(&rt, alloc, &drafted, &created);
+    assert!(rt; is_first);
     assert!(rt; counts(&viewed, 1, 1));
     assert!(rt; counts(&left, 2, 2));
 }
