@@ -44,6 +44,7 @@ extern void *__libc_realloc(void *, unsigned long), *__libc_memalign(unsigned lo
 extern char *getenv(const char *);
 extern long atol(const char *);
 extern int dprintf(int, const char *, ...);
+extern long syscall(long, ...);
 static long made, refused = -1;
 static int refuses(void) {
     if (refused < 0) { char *text = getenv("REFUSED"); refused = text ? atol(text) : 0; }
@@ -57,6 +58,8 @@ int posix_memalign(void **p, unsigned long a, unsigned long n) {
     return refuses() || !(*p = __libc_memalign(a, n)) ? 12 : 0;
 }
 __attribute__((destructor)) static void tell(void) { dprintf(2, "allocations %ld\n", made); }
+/* a program that ends so runs no destructor */
+__attribute__((noreturn)) void _exit(int status) { tell(); for (;;) syscall(231, status); }
 END
     cc -O1 -shared -fPIC -o "$work/refuse.so" "$work/refuse.c" || exit 70
 }
