@@ -25,8 +25,12 @@ LIMITS = {
     "Commits": 4294967295,
     "Keys": 1000000,
     "Contents": 16777216,
+    "Names": 16777216,
     "Drafts": (1 << 64) - 1,
 }
+
+ALL, COMMITS, SINCE = "All", "Commits", "Since"
+MOST_PATTERNS = 1000
 
 
 class Refused(Exception):
@@ -246,6 +250,18 @@ def judge(expected, head, operations, entry_of):
     return conflicts, result
 
 
+# Cutoffs: `(ALL,)`, `(COMMITS, count)` or `(SINCE, instant)`. A policy is a default one, and pairs of a
+# pattern and its own, of which the first that matches counts.
+
+def matches(pattern, name):
+    return name.startswith(pattern[:-1]) if pattern.endswith("*") else name == pattern
+
+
+def cutoff_for(policy, name):
+    default, pairs = policy
+    return next((cutoff for pattern, cutoff in pairs if matches(pattern, name)), default)
+
+
 class Plan:
     def __init__(self, details, conflicts, ops, result):
         self.details = details
@@ -377,7 +393,7 @@ class Catalogue:
         if name is not None:
             self.reference(name)
         yield
-        if name is not None and self.references[name][0] != kind:
+        if name is not None and kind is not None and self.references[name][0] != kind:
             raise bad("other type")
         yield
         if name is None:
@@ -399,6 +415,7 @@ class Catalogue:
             raise Refused("REFERENCE_ALREADY_EXISTS", "reference exists")
         if len(self.references) >= LIMITS["References"]:
             raise limit("References")
+        self.need_contents(self.entries(target).items())
         self.references[name] = [kind, target]
         self.entry("create", 0, moment, (name, kind, source), target)
         return self.shown(name, target)
@@ -413,6 +430,7 @@ class Catalogue:
         target = next(steps)
         if expected is not None and expected != own[1]:
             raise conflicts_refusal([(None, "UNEXPECTED_HASH")])
+        self.need_contents(self.entries(target).items())
         own[1] = target
         self.entry("assign", 0, moment, (name, kind, expected, source), target)
         return self.shown(name, target)
@@ -570,13 +588,90 @@ class Catalogue:
                 raise conflicts_refusal(conflicts)
             reply["successful"] = False
             return True
+        self.need_contents(o for p in plans for o in p.ops)
         return dry_run or not any(p.ops for p in plans)
+
+    def need_contents(self, changes):
+        """Refused where an entry that is shown or set has no content any more."""
+        gone = {key for key, entry in changes if entry is not None and entry[2] not in self.contents}
+        if gone:
+            raise Refused("EXPIRED", "contents expired", (sorted(gone, key=key_order), self.place))
 
     def accept(self, name, commits, reply):
         self.keep(commits)
         reply["new"] = commits[-1].id()
         reply["applied"] = True
         self.references[name][1] = reply["new"]
+
+    # Sweeps.
+
+    def kept(self, cutoff, head):
+        """The commits of a chain up to the first that the cutoff doesn't keep. The head always is."""
+        out = []
+        for index, h in enumerate(self.chain(head)[:-1]):
+            far = cutoff[0] == COMMITS and index >= cutoff[1]
+            old = cutoff[0] == SINCE and self.commits[h].time < cutoff[1]
+            if index > 0 and (far or old):
+                break
+            out.append(h)
+        return out
+
+    def visible(self, commit_hash):
+        """The hashes of the contents that are shown at a commit."""
+        return {entry[2] for entry in self.entries(commit_hash).values()}
+
+    def states_since(self, place):
+        """The heads of the references after each entry from this place on; place 0 is before the first."""
+        heads = {DEFAULT_BRANCH: NO_ANCESTOR}
+        out = [dict(heads)] if place == 0 else []
+        for what, number, _, _, command, head in self.log:
+            if what == "delete":
+                del heads[command[0]]
+            elif what != "sweep":
+                heads[command[0]] = head
+            if number >= place:
+                out.append(dict(heads))
+        return out
+
+    def saved(self, opened, policy, commits, contents):
+        """What a sweep keeps: what was live at each state since it was opened, and what is named."""
+        ends = {(cutoff_for(policy, name), head)
+                for heads in self.states_since(opened) for name, head in heads.items()}
+        shown = {h for cutoff, head in ends for h in self.kept(cutoff, head)} | set(commits)
+        return set(contents).union(*(self.visible(h) for h in shown))
+
+    def may_be_swept(self, opened, policy, commits, contents):
+        """Whether a log may have such a sweep here."""
+        return (opened <= self.place and all(self.known(h) for h in commits)
+                and len(policy[1]) <= MOST_PATTERNS)
+
+    def sweep(self, opened, policy, commits, contents, moment):
+        """Removes the contents that nothing kept; how many stay, and how many went."""
+        if self.place >= LIMITS["Log"]:
+            raise limit("Log")
+        if len(commits) + len(contents) > LIMITS["Names"]:
+            raise limit("Names")
+        saved = self.saved(opened, policy, commits, contents)
+        before = len(self.contents)
+        self.contents = {h: c for h, c in self.contents.items() if h in saved}
+        self.entry("sweep", 0, moment, (opened, policy, commits, contents), None)
+        return len(self.contents), before - len(self.contents)
+
+    # Logs.
+
+    def again(self, what, draft, moment, command):
+        """Executes what an entry of a log says; it makes an entry where that is accepted."""
+        last, self.draft = self.draft, draft - 1
+        if what in ("create", "assign", "delete"):
+            getattr(self, what)(*command, moment)
+        elif what == "commit":
+            self.commit(*command[:4], moment)
+        elif what in ("merge", "transplant"):
+            mode_of = lambda key: command[-1].get(key, command[-2])
+            getattr(self, what)(*command[:-2], mode_of, False, False, moment, command)
+        elif self.may_be_swept(*command):
+            self.sweep(*command, moment)
+        self.draft = max(last, draft)
 
     # Reading.
 

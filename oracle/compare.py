@@ -6,8 +6,9 @@
 Each session starts a new journal, sends requests one by one to `nessie script`,
 and compares each reply's bytes with the rules'. The time of a commit is asked of
 the program, by a history of the commit that its reply names. At times the program
-is ended and started again on the same journal. At the end the journal's bytes and
-the line of `nessie check` are compared too, and a row of reads that is sent at once.
+is ended and started again on the same journal, in some sessions behind sweeps that
+the rules write into it. At the end the journal's bytes and the line of `nessie check`
+are compared too, and a row of reads that is sent at once.
 The first difference of each kind is printed, with the request and both replies.
 With --serve the requests go over TCP to `nessie serve`, on one connection.
 """
@@ -29,6 +30,7 @@ import time
 import catalogue as rules
 import journal
 import random_requests
+import reading
 import replies
 import served
 
@@ -142,7 +144,8 @@ class Comparison:
         try:
             path = os.path.join(folder, "j")
             c = rules.Catalogue()
-            maker = random_requests.Requests(rng, c)
+            sweeping = rng.random() < 0.4
+            maker = random_requests.Requests(rng, c, sweeping)
             side = replies.Session(c)
             self.lines = [line_of(c)]
             self.recorded.append([])
@@ -150,11 +153,13 @@ class Comparison:
             program = Program(self.options.program, path, serve=self.options.serve)
             alive = True
             for number in range(count):
-                if alive and program.sent >= 990 or rng.random() < 0.004:
+                if alive and program.sent >= 990 or rng.random() < (0.05 if sweeping else 0.004):
                     rest, status = program.ended()
                     self.extra["restarts"] += 1
                     if rest or status:
                         self.difference("end of a session", (seed, number), None, (b"", 0), (rest, status))
+                    if sweeping:
+                        self.sweeps(maker, path)
                     program = Program(self.options.program, path, serve=self.options.serve)
                     c.opened()
                     self.note(None)
@@ -174,6 +179,25 @@ class Comparison:
                 program.kill()
             shutil.rmtree(folder, ignore_errors=True)
             self.sessions += 1
+
+    def sweeps(self, maker, path):
+        """Sweeps that stand in the journal when it is opened again. The program makes none."""
+        c = maker.c
+        for _ in range(maker.rng.choice([0, 1, 1, 2])):
+            with open(path, "rb") as f:
+                found = f.read()
+            moment = journal.moment_at(found, journal.gates(found)[-2]) if c.log else 0
+            command = maker.sweep()
+            removed = c.sweep(*command, moment)[1]
+            with open(path, "wb") as f:
+                f.write(journal.appended(found, c.log[-1]))
+            self.lines.append(line_of(c))
+            got = subprocess.run([self.options.program, "check", path], stdout=subprocess.PIPE)
+            if (got.stdout, got.returncode) != (self.lines[-1], 0):
+                self.difference("a sweep", command, None, (self.lines[-1], 0), (got.stdout, got.returncode))
+            self.note((command, moment, got.stdout))
+            self.extra["sweeps"] += 1
+            self.extra["contents that sweeps removed"] += removed
 
     def step(self, seed, number, maker, side, program):
         kind, method, target, fields, body = maker.one()
@@ -330,13 +354,11 @@ class Comparison:
 
     def cuts(self, seed, c, path, found):
         """The file with one fault: what `check` says of it."""
-        gates = [16]
-        while found[gates[-1]] == 1:
-            gates.append(gates[-1] + 5 + int.from_bytes(found[gates[-1] + 1:gates[-1] + 5], "big"))
+        gates = journal.gates(found)
         rng = random.Random(seed)
         for _ in range(3):
             b = bytearray(found)
-            what = rng.choice(["cut", "gate", "header", "byte", "more"])
+            what = rng.choice(["cut", "gate", "header", "byte", "more", "bit", "sweep", "sweep"])
             damaged = lambda n: b"nessie: damaged at %d\n" % n
             if what == "cut":
                 n = min(rng.choice([rng.randrange(len(b)), rng.choice(gates), rng.choice(gates) + 1, 16, 17, 1, 0]),
@@ -357,6 +379,12 @@ class Comparison:
             elif what == "more":
                 b += bytes(rng.randrange(256) for _ in range(rng.randrange(40)))
                 wanted = {self.lines[len(c.log)]}
+            elif what == "sweep":
+                what, b = self.one_sweep_more(rng, c, found)
+                wanted = {self.told(b)}
+            elif what == "bit":
+                b[rng.randrange(16, len(b))] ^= 1 << rng.randrange(8)
+                wanted = {self.told(b)}
             else:
                 # Of a commit each byte counts, but for the draft's number and unchanged keys.
                 made = [i for i, e in enumerate(c.log) if e[0] == "commit"
@@ -373,13 +401,44 @@ class Comparison:
                 f.write(b)
             got = subprocess.run([self.options.program, "check", other], stdout=subprocess.PIPE)
             self.extra["journal with a fault: " + what] += 1
-            status = 0 if wanted <= set(self.lines) else 3
+            status = 0
+            for line in wanted:
+                if line.startswith(b"nessie"):
+                    status = 3
+                    self.extra["told of a fault: %s" % line.decode().rstrip("0123456789\n ")] += 1
             if got.stdout not in wanted or got.returncode != status:
                 self.difference("journal with a fault: " + what, seed, None, (wanted, status),
                                 (got.stdout, got.returncode))
             with open(other, "rb") as f:
                 if b and f.read() != b:
                     self.difference("check changed a journal", seed, None, None, None)
+
+    def one_sweep_more(self, rng, c, found):
+        """The file with a sweep more between its entries, which may be damage or illegal, or make one behind it so."""
+        gates = journal.gates(found)
+        log = [e[:3] + (journal.moment_at(found, gate),) + e[4:] for e, gate in zip(c.log, gates)]
+        at = rng.randrange(len(log) + 1)
+        opened, policy, commits, contents = random_requests.Requests(rng, c).sweep()
+        if rng.random() < 0.8:
+            opened, commits = min(opened, at), [h for h in commits if rng.random() < 0.5]
+        if rng.random() < 0.1:
+            policy = policy[0], [("b*", (rules.ALL,))] * rng.choice([rules.MOST_PATTERNS, rules.MOST_PATTERNS + 1])
+        sweep = ("sweep", at + 1, 0, log[at - 1][3] if at else 0, (opened, policy, commits, contents), None)
+        spelled = bytearray(journal.payload(sweep, sweep[3]))
+        what = "a sweep more"
+        if rng.random() < 0.5:
+            what = "a sweep more, a bit of it changed"
+            spelled[rng.randrange(len(spelled))] ^= 1 << rng.randrange(8)
+        later = [(e[0], e[1] + 1) + e[2:] for e in log[at:]]
+        spell = lambda entries: [journal.payload(e, e[3]) for e in entries]
+        return what, journal.written(spell(log[:at]) + [bytes(spelled)] + spell(later))
+
+    def told(self, file):
+        """What `check` says of a file, by the rules."""
+        try:
+            return line_of(reading.opened(bytes(file)))
+        except reading.Unopened as e:
+            return e.line
 
     def report(self):
         print("sessions %d, requests compared %d" % (self.sessions, self.compared))

@@ -737,10 +737,6 @@ class Row(compare.Comparison):
             if f.read() != file:
                 self.difference((self.name, what, "changed the file"), None, None, None, None)
 
-    def written(self, payloads):
-        frames = [b"\x01" + len(p).to_bytes(4, "big") + p for p in payloads]
-        return journal.HEADER + b"".join(frames) + b"\x00"
-
     def of_log(self, c):
         return [journal.payload(e, e[3]) for e in c.log]
 
@@ -748,7 +744,7 @@ class Row(compare.Comparison):
         """The program goes on from a journal that the rules wrote."""
         self.end()
         with open(self.path, "wb") as f:
-            f.write(self.written(self.of_log(c)))
+            f.write(journal.written(self.of_log(c)))
         self.c = c
         c.opened()
         self.side = replies.Session(c)
@@ -827,7 +823,7 @@ class Row(compare.Comparison):
         c.create("dev", "BRANCH", ("BRANCH", "main", None), 1)
         for name in ("main", "dev"):
             c.commit(name, None, plain_meta(), [rules.Operation("UNCHANGED", ("k",))], 9)
-        self.opened_as("twice", self.written(self.of_log(c)), compare.line_of(c))
+        self.opened_as("twice", journal.written(self.of_log(c)), compare.line_of(c))
         self.go_on(c)
         self.get("trees")
         self.merge("dev", "main", self.head())
@@ -847,16 +843,16 @@ class Row(compare.Comparison):
         c.create("v", "TAG", ("BRANCH", "main", first), 4)
         whole = self.of_log(c)
         good = compare.line_of(c)
-        self.opened_as("whole", self.written(whole), good)
+        self.opened_as("whole", journal.written(whole), good)
         damaged_at = lambda n: b"nessie: damaged at %d\n" % n
-        at = len(self.written(whole)) - 1
+        at = len(journal.written(whole)) - 1
         illegal = b"nessie: illegal entry 5\n"
         damaged = damaged_at(at)
         nothing = meta_bytes(plain_meta())
 
         def last(what, wanted, kind, draft, command, head=b"", place=5, moment=5):
             p = u8(kind) + u32(place) + u64(draft) + u64(moment) + command + head
-            self.opened_as(what, self.written(whole + [p]), wanted)
+            self.opened_as(what, journal.written(whole + [p]), wanted)
 
         def state(change):
             other = rules.Catalogue()
@@ -1052,11 +1048,11 @@ class Row(compare.Comparison):
         transplant("transplant, nothing left to change", illegal, [second])
         transplant("transplant, no change", illegal, [first], branch="main")
         # The first damage comes before an illegal entry, wherever that stands.
-        self.opened_as("damage after an illegal entry", self.written([whole[1]] + whole + [b"\x09"]),
-                       damaged_at(len(self.written([whole[1]] + whole)) - 1))
-        self.opened_as("the same entry twice", self.written(whole + whole[-1:]), illegal)
-        self.opened_as("no first entry", self.written(whole[1:]), b"nessie: illegal entry 1\n")
-        self.opened_as("an empty payload", self.written(whole[:1] + [b""]), damaged_at(len(self.written(whole[:1])) - 1))
+        self.opened_as("damage after an illegal entry", journal.written([whole[1]] + whole + [b"\x09"]),
+                       damaged_at(len(journal.written([whole[1]] + whole)) - 1))
+        self.opened_as("the same entry twice", journal.written(whole + whole[-1:]), illegal)
+        self.opened_as("no first entry", journal.written(whole[1:]), b"nessie: illegal entry 1\n")
+        self.opened_as("an empty payload", journal.written(whole[:1] + [b""]), damaged_at(len(journal.written(whole[:1])) - 1))
         self.end()
 
     def run(self, name):

@@ -1,12 +1,13 @@
 """The file that a catalogue's log is kept in: a header, then frames of one entry each."""
 
 from catalogue import (
-    TAG, NORMAL, FORCE, DROP, content_bytes, key_bytes, key_order, listed, meta_bytes, option, text,
-    u8, u32, u64)
+    TAG, NORMAL, FORCE, DROP, ALL, COMMITS, SINCE, content_bytes, key_bytes, key_order, listed, meta_bytes,
+    option, text, u8, u32, u64)
 
 HEADER = b"NESSIECJ" + u32(1) + u32(0)
-KINDS = {"create": 1, "assign": 2, "delete": 3, "commit": 4, "merge": 5, "transplant": 6}
+KINDS = {"create": 1, "assign": 2, "delete": 3, "commit": 4, "merge": 5, "transplant": 6, "sweep": 7}
 MODES = {NORMAL: 0, FORCE: 1, DROP: 2}
+CUTOFFS = {ALL: 0, COMMITS: 1, SINCE: 2}
 
 
 def plain(b):
@@ -25,6 +26,16 @@ def source_bytes(source):
 def modes_bytes(default, of_keys):
     pairs = sorted(of_keys.items(), key=lambda p: key_order(p[0]))
     return u8(MODES[default]) + listed(pairs, lambda p: key_bytes(p[0]) + u8(MODES[p[1]]))
+
+
+def cutoff_bytes(cutoff):
+    kind, *bound = cutoff
+    return u8(CUTOFFS[kind]) + b"".join((u32 if kind == COMMITS else u64)(n) for n in bound)
+
+
+def policy_bytes(policy):
+    default, pairs = policy
+    return cutoff_bytes(default) + listed(pairs, lambda p: text(p[0]) + cutoff_bytes(p[1]))
 
 
 def operation(o, entries):
@@ -56,6 +67,9 @@ def command_bytes(what, command):
         name, path_hash, from_name, from_hash, meta, default, of_keys = command
         return (text(name) + option(path_hash, plain) + text(from_name) + from_hash
                 + meta_bytes(meta) + modes_bytes(default, of_keys))
+    if what == "sweep":
+        opened, policy, commits, contents = command
+        return u32(opened) + policy_bytes(policy) + listed(commits, plain) + listed(contents, plain)
     name, path_hash, from_name, hashes, default, of_keys = command
     return (text(name) + option(path_hash, plain) + text(from_name) + listed(hashes, plain)
             + modes_bytes(default, of_keys))
@@ -67,6 +81,30 @@ def payload(entry, moment):
             + (b"" if head is None else head))
 
 
+def written(payloads):
+    frames = [b"\x01" + u32(len(p)) + p for p in payloads]
+    return HEADER + b"".join(frames) + b"\x00"
+
+
+def gates(file):
+    """Where the gate of each entry is in a file without a fault, and last the closed one."""
+    out = [len(HEADER)]
+    while file[out[-1]] == 1:
+        out.append(out[-1] + 5 + int.from_bytes(file[out[-1] + 1:out[-1] + 5], "big"))
+    return out
+
+
+def moment_at(file, gate):
+    return int.from_bytes(file[gate + 18:gate + 26], "big")
+
+
+def appended(file, entry):
+    """The file with one entry more."""
+    spelled = payload(entry, entry[3])
+    gate = gates(file)[-1]
+    return file[:gate] + b"\x01" + u32(len(spelled)) + spelled + b"\x00"
+
+
 def compared(found, log):
     """What differs between a file's bytes and a log, or None.
 
@@ -76,9 +114,9 @@ def compared(found, log):
     last = 0
     for entry in log:
         at = len(out)
-        moment = int.from_bytes(found[at + 18:at + 26], "big")
-        if entry[0] in ("commit", "merge", "transplant") and moment != entry[3]:
-            return "entry %d: the moment is not the commit's time" % entry[1]
+        moment = moment_at(found, at)
+        if entry[0] in ("commit", "merge", "transplant", "sweep") and moment != entry[3]:
+            return "entry %d: the moment is another" % entry[1]
         if moment < last:
             return "entry %d: the moment falls" % entry[1]
         last = moment

@@ -5,7 +5,8 @@ import json
 
 from catalogue import (
     BRANCH, TAG, ICEBERG_TABLE, ICEBERG_VIEW, DELTA_LAKE_TABLE, NAMESPACE, NORMAL, FORCE, DROP,
-    NO_ANCESTOR, is_child, key_path)
+    ALL, COMMITS, SINCE, NO_ANCESTOR, is_child, key_path)
+from instants import GREATEST
 from replies import write_uuid
 
 KEYS = [("a",), ("b",), ("a", "b"), ("a", "b", "c"), ("a.b",), ("a.b", "c"), ("a", "b.c"), ("t",),
@@ -13,6 +14,7 @@ KEYS = [("a",), ("b",), ("a", "b"), ("a", "b", "c"), ("a.b",), ("a.b", "c"), ("a
         ("\uffee",), ("\U0001f600",)]
 NAMES = ["main", "dev", "rel/1.0", "Rel", "w-x_y"]
 ABSENT_NAMES = ["none", "Main", "de", "dev2", "m" * 128]
+PATTERNS = ["*", "m*", "main*", "d*", "dev*", "r*", "R*", "rel/*", "rel/1.*", "w-x_y*", "z.*", "m" * 128 + "*"]
 BAD_NAMES = ["1a", "a..b", "a.", "a/", "", "-a", "a b", "m" * 129, "\u00e9", "a%", "-"]
 TEXTS = ["m1", "m2", "", "s3://x/\u00e9.json", "q\"\\\n\x7f", "\U0001f600", "nul\x00"]
 JUNK = [None, True, False, 0, 1, -1, 1.5, "", "x", "a", [], {}, ["a"], [1], {"a": 1}, [None],
@@ -44,9 +46,11 @@ class Pairs:
 
 
 class Requests:
-    def __init__(self, rng, catalogue):
+    def __init__(self, rng, catalogue, sweeping=False):
         self.rng = rng
         self.c = catalogue
+        # Contents are removed meanwhile, so older commits are merged more often.
+        self.sweeping = sweeping
         # In some sessions branches mostly grow and are merged into each other, also from older commits.
         self.merging = rng.random() < 0.35
 
@@ -331,7 +335,7 @@ class Requests:
 
     def merge_body(self):
         name = self.name()
-        out = {"fromRefName": name, "fromHash": self.hex(self.hash_for(name, 0.35 if self.merging else 0.6))}
+        out = {"fromRefName": name, "fromHash": self.hex(self.hash_for(name, 0.15 if self.sweeping else 0.35 if self.merging else 0.6))}
         if self.chance(0.02):
             out.update(self.pick([{"fromRefName": self.pick(BAD_NAMES)}, {"fromHash": self.bad_hash()}]))
         if self.chance(0.3):
@@ -447,6 +451,36 @@ class Requests:
                 out[:-1] + b',"z":1e400}', out[:-1] + b',"z":1e-400}', out[:-1] + b',"z":"\\ud83d\\ude00"}',
                 out[:-1] + b',"\\u007a":"\\/"}', out + out, b"// x\n" + out])
         return out
+
+    # Sweeps.
+
+    def cutoff(self):
+        r = self.rng.random()
+        if r < 0.1:
+            return (ALL,)
+        if r < 0.75:
+            return COMMITS, self.pick([1, 1, 1, 1, 2, 2, 3, 6, (1 << 32) - 1])
+        times = [c.time for c in self.c.commits.values()][-10:] + [0, GREATEST - 1]
+        return SINCE, self.pick(times) + self.pick([0, 0, 1])
+
+    def pattern(self):
+        if self.chance(0.6):
+            return self.pick(sorted(self.c.references)) + self.pick(["", "*"])
+        return self.pick(NAMES + PATTERNS + ABSENT_NAMES)
+
+    def some_hashes(self, known):
+        out = self.rng.sample(known, min(len(known), self.weighted([(0, 12), (1, 5), (2, 2), (5, 1)])))
+        return sorted(out)
+
+    def sweep(self):
+        """A sweep that may be logged: where it was opened, its policy, the commits and the contents that it names."""
+        c = self.c
+        opened = self.weighted([(c.place, 5), (max(c.place - self.rng.randrange(8), 0), 3),
+                                (self.rng.randrange(c.place + 1), 1)])
+        patterns = [(self.pattern(), self.cutoff()) for _ in range(self.weighted([(0, 4), (1, 3), (2, 2), (4, 1)]))]
+        seen = {e[2] for commit in c.commits.values() for _, e in commit.ops if e is not None}
+        commits = self.some_hashes(sorted(c.commits)[-40:] + [NO_ANCESTOR])
+        return opened, (self.cutoff(), patterns), commits, self.some_hashes(sorted(seen) + [bytes(32)])
 
     # Whole requests: method, target, fields, body.
 

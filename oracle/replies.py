@@ -15,7 +15,7 @@ from catalogue import (
 
 STATUS = {
     "BAD_REQUEST": 400, "REFERENCE_NOT_FOUND": 404, "REFERENCE_ALREADY_EXISTS": 409,
-    "CONTENT_NOT_FOUND": 404, "REFERENCE_CONFLICT": 409, "LIMIT": 409, "COLLISION": 500,
+    "CONTENT_NOT_FOUND": 404, "REFERENCE_CONFLICT": 409, "EXPIRED": 409, "LIMIT": 409, "COLLISION": 500,
     "FAULT": 503, "DOWN": 503, "NO_MEMORY": 507, "NO_ROUTE": 404, "WRONG_METHOD": 405,
     "TOO_LARGE": 413, "ENCODING": 415,
 }
@@ -232,7 +232,7 @@ def a_meta(v, message_needed):
             "author_time": time}
 
 
-def a_content(v, key):
+def a_content(v):
     v = an_object(v)
     kind = a_text(v.get("type"))
     given = v.get("id")
@@ -259,7 +259,6 @@ def a_content(v, key):
         properties = v.get("properties")
         out["properties"] = {} if properties is None else {
             k: a_text(t) for k, t in an_object(properties).items()}
-        need(tuple(out["elements"]) == key)
     else:
         raise NoReading
     return out, given
@@ -272,8 +271,22 @@ def an_operation(v):
     key = a_key(v.get("key"))
     if what != "PUT":
         return Operation(what, key)
-    content, given = a_content(v.get("content"), key)
+    content, given = a_content(v.get("content"))
     return Operation(what, key, content, given)
+
+
+def need_operations(operations):
+    need(1 <= len(operations) <= 10000)
+    need(len({o.key for o in operations}) == len(operations))
+    given = [o.given_id for o in operations if o.given_id is not None]
+    need(len(set(given)) == len(given))
+    for o in operations:
+        if o.what == "PUT" and o.content["type"] == NAMESPACE:
+            need(tuple(o.content["elements"]) == o.key)
+
+
+def need_hashes(hashes):
+    need(1 <= len(hashes) <= 100)
 
 
 def a_source(v):
@@ -438,10 +451,14 @@ def conflict_json(conflict):
 
 def refusal_json(r):
     status = STATUS[r.kind]
-    out = {"errorCode": r.kind, "message": r.message, "reason": PHRASES[status], "status": status}
+    code = "REFERENCE_CONFLICT" if r.kind == "EXPIRED" else r.kind
+    out = {"errorCode": code, "message": r.message, "reason": PHRASES[status], "status": status}
     if r.kind == "REFERENCE_CONFLICT":
         out["errorDetails"] = {"conflicts": [conflict_json(c) for c in r.details],
                                "type": "REFERENCE_CONFLICTS"}
+    if r.kind == "EXPIRED":
+        out["errorDetails"] = {"keys": [key_json(k) for k in r.details[0]], "openedPlace": r.details[1],
+                               "type": "EXPIRED"}
     if r.kind == "DOWN":
         out["errorDetails"] = {"faults": r.details, "type": "DOWN"}
     if r.kind == "LIMIT":
@@ -646,10 +663,7 @@ class Session:
         v = an_object(read_json(body))
         meta = a_meta(v.get("commitMeta"), True)
         operations = [an_operation(o) for o in required_list(v.get("operations"))]
-        need(1 <= len(operations) <= 10000)
-        need(len({o.key for o in operations}) == len(operations))
-        given = [o.given_id for o in operations if o.given_id is not None]
-        need(len(set(given)) == len(given))
+        need_operations(operations)
 
         def do():
             added, shown = self.catalogue.commit(where[0], where[1], meta, operations, moment)
@@ -701,7 +715,7 @@ class Session:
         v = an_object(read_json(body))
         from_name = a_name(v.get("fromRefName"))
         hashes = [a_hash(h) for h in required_list(v.get("hashesToTransplant"))]
-        need(1 <= len(hashes) <= 100)
+        need_hashes(hashes)
         default, of_keys = modes(v)
         dry_run = a_flag(v.get("dryRun"))
         as_result = a_flag(v.get("returnConflictAsResult"))

@@ -1,5 +1,5 @@
 #!/usr/bin/env python3
-"""Shows that recorded replies tell the rules from wrong ones.
+"""Shows that recorded replies, and what `check` told after sweeps, tell the rules from wrong ones.
 
     sensitivity.py RECORD
 
@@ -52,11 +52,28 @@ EDITS = [
     ("catalogue.py", "names = sorted(n for n in self.references if after is None or n > after)", "names = sorted((n for n in self.references if after is None or n > after), key=str.lower)"),
     ("catalogue.py", "raise conflicts_refusal([(None, \"UNEXPECTED_HASH\")])", "pass"),
     ("catalogue.py", "conflicts = [c for p in plans for c in p.conflicts]", "conflicts = sorted((c for p in plans for c in p.conflicts), key=lambda c: key_order(c[0]))"),
+    ("catalogue.py", "far = cutoff[0] == COMMITS and index >= cutoff[1]", "far = cutoff[0] == COMMITS and index > cutoff[1]"),
+    ("catalogue.py", "self.commits[h].time < cutoff[1]", "self.commits[h].time <= cutoff[1]"),
+    ("catalogue.py", "if index > 0 and (far or old):", "if far or old:"),
+    ("catalogue.py", "if number >= place:", "if number > place:"),
+    ("catalogue.py", "if number >= place:", "if True:"),
+    ("catalogue.py", "for heads in self.states_since(opened)", "for heads in self.states_since(self.place)"),
+    ("catalogue.py", "for h in self.kept(cutoff, head)} | set(commits)", "for h in self.kept(cutoff, head)}"),
+    ("catalogue.py", "return set(contents).union(", "return set().union("),
+    ("catalogue.py", "if matches(pattern, name)), default)", "if matches(pattern, name)), (ALL,))"),
+    ("catalogue.py", "next((cutoff for pattern, cutoff in pairs", "next((cutoff for pattern, cutoff in pairs[::-1]"),
+    ("catalogue.py", "return name.startswith(pattern[:-1])", "return name.startswith(pattern[:-1]) and name != pattern[:-1]"),
+    ("catalogue.py", "        self.need_contents(self.entries(target).items())\n        self.references", "        self.references"),
+    ("catalogue.py", "        self.need_contents(self.entries(target).items())\n        own", "        own"),
+    ("catalogue.py", "        self.need_contents(o for p in plans for o in p.ops)\n", ""),
+    ("catalogue.py", "self.need_contents(o for p in plans for o in p.ops)\n        return dry_run or", "if dry_run:\n            return True\n        self.need_contents(o for p in plans for o in p.ops)\n        return"),
+    ("catalogue.py", "sorted(gone, key=key_order)", "sorted(gone, key=key_order, reverse=True)"),
+    ("catalogue.py", "(sorted(gone, key=key_order), self.place)", "(sorted(gone, key=key_order), self.place + 1)"),
     ("replies.py", "and (front is None or k[:len(front)] == front)", "and (front is None or k[:len(front)] == front and k != front)"),
     ("replies.py", "and (front is None or k[:len(front)] == front)", "and (front is None or key_path(k).startswith(key_path(front)))"),
     ("replies.py", "key_order(k) <= key_order(greatest)", "key_order(k) < key_order(greatest)"),
     ("replies.py", "key_order(k) >= key_order(least)", "key_order(k) > key_order(least)"),
-    ("replies.py", "need(tuple(out[\"elements\"]) == key)", "pass"),
+    ("replies.py", "need(tuple(o.content[\"elements\"]) == o.key)", "pass"),
     ("replies.py", "need(len(set(given)) == len(given))", "pass"),
     ("replies.py", "need(len({o.key for o in operations}) == len(operations))", "pass"),
     ("replies.py", "need(item.get(\"expectedTargetContent\") is None and item.get(\"resolvedContent\") is None)", "pass"),
@@ -91,8 +108,13 @@ def first_difference(recorded):
                 c.opened()
                 continue
             count += 1
-            method, target, fields, body, moment, got = what
             try:
+                if len(what) == 3:
+                    command, moment, told = what
+                    if b" contents %d " % c.sweep(*command, moment)[0] not in told:
+                        return count
+                    continue
+                method, target, fields, body, moment, got = what
                 if side.answer(method, target, fields, body, moment) != got:
                     return count
             except Exception as e:
@@ -125,14 +147,14 @@ def main():
         sys.path.pop(0)
         shutil.rmtree(folder)
         if not old:
-            print("unchanged rules: %s, %d requests" % (
+            print("unchanged rules: %s, %d requests and sweeps" % (
                 "no difference" if found is None else "DIFFERENCE at %s" % found,
                 sum(1 for s in recorded for w in s if w)))
         elif found is None:
             untold += 1
             print("NOT TOLD: %s: %s -> %s" % (name, old, new))
         else:
-            print("told at request %s: %s" % (found, new.strip()[:90]))
+            print("told at %s: %s" % (found, new.strip()[:90]))
     print("%d edits, %d not told" % (len(EDITS), untold))
     return 1 if untold else 0
 

@@ -1,4 +1,4 @@
--- The entry of an accepted call is legal where it stands, and leads to the state that the call led to.
+-- The entry of an accepted call or sweep is legal where it stands, and leads to the state that the call or sweep led to.
 use Rattle.std.proofs.Common.{◌≡◌, ℕ, ◌<◌, max, List, [], ◌∷◌, Option, Some, None, Result, Ok, Err, Bool, true, false, not, ◌||◌, nat_eq, nat_lt, if◌then◌else◌, refl, ap, ap₂, ◌∙◌, ltb-true, arith}
 use Rattle.cat_model.specs.KeySets.{key_set}
 use Rattle.std.proofs.lemmas.Slice.Eq.{bytes_eq-Decides}
@@ -14,6 +14,7 @@ use Rattle.cat_model.specs.declared.command.Create.{Create}
 use Rattle.cat_model.specs.declared.command.Merge.{Merge}
 use Rattle.cat_model.specs.declared.command.Transplant.{Transplant}
 use Rattle.cat_model.specs.declared.conflict.Conflict.{Conflict}
+use Rattle.cat_model.specs.declared.log_entry.Action.TheVariants as actions
 use Rattle.cat_model.specs.declared.log_entry.LogEntry.{LogEntry}
 use Rattle.cat_model.specs.declared.reference.Kind.{Kind}
 use Rattle.cat_model.specs.declared.reference.Reference.{Reference}
@@ -21,22 +22,25 @@ use Rattle.cat_model.specs.declared.refusal.Refusal.{Refusal}
 use Rattle.cat_model.specs.declared.refusal.Refusal.TheVariants.{BadRequest, Conflicts}
 use Rattle.cat_model.specs.declared.refusal.Reason.TheVariants.{OtherType}
 use Rattle.cat_model.specs.declared.reply.Reply.{Reply}
+use Rattle.cat_model.specs.declared.sweep.Sweep.{Sweep}
 use Rattle.cat_model.specs.Book.{Book}
 use Rattle.cat_model.specs.Calls.{Called, attempt, entry_made, stepped, told_at}
 use Rattle.cat_model.specs.Chain.{entries}
 use Rattle.cat_model.specs.Commits.{commit_opening, given_ops, given_request, request_commit, step_commit}
 use Rattle.cat_model.specs.Merges.{Plans, all_conflicts, all_set, commits_made, merge_opening, merge_planned, merge_plans, needs_planned_room, step_applied, step_merge, step_planned, step_unless_conflicts, with_planned}
 use Rattle.cat_model.specs.Moves.{step_assign, step_create}
+use Rattle.cat_model.specs.Past.{past_of}
 use Rattle.cat_model.specs.Records.{expired_keys, needs_no_expired}
 use Rattle.cat_model.specs.Refusing.{◌>>=◌, Outcome, Tested, is_of_kind, named, needs, needs_kind, needs_source_kind, perhaps_named}
 use Rattle.cat_model.specs.State.{Digest, State}
 use Rattle.cat_model.specs.Step.{Turn, head_left, logged_command, opening, opens_draft, step}
+use Rattle.cat_model.specs.Sweeps.{step_sweep, sweep_call, sweep_entry, swept_by}
 use Rattle.cat_model.specs.Transplants.{step_transplant, transplant_opening, transplant_planned, transplant_plans}
 use Rattle.cat_model.specs.WellMade.{have_contents, is_well_made, may_be_asked}
 use Rattle.cat_frames.specs.Entries.{log_entry_code, of_nobody}
 use Rattle.cat_checks.specs.GivenLaws.{given_once, request_once, well_made_again}
 use Rattle.cat_checks.specs.Histories.{after_entry}
-use Rattle.cat_checks.specs.Legal.{IsLegal, are_spelled_alike, draft_after, draft_is_new, has_its_draft, is_just, is_legal, replayed_by, replayed_call}
+use Rattle.cat_checks.specs.Legal.{IsLegal, are_spelled_alike, draft_after, draft_is_new, has_its_draft, is_just, is_legal, may_be_swept, replayed_by, replayed_call}
 pub use Rattle.cat_checks.specs.LeadingLaws.{logged_place}
 
 -- ---- tests in turn
@@ -229,7 +233,7 @@ entry_again : (digest : Digest) (caller : ℕ) (after : State) (command : Comman
     → of_nobody (entry_made digest 0 after (logged_command digest turn.draft command) (record turn { opened = opened }) reply) ≡ of_nobody (entry_made digest caller after command turn reply)
 unfolding entry_made
 entry_again digest caller after command turn opened reply made =
-    ap₂ (λ (c : Command) (head : Option Hash). let e : LogEntry = record { place = after.place; caller = 0; draft = turn.draft; moment = turn.moment; command = c; head = head } in e)
+    ap₂ (λ (c : Command) (head : Option Hash). let e : LogEntry = record { place = after.place; caller = 0; draft = turn.draft; moment = turn.moment; action = actions.Call c; head = head } in e)
     (logged_once digest turn.draft command made) (logged_leaves digest turn.draft command reply)
 
 -- what an accepted step brings
@@ -251,7 +255,7 @@ brought_again digest caller book command turn after reply made e rose =
     let logged = logged_command digest turn.draft command in
     let when : Turn = record turn { opened = book.state.place } in
     let once : step digest book.state logged when ≡ Ok (after, reply) = step_again digest book.state command turn book.state.place after reply made rose e in
-    ap (replayed_by digest book entry) (opens digest book.state logged when (after, reply) once)
+    ap (replayed_by digest book entry logged) (opens digest book.state logged when (after, reply) once)
     ∙ ap (stepped digest 0 book.state (draft_after book entry) logged when) once
     ∙ brought digest 0 book.state (draft_after book entry) logged when after reply rose
 
@@ -280,3 +284,18 @@ accepted_is_legal caller book command turn after reply made own new e rose =
 pub accepted_drafts : (digest : Digest) (caller : ℕ) (book : Book) (command : Command) (turn : Turn) (after : State) (reply : Reply) → (after_entry digest book (entry_made digest caller after command turn reply)).draft ≡ max book.draft turn.draft
 unfolding entry_made
 accepted_drafts digest caller book command turn after reply = refl
+
+-- ---- sweeps
+
+pub swept_is_legal : (caller : ℕ) (book : Book) (moment : ℕ) (s : Sweep) (after : State) (reply : Reply)
+    → may_be_swept sha256 book s ≡ true
+    → step_sweep book.state (past_of sha256 book) s ≡ Ok (after, reply)
+    → IsLegal sha256 book (sweep_entry caller after.place moment s)
+    × ((replayed_call sha256 book (sweep_entry caller after.place moment s)).state ≡ after)
+unfolding is_legal sweep_call sweep_entry
+swept_is_legal caller book moment s after reply may e =
+    let entry : LogEntry = sweep_entry caller after.place moment s in
+    let brings = ap (swept_by 0 book.state (draft_after book entry) moment s) e in
+    let just : is_just sha256 entry (replayed_call sha256 book entry).logged ≡ true = ap (λ (c : Called). is_just sha256 entry c.logged) brings ∙ spelled_alike sha256 (sweep_entry 0 after.place moment s) entry refl in
+    let tests : is_legal sha256 book entry ≡ true = both_true _ _ (both_true _ _ (both_true _ _ may refl) refl) just in
+    (record { legal = tests; logged = ap (λ (c : Called). c.logged) brings }, ap (λ (c : Called). c.state) brings)

@@ -11,7 +11,7 @@ use Rattle.cat_checks.specs.Legal.{IsLegal, draft_after, draft_is_above, replaye
 
 -- the book after an entry, whoever made it
 abbrev pub after_entry : Digest → Book → LogEntry → Book
-after_entry digest book entry = record { state = (replayed_call digest book entry).state; draft = draft_after book entry; log = entry ∷ book.log }
+after_entry digest book entry = record book { state = (replayed_call digest book entry).state; draft = draft_after book entry; log = entry ∷ book.log }
 
 -- the book after entries
 abbrev pub book_after : Digest → Book → List LogEntry → Book
@@ -27,7 +27,7 @@ AreLegal digest book (entry ∷ entries) = IsLegal digest book entry × AreLegal
 
 -- the book that a log starts from
 abbrev pub begun : Opened → Book
-begun o = record { state = o.state; draft = o.draft; log = [] }
+begun o = record { state = o.state; draft = o.draft; log = []; base = o.state }
 
 -- the book after a log
 abbrev pub book_at : Opened → List LogEntry → Book

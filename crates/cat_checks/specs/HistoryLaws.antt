@@ -1,21 +1,31 @@
--- Laws of histories: logs that go on, what stays, what grows, and drafts that are new.
-use Rattle.std.proofs.Common.{◌≡◌, ℕ, zero, suc, ◌+◌, ◌<◌, ◌≤◌, max, List, [], ◌∷◌, ◌++◌, reverse, length, codes, true, false, not, nat_eq, nat_lt, refl, sym, ap, ◌∙◌, append_assoc, ne_eqb, arith}
+-- Laws of histories: logs that go on, what stays, what grows, drafts that are new, and the states that a log leads through.
+use Rattle.std.proofs.Common.{◌≡◌, ℕ, zero, suc, ◌+◌, ◌<◌, ◌≤◌, max, List, [], ◌∷◌, ◌++◌, reverse, length, codes, Ok, Err, Bool, true, false, not, nat_eq, nat_lt, if◌then◌else◌, refl, sym, ap, ap₂, ◌∙◌, append_assoc, ne_eqb, arith}
 use Rattle.std.specs.List.{list_any}
 use Rattle.std.proofs.Math.Nat.{le-max_left, le-max_right}
 use Rattle.std.proofs.lemmas.Bool.{or_right}
 use Rattle.std.proofs.lemmas.Bool.Decides.{nat_tests}
 use Rattle.std.proofs.lemmas.Grind.{reverse_onto}
+use Rattle.std.proofs.lemmas.List.{append-nil}
 use Rattle.sha2.specs.Sha256.{sha256}
+use Rattle.cat_model.specs.declared.command.Command.{Command}
 use Rattle.cat_model.specs.declared.limits.Limits.{Limits}
+use Rattle.cat_model.specs.declared.log_entry.Action.{Action}
+use Rattle.cat_model.specs.declared.log_entry.Action.TheVariants as actions
 use Rattle.cat_model.specs.declared.log_entry.LogEntry.{LogEntry}
 use Rattle.cat_model.specs.declared.reference.Kind.TheVariants.{Branch}
+use Rattle.cat_model.specs.declared.sweep.Sweep.{Sweep}
 use Rattle.cat_model.specs.Book.{Book}
+use Rattle.cat_model.specs.Calls.{Called, attempt, in_draft, stepped, tried}
 use Rattle.cat_model.specs.Later.{IsLater}
-use Rattle.cat_model.specs.State.{Digest, first_state, no_ancestor}
+use Rattle.cat_model.specs.Past.{action_on, course, past_of}
+use Rattle.cat_model.specs.Refusing.{Outcome, Tested}
+use Rattle.cat_model.specs.State.{Digest, State, first_state, no_ancestor}
+use Rattle.cat_model.specs.Step.{Turn, opening, step}
+use Rattle.cat_model.specs.Sweeps.{step_sweep, sweep_call, swept_by}
 use Rattle.cat_model.specs.Turns.{Opened}
-use Rattle.cat_checks.specs.Histories.{AreAbove, AreLegal, IsLegalFrom, after_entry, begun, book_after}
+use Rattle.cat_checks.specs.Histories.{AreAbove, AreLegal, IsLegalFrom, after_entry, begun, book_after, book_at}
 use Rattle.cat_checks.specs.LeadingLaws.{legal_place, replayed_later, replayed_limits, replayed_upholds}
-use Rattle.cat_checks.specs.Legal.{draft_is_above, draft_is_new}
+use Rattle.cat_checks.specs.Legal.{draft_after, draft_is_above, draft_is_new, replayed_action}
 use Rattle.cat_checks.specs.Upheld.{Upholds}
 pub use Rattle.cat_checks.specs.LeadingLaws.{later_on, later_self, step_later}
 
@@ -66,7 +76,7 @@ place_is digest b (x ∷ xs) legal =
     let first : (after_entry digest b x).state.place ≡ b.state.place + 1 = legal_place digest b x legal.0.legal in
     omega arith
 
--- nothing is taken away, whether or not the entries are legal
+-- no commit is taken away, whether or not the entries are legal
 pub entry_later : (digest : Digest) (b : Book) (e : LogEntry) → IsLater b.state (after_entry digest b e).state
 entry_later digest b e = replayed_later digest b e
 
@@ -151,3 +161,67 @@ drafts_stay_below digest b (x ∷ xs) has =
 -- a draft above the last number is new in the book's log
 pub new_in_book : (digest : Digest) (b : Book) (xs : List LogEntry) (draft : ℕ) → HasItsDrafts b → (book_after digest b xs).draft < draft → draft_is_new (book_after digest b xs).log draft ≡ true
 new_in_book digest b xs draft has above = new_above (book_after digest b xs).draft draft (book_after digest b xs).log (drafts_stay_below digest b xs has) above
+
+-- ---- the states that a log leads through
+
+-- the last draft number doesn't matter to the state that a call or a sweep brings
+alike_by : (test : Bool) (x y u v : Called) → x.state ≡ u.state → y.state ≡ v.state → (if test then x else y).state ≡ (if test then u else v).state
+alike_by true x y u v p q = p
+alike_by false x y u v p q = q
+
+stepped_alike : (digest : Digest) (state : State) (a b : ℕ) (command : Command) (turn : Turn) (outcome : Outcome) → (stepped digest 0 state a command turn outcome).state ≡ (stepped digest 0 state b command turn outcome).state
+stepped_alike digest state a b command turn (Err why) = refl
+stepped_alike digest state a b command turn (Ok (after, reply)) = alike_by (nat_lt state.place after.place) _ _ _ _ refl refl
+
+tried_alike : (digest : Digest) (state : State) (a b : ℕ) (command : Command) (turn : Turn) (tested : Tested) → (tried digest 0 state a command turn tested).state ≡ (tried digest 0 state b command turn tested).state
+tried_alike digest state a b command turn (Err why) = refl
+tried_alike digest state a b command turn (Ok u) = stepped_alike digest state (max a turn.draft) (max b turn.draft) command turn (step digest state command turn)
+
+attempts_alike : (digest : Digest) (state : State) (a b draft moment : ℕ) (command : Command)
+    → (attempt digest state a (in_draft 0 moment draft state.place) command).state ≡ (attempt digest state b (in_draft 0 moment draft state.place) command).state
+unfolding attempt
+attempts_alike digest state a b draft moment command = tried_alike digest state a b command _ (opening digest state command)
+
+swept_alike : (state : State) (a b moment : ℕ) (s : Sweep) (outcome : Outcome) → (swept_by 0 state a moment s outcome).state ≡ (swept_by 0 state b moment s outcome).state
+swept_alike state a b moment s (Err why) = refl
+swept_alike state a b moment s (Ok (after, reply)) = refl
+
+sweeps_alike : (state : State) (past : List State) (a b moment : ℕ) (s : Sweep) → (sweep_call 0 state past a moment s).state ≡ (sweep_call 0 state past b moment s).state
+unfolding sweep_call
+sweeps_alike state past a b moment s = swept_alike state a b moment s (step_sweep state past s)
+
+-- the states from a book's base on that its log leads through end at the book's
+abbrev pub EndsCourse : Digest → Book → Type 0
+EndsCourse digest b = (course digest b.base b.log).state ≡ b.state
+
+action_alike : (digest : Digest) (b : Book) (e : LogEntry) (action : Action) → EndsCourse digest b
+    → (action_on digest (course digest b.base b.log) 0 e.draft e.moment action).state ≡ (replayed_action digest b e action).state
+unfolding past_of
+action_alike digest b e (actions.Call command) ends =
+    ap (λ (state : State). (attempt digest state 0 (in_draft 0 e.moment e.draft state.place) command).state) ends
+    ∙ attempts_alike digest b.state 0 b.draft e.draft e.moment command
+action_alike digest b e (actions.Sweep s) ends =
+    ap (λ (state : State). (sweep_call 0 state (past_of digest b) 0 e.moment s).state) ends
+    ∙ sweeps_alike b.state (past_of digest b) 0 (draft_after b e) e.moment s
+
+pub entry_ends : (digest : Digest) (b : Book) (e : LogEntry) → EndsCourse digest b → EndsCourse digest (after_entry digest b e)
+entry_ends digest b e ends = action_alike digest b e e.action ends
+
+pub books_end : (digest : Digest) (b : Book) (xs : List LogEntry) → EndsCourse digest b → EndsCourse digest (book_after digest b xs)
+books_end digest b [] ends = ends
+books_end digest b (x ∷ xs) ends = books_end digest (after_entry digest b x) xs (entry_ends digest b x ends)
+
+-- a book's state comes before those after it
+pub past_more : (digest : Digest) (b : Book) (e : LogEntry) → EndsCourse digest b → past_of digest (after_entry digest b e) ≡ b.state ∷ past_of digest b
+unfolding past_of
+past_more digest b e ends = ap (λ (state : State). state ∷ past_of digest b) ends
+
+pub base_stays : (digest : Digest) (b : Book) (xs : List LogEntry) → (book_after digest b xs).base ≡ b.base
+base_stays digest b [] = refl
+base_stays digest b (x ∷ xs) = base_stays digest (after_entry digest b x) xs
+
+-- the states from a log's start on that it leads through end at that of the book after it, whether or not the entries are legal
+pub course_is : (o : Opened) (log : List LogEntry) → (course sha256 o.state (reverse log)).state ≡ (book_at o log).state
+course_is o log =
+    ap₂ (λ (base : State) (entries : List LogEntry). (course sha256 base entries).state) (sym (base_stays sha256 (begun o) log)) (sym (log_is sha256 (begun o) log ∙ append-nil (reverse log)))
+    ∙ books_end sha256 (begun o) log refl

@@ -1,5 +1,5 @@
--- What accepted steps tell and where they lead: to the state itself, or, with a change that is told, to the next place, where all that was there is still there, and what a state upholds is upheld.
-use Rattle.std.proofs.Common.{◌≡◌, ℕ, ◌+◌, ◌<◌, ◌⊎◌, inl, inr, ⊎_elim, List, [], ◌∷◌, ◌++◌, length, map, filter_map, Option, Some, None, Result, Ok, Err, Bool, true, false, not, ◌||◌, nat_lt, is_some, if◌then◌else◌, refl, sym, ap, ◌∙◌, subst, append_assoc, ltb-true, arith}
+-- What accepted steps tell and where they lead: to the state itself, or, with a change that is told, to the next place, where each commit that was there is still there, and what a state upholds is upheld.
+use Rattle.std.proofs.Common.{◌≡◌, ℕ, ◌+◌, ◌<◌, ◌⊎◌, inl, inr, ⊎_elim, List, [], ◌∷◌, ◌++◌, filter, length, map, filter_map, Option, Some, None, Result, Ok, Err, Bool, true, false, not, ◌||◌, nat_lt, is_some, if◌then◌else◌, refl, sym, ap, ◌∙◌, subst, append_assoc, ltb-true, arith}
 use Rattle.std.specs.List.{list_any}
 use Rattle.std.specs.Str.{bytes_eq}
 use Rattle.cat_codes.specs.ListLaws.{and_true}
@@ -16,6 +16,8 @@ use Rattle.cat_model.specs.declared.commit.Commit.{Commit}
 use Rattle.cat_model.specs.declared.conflict.Conflict.{Conflict}
 use Rattle.cat_model.specs.declared.content.Content.{Content}
 use Rattle.cat_model.specs.declared.limits.Quantity.TheVariants as quantities
+use Rattle.cat_model.specs.declared.log_entry.Action.{Action}
+use Rattle.cat_model.specs.declared.log_entry.Action.TheVariants as actions
 use Rattle.cat_model.specs.declared.log_entry.LogEntry.{LogEntry}
 use Rattle.cat_model.specs.declared.op.Op.{Op}
 use Rattle.cat_model.specs.declared.reference.Kind.TheVariants.{Branch}
@@ -23,6 +25,7 @@ use Rattle.cat_model.specs.declared.reference.Reference.{Reference}
 use Rattle.cat_model.specs.declared.refusal.Refusal.{Refusal}
 use Rattle.cat_model.specs.declared.refusal.Refusal.TheVariants.{Collision, Conflicts}
 use Rattle.cat_model.specs.declared.reply.Reply.{Reply}
+use Rattle.cat_model.specs.declared.sweep.Sweep.{Sweep}
 use Rattle.cat_model.specs.Book.{Book}
 use Rattle.cat_model.specs.Calls.{Called, attempt, stepped}
 use Rattle.cat_model.specs.Chain.{entries}
@@ -33,15 +36,17 @@ use Rattle.cat_model.specs.Judge.{judge}
 use Rattle.cat_model.specs.Later.{Adds, IsLater}
 use Rattle.cat_model.specs.Merges.{Planned, Plans, all_conflicts, applied, commits_made, has_changes, merge_opening, merge_plans, needs_planned_room, needs_set_contents, planned_commit, step_applied, step_merge, step_planned, step_unless_conflicts, with_planned}
 use Rattle.cat_model.specs.Moves.{needs_contents, needs_head, needs_log, needs_new_name, needs_other_than_default, step_assign, step_create, step_delete}
+use Rattle.cat_model.specs.Past.{past_of}
 use Rattle.cat_model.specs.Records.{added, commit_bytes, content_bytes, with_commit, with_content, with_contents}
 use Rattle.cat_model.specs.Refusing.{◌>>=◌, Outcome, Tested, named, needs_kind, needs_room, needs_source_kind, perhaps_named, pointed}
 use Rattle.cat_model.specs.State.{Digest, State, commit_hash, content_hash}
 use Rattle.cat_model.specs.Step.{Turn, head_told, opening, step}
+use Rattle.cat_model.specs.Sweeps.{is_saved, kept_contents, needs_sweep_room, step_sweep, sweep_call, swept_by}
 use Rattle.cat_model.specs.Transplants.{step_transplant, transplant_opening, transplant_plans}
 use Rattle.cat_checks.specs.Changes.{tells_change}
-use Rattle.cat_checks.specs.Legal.{draft_after, is_just, is_legal, replayed_by, replayed_call, turn_of}
+use Rattle.cat_checks.specs.Legal.{draft_after, is_just, is_legal, replayed_action, replayed_by, replayed_call, turn_of}
 use Rattle.cat_checks.specs.MainLaws.{commit_branch, main_assigned, main_moved, main_with, main_without, merge_branch, passed, transplant_branch}
-use Rattle.cat_checks.specs.Upheld.{HasMain, Upholds}
+use Rattle.cat_checks.specs.Upheld.{AreHashed, HasMain, Upholds}
 
 -- ---- states that grew
 
@@ -52,10 +57,10 @@ adds_on : {A : Type 0} (a b c : List A) → Adds a b → Adds b c → Adds a c
 adds_on {A} a b c p q = (q.0 ++ p.0, q.1 ∙ ap (λ (l : List A). q.0 ++ l) p.1 ∙ sym (append_assoc q.0 p.0 a))
 
 pub later_self : (a : State) → IsLater a a
-later_self a = record { commits = adds_self a.commits; present = adds_self a.present }
+later_self a = record { commits = adds_self a.commits }
 
 pub later_on : (a b c : State) → IsLater a b → IsLater b c → IsLater a c
-later_on a b c p q = record { commits = adds_on a.commits b.commits c.commits p.commits q.commits; present = adds_on a.present b.present c.present p.present q.present }
+later_on a b c p q = record { commits = adds_on a.commits b.commits c.commits p.commits q.commits }
 
 -- commits and contents were added, and nothing else was changed
 record Grows (digest : Digest) (a b : State) : Type 0 where
@@ -70,7 +75,7 @@ grows_self digest a = record { place = refl; limits = refl; later = later_self a
 grows_on : (digest : Digest) (a b c : State) → Grows digest a b → Grows digest b c → Grows digest a c
 grows_on digest a b c p q = record { place = q.place ∙ p.place; limits = q.limits ∙ p.limits; later = later_on a b c p.later q.later; upholds = λ u. q.upholds (p.upholds u) }
 
--- the next place, the same limits, nothing taken away, and what is upheld still so
+-- the next place, the same limits, no commit taken away, and what is upheld still so
 pub record Follows (digest : Digest) (a b : State) : Type 0 where
   pub place : b.place ≡ a.place + 1
   pub limits : b.limits ≡ a.limits
@@ -107,7 +112,7 @@ commit_grows digest a c =
     (record {
       place = refl;
       limits = refl;
-      later = record { commits = ((hash, c) ∷ [], refl); present = adds_self a.present };
+      later = record { commits = ((hash, c) ∷ [], refl) };
       upholds = λ u. record { main = u.main; commits = (refl, u.commits); contents = u.contents };
     })
 
@@ -119,7 +124,7 @@ content_grows digest a c =
     (record {
       place = refl;
       limits = refl;
-      later = record { commits = adds_self a.commits; present = ((hash, c) ∷ [], refl) };
+      later = record { commits = adds_self a.commits };
       upholds = λ u. record { main = u.main; commits = u.commits; contents = (refl, u.contents) };
     })
 
@@ -185,7 +190,7 @@ next digest a b references reply head change g main =
     let follows : Follows digest a (record b { place = b.place + 1; references = references }) = record {
       place = ap (λ (n : ℕ). n + 1) g.place;
       limits = g.limits;
-      later = record { commits = g.later.commits; present = g.later.present };
+      later = record { commits = g.later.commits };
       upholds = λ u. let v = g.upholds u in record { main = main v.main; commits = v.commits; contents = v.contents };
     } in
     record { head = head; leads = inr (follows, change) }
@@ -313,7 +318,7 @@ led_to digest state command turn after reply e = leads_by digest state (after, r
 lead_later : (digest : Digest) (a b : State) → Leads digest a b → IsLater a b
 lead_later digest a b leads = ⊎_elim (λ (same : b ≡ a). subst (IsLater a) (sym same) (later_self a)) (λ (follows : Follows digest a b). follows.later) leads
 
--- nothing is taken away by a step
+-- no commit is taken away by a step
 pub step_later : (digest : Digest) (state : State) (command : Command) (turn : Turn) (after : State) (reply : Reply) → step digest state command turn ≡ Ok (after, reply) → IsLater state after
 step_later digest state command turn after reply e = lead_later digest state after (led_to digest state command turn after reply e)
 
@@ -328,6 +333,43 @@ risen digest a b (inr follows) rose = follows
 -- the place of an accepted step is the next one
 pub logged_place : (digest : Digest) (state : State) (command : Command) (turn : Turn) (after : State) (reply : Reply) → step digest state command turn ≡ Ok (after, reply) → nat_lt state.place after.place ≡ true → after.place ≡ state.place + 1
 logged_place digest state command turn after reply e rose = (risen digest state after (led_to digest state command turn after reply e) rose).place
+
+-- ---- sweeps
+
+hashed_choice : {A : Type 0} (hash_of : A → Hash) (b : Bool) (x : Hash × A) (xs : List (Hash × A)) → x.0 ≡ hash_of x.1 → AreHashed hash_of xs → AreHashed hash_of (if b then x ∷ xs else xs)
+hashed_choice hash_of true x xs own are = (own, are)
+hashed_choice hash_of false x xs own are = are
+
+-- what is left of records stands under its hashes
+left_hashed : {A : Type 0} (hash_of : A → Hash) (stays : Hash × A → Bool) (xs : List (Hash × A)) → AreHashed hash_of xs → AreHashed hash_of (filter stays xs)
+left_hashed hash_of stays [] are = tt
+left_hashed hash_of stays (x ∷ xs) are = hashed_choice hash_of (stays x) x (filter stays xs) are.0 (left_hashed hash_of stays xs are.1)
+
+-- contents less, at the next place
+fewer_follow : (digest : Digest) (a : State) (saved : List Hash) → Follows digest a (record a { place = a.place + 1; present = kept_contents saved a.present })
+unfolding kept_contents
+fewer_follow digest a saved = record {
+  place = refl;
+  limits = refl;
+  later = record { commits = adds_self a.commits };
+  upholds = λ u. record { main = u.main; commits = u.commits; contents = left_hashed (content_hash digest) (is_saved saved) a.present u.contents };
+}
+
+abbrev FollowsOn : Digest → State → Outcome → Type 0
+FollowsOn digest a (Ok x) = Follows digest a x.0
+FollowsOn digest a (Err why) = Unit {0}
+
+follows_bind : (digest : Digest) (a : State) (tested : Tested) (f : Unit {0} → Outcome) → ((u : Unit {0}) → FollowsOn digest a (f u)) → FollowsOn digest a (tested >>= f)
+follows_bind digest a (Ok u) f h = h u
+follows_bind digest a (Err why) f h = tt
+
+sweep_follows : (digest : Digest) (a : State) (past : List State) (s : Sweep) → FollowsOn digest a (step_sweep a past s)
+unfolding step_sweep
+sweep_follows digest a past s = follows_bind digest a (needs_sweep_room a (length s.commits + length s.contents)) _ (λ u. fewer_follow digest a _)
+
+-- an accepted sweep leads to the next place
+pub swept_to : (digest : Digest) (state : State) (past : List State) (s : Sweep) (after : State) (reply : Reply) → step_sweep state past s ≡ Ok (after, reply) → Follows digest state after
+swept_to digest state past s after reply e = subst (FollowsOn digest state) e (sweep_follows digest state past s)
 
 -- ---- what the call of an entry comes to
 
@@ -352,14 +394,23 @@ outcome_comes digest a entry draft command turn (Ok (after, reply)) leads =
     let led : Leads digest a after = leads_by digest a (after, reply) leads in
     choice_comes digest a entry (nat_lt a.place after.place) _ _ (λ rose. record { leads = led; follows = λ _. risen digest a after led rose }) (nothing_comes digest a entry _ refl refl)
 
-tested_comes : (digest : Digest) (book : Book) (entry : LogEntry) (tested : Tested) → Comes digest book.state entry (replayed_by digest book entry tested)
-tested_comes digest book entry (Err why) = nothing_comes digest book.state entry _ refl refl
-tested_comes digest book entry (Ok u) =
-    outcome_comes digest book.state entry (draft_after book entry) entry.command (turn_of book entry) (step digest book.state entry.command (turn_of book entry)) (step_leads digest book.state entry.command (turn_of book entry))
+tested_comes : (digest : Digest) (book : Book) (entry : LogEntry) (command : Command) (tested : Tested) → Comes digest book.state entry (replayed_by digest book entry command tested)
+tested_comes digest book entry command (Err why) = nothing_comes digest book.state entry _ refl refl
+tested_comes digest book entry command (Ok u) =
+    outcome_comes digest book.state entry (draft_after book entry) command (turn_of book entry) (step digest book.state command (turn_of book entry)) (step_leads digest book.state command (turn_of book entry))
+
+swept_comes : (digest : Digest) (a : State) (entry : LogEntry) (draft moment : ℕ) (s : Sweep) (outcome : Outcome) → FollowsOn digest a outcome → Comes digest a entry (swept_by 0 a draft moment s outcome)
+swept_comes digest a entry draft moment s (Err why) on = nothing_comes digest a entry _ refl refl
+swept_comes digest a entry draft moment s (Ok (after, reply)) on = record { leads = inr on; follows = λ _. on }
+
+action_comes : (digest : Digest) (book : Book) (entry : LogEntry) (action : Action) → Comes digest book.state entry (replayed_action digest book entry action)
+unfolding attempt sweep_call
+action_comes digest book entry (actions.Call command) = tested_comes digest book entry command (opening digest book.state command)
+action_comes digest book entry (actions.Sweep s) =
+    swept_comes digest book.state entry (draft_after book entry) entry.moment s (step_sweep book.state (past_of digest book) s) (sweep_follows digest book.state (past_of digest book) s)
 
 call_comes : (digest : Digest) (book : Book) (entry : LogEntry) → Comes digest book.state entry (replayed_call digest book entry)
-unfolding attempt
-call_comes digest book entry = tested_comes digest book entry (opening digest book.state entry.command)
+call_comes digest book entry = action_comes digest book entry entry.action
 
 -- whether or not the entry is legal
 pub replayed_leads : (digest : Digest) (book : Book) (entry : LogEntry) → Leads digest book.state (replayed_call digest book entry).state

@@ -1,15 +1,21 @@
 -- Entries that a book may be led on by, and the book that a log of them leads to.
-use Rattle.std.specs.Prelude.{◌≡◌, ℕ, ◌+◌, max, List, [], ◌∷◌, Option, Some, None, Result, Ok, Err, Bool, true, false, ◌&&◌, ◌||◌, not, nat_eq, nat_lt, if◌then◌else◌}
-use Rattle.std.specs.List.{list_any}
+use Rattle.std.specs.Prelude.{◌≡◌, ℕ, ◌+◌, max, List, [], ◌∷◌, Option, Some, None, Result, Ok, Err, Bool, true, false, ◌&&◌, ◌||◌, length, not, nat_eq, nat_le, nat_lt, if◌then◌else◌}
+use Rattle.std.specs.List.{list_all, list_any}
 use Rattle.std.specs.Str.{bytes_eq}
 use Rattle.cat_codes.specs.declared.fault.FieldFault.{FieldFault}
 use Rattle.cat_codes.specs.Code.{whole}
+use Rattle.cat_model.specs.declared.command.Command.{Command}
+use Rattle.cat_model.specs.declared.log_entry.Action.{Action}
+use Rattle.cat_model.specs.declared.log_entry.Action.TheVariants as actions
 use Rattle.cat_model.specs.declared.log_entry.LogEntry.{LogEntry}
+use Rattle.cat_model.specs.declared.sweep.Sweep.{Sweep}
 use Rattle.cat_model.specs.Book.{Book, after_call, attempt_on}
 use Rattle.cat_model.specs.Calls.{Called, in_draft, tried}
+use Rattle.cat_model.specs.Past.{past_of}
 use Rattle.cat_model.specs.Refusing.{◌>>=◌, Tested}
-use Rattle.cat_model.specs.State.{Digest}
+use Rattle.cat_model.specs.State.{Digest, is_known}
 use Rattle.cat_model.specs.Step.{Turn, opens_draft}
+use Rattle.cat_model.specs.Sweeps.{sweep_call}
 use Rattle.cat_model.specs.WellMade.{is_well_made}
 use Rattle.cat_frames.specs.Entries.{log_entry_code, of_nobody}
 
@@ -23,15 +29,37 @@ turn_of book entry = record { draft = entry.draft; opened = book.state.place; mo
 abbrev pub draft_after : Book → LogEntry → ℕ
 draft_after book entry = max book.draft entry.draft
 
--- what the call of an entry brings, by the outcome of the tests before its draft
-abbrev pub replayed_by : Digest → Book → LogEntry → Tested → Called
-replayed_by digest book entry tested = tried digest 0 book.state book.draft entry.command (turn_of book entry) tested
+-- what the command of an entry brings, by the outcome of the tests before its draft
+abbrev pub replayed_by : Digest → Book → LogEntry → Command → Tested → Called
+replayed_by digest book entry command tested = tried digest 0 book.state book.draft command (turn_of book entry) tested
 
--- what the call of an entry brings on a book: an attempt by nobody, in the entry's draft
+-- what an action brings on a book, in the draft and at the moment of an entry: an attempt by nobody, or a sweep by nobody
+abbrev pub replayed_action : Digest → Book → LogEntry → Action → Called
+replayed_action digest book entry (actions.Call command) = attempt_on digest book (in_draft 0 entry.moment entry.draft book.state.place) command
+replayed_action digest book entry (actions.Sweep s) = sweep_call 0 book.state (past_of digest book) (draft_after book entry) entry.moment s
+
+-- what the action of an entry brings on a book
 abbrev pub replayed_call : Digest → Book → LogEntry → Called
-replayed_call digest book entry = attempt_on digest book (in_draft 0 entry.moment entry.draft) entry.command
+replayed_call digest book entry = replayed_action digest book entry entry.action
 
 -- ---- legal entries
+
+-- the most patterns of a sweep's policy
+abbrev pub most_patterns : ℕ
+most_patterns = 1_000
+
+-- a sweep that a book may log: it was opened at a place from the log's start on and not after the book's, its commits are known, and its policy has at most so many patterns
+abbrev pub may_be_swept : Digest → Book → Sweep → Bool
+may_be_swept digest book s =
+    nat_le book.base.place s.opened
+    && nat_le s.opened book.state.place
+    && list_all (is_known digest book.state) s.commits
+    && nat_le (length s.policy.cutoffs) most_patterns
+
+-- an action that a book may log
+abbrev pub may_be_done : Digest → Book → Action → Bool
+may_be_done digest book (actions.Call command) = is_well_made digest command
+may_be_done digest book (actions.Sweep s) = may_be_swept digest book s
 
 -- the number is 0, or no entry has it
 abbrev pub draft_is_new : List LogEntry → ℕ → Bool
@@ -41,9 +69,14 @@ draft_is_new log draft = nat_eq draft 0 || not (list_any (λ entry. nat_eq draft
 abbrev pub draft_is_above : ℕ → ℕ → Bool
 draft_is_above last draft = nat_eq draft 0 || nat_lt last draft
 
--- the draft is 0 exactly where the call opens none
+-- the action opens a draft, as no sweep does
+abbrev pub opens_one : Action → Bool
+opens_one (actions.Call command) = opens_draft command
+opens_one (actions.Sweep s) = false
+
+-- the draft is 0 exactly where the action opens none
 abbrev pub has_its_draft : LogEntry → Bool
-has_its_draft entry = if opens_draft entry.command then not (nat_eq entry.draft 0) else nat_eq entry.draft 0
+has_its_draft entry = if opens_one entry.action then not (nat_eq entry.draft 0) else nat_eq entry.draft 0
 
 -- both entries have one spelling; who called isn't spelled
 abbrev pub are_spelled_alike : Digest → LogEntry → LogEntry → Bool
@@ -55,15 +88,15 @@ is_just digest entry [] = false
 is_just digest entry (logged ∷ []) = are_spelled_alike digest logged entry
 is_just digest entry (logged ∷ another ∷ more) = false
 
--- the command is well made, the draft number is the call's and new, and what the call brings is logged as just this entry
+-- the command is well made, or the sweep may be logged, the draft number is the action's and new, and what the action brings is logged as just this entry
 unfoldable pub is_legal : Digest → Book → LogEntry → Bool
 is_legal digest book entry =
-    is_well_made digest entry.command
+    may_be_done digest book entry.action
     && has_its_draft entry
     && draft_is_new book.log entry.draft
     && is_just digest entry (replayed_call digest book entry).logged
 
--- the entry is legal, and is what its call logs, but for who called: its place, its draft, its moment, its command in the form in which commands are logged, and the head that was left
+-- the entry is legal, and is what its action logs, but for who acted: its place, its draft, its moment, its sweep or its command in the form in which commands are logged, and the head that was left
 pub record IsLegal (digest : Digest) (book : Book) (entry : LogEntry) : Type 0 where
   pub legal : is_legal digest book entry ≡ true
   pub logged : (replayed_call digest book entry).logged ≡ of_nobody entry ∷ []

@@ -5,7 +5,7 @@ ghost use Rattle.cat_model.specs.Step as step;
 ghost use Rattle.cat_checks.specs.Legal as legal;
 
 use cat_model::command::Command;
-use cat_model::log_entry::LogEntry;
+use cat_model::log_entry::{Action, LogEntry};
 
 /// Whether a call opens a draft.
 fn opens_draft(command: &Command) -> bool
@@ -17,11 +17,21 @@ fn opens_draft(command: &Command) -> bool
     }
 }
 
-/// Whether an entry's draft is 0 exactly where its call opens none.
+/// Whether an action opens a draft, as no sweep does.
+fn opens_one(action: &Action) -> bool
+    ensures { result ≡ legal.opens_one action.now }
+{
+    match action {
+        Action::Call(command) => opens_draft(command),
+        Action::Sweep(_) => false,
+    }
+}
+
+/// Whether an entry's draft is 0 exactly where its action opens none.
 pub fn has_its_draft(entry: &LogEntry) -> bool
     ensures { result ≡ legal.has_its_draft entry.now }
 {
-    if opens_draft(&entry.command) {
+    if opens_one(&entry.action) {
         entry.draft != 0
     } else {
         entry.draft == 0

@@ -104,7 +104,7 @@ module _ {In Out : Type 0} (ends : BothEnds In Out) (service : Service) (a m b :
 -- ---- on the store that the desk holds
 
 same_standing : (desk : DeskId) (p q : Pass) → Remembers p q → book_of desk q ≡ book_of desk p
-same_standing desk p q r = λ i. record { state = state_of desk (r.seen i); draft = (r.mark i).draft; log = reverse (r.seen i) }
+same_standing desk p q r = λ i. record { state = state_of desk (r.seen i); draft = (r.mark i).draft; log = reverse (r.seen i); base = desk.opened.state }
 
 pub hosts : {In Out K : Type 0} (ends : BothEnds In Out) (service : Service) (a b : Heard (In × Out)) (desk : DeskId) (p q : Pass) (old new : Stored K) (paused : Type 0) (end : Served)
     → desk.opened ≡ opened_of old → (desk.begun ≡ reverse old.book.log) × (seen p ≡ desk.begun) → book_of desk p ≡ old.book → mark_of p ≡ old.mark → IsReady desk q → new.book ≡ book_of desk q → new.mark ≡ mark_of q

@@ -81,7 +81,8 @@ impl<K: Ord + Drop, V: Drop> Ascending<K, V> {
     pub fn push(&mut self, key: K, value: V) -> Result<(), PushFault>
         ensures ok { OnOk result (self.new ≡ self.old ++ (key, value) ∷ []) }
         ensures err { OnErr result (self.new ≡ self.old) }
-        ensures order { (result ≡ Err PushFault.NotAfter) ↔ (follows K.cmp (last_key self.old) key ≡ false) }
+        ensures order { (result ≡ Err PushFault.NotAfter)
+            ↔ (follows K.cmp (last_key self.old) key ≡ false) }
     {
         if !comes_next(self.pairs.as_slice(), &key) {
             return Err(PushFault::NotAfter);
@@ -160,8 +161,10 @@ fn pairs<K: Field + Ord, V: Field>(
 
 /// Writes the pairs, one after the other.
 fn write_pairs<K: Field, V: Field>(out: &mut Writer, pairs: &[(K, V)]) -> Result<(), NoMemory>
-    ensures spelled { OnOk result (out.new ≡ out.old ++ flat_map (λ x. (K.code).spell x.0 ++ (V.code).spell x.1) pairs.now) }
-    ensures fits { OnOk result (AllByRecursion (λ x. (K.code).Fits x.0 × (V.code).Fits x.1) pairs.now) }
+    ensures spelled { OnOk result
+        (out.new ≡ out.old ++ flat_map (λ x. (K.code).spell x.0 ++ (V.code).spell x.1) pairs.now) }
+    ensures fits { OnOk result
+        (AllByRecursion (λ x. (K.code).Fits x.0 × (V.code).Fits x.1) pairs.now) }
 {
     for (key, value) in pairs {
         key.write(out)?;

@@ -72,7 +72,8 @@ impl<K: Ord + Drop> AscendingKeys<K> {
     pub fn push(&mut self, key: K) -> Result<(), PushFault>
         ensures ok { OnOk result (self.new ≡ self.old ++ key ∷ []) }
         ensures err { OnErr result (self.new ≡ self.old) }
-        ensures order { (result ≡ Err PushFault.NotAfter) ↔ (follows K.cmp (last_of self.old) key ≡ false) }
+        ensures order { (result ≡ Err PushFault.NotAfter)
+            ↔ (follows K.cmp (last_of self.old) key ≡ false) }
     {
         if !comes_next(self.keys.as_slice(), &key) {
             return Err(PushFault::NotAfter);

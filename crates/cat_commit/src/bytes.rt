@@ -24,7 +24,9 @@ pub fn to_bytes(alloc: Global, commit: &Commit) -> Result<Vec<u8>, NoMemory>
 /// over the last.
 pub fn from_bytes(alloc: Global, bytes: &[u8]) -> Result<Commit, FieldFault>
     ensures found { IfOk result (λ c. (commit_code).Fits c × (bytes.now ≡ (commit_code).spell c)) }
-    ensures only { (c : Commit) → (commit_code).Fits c → bytes.now ≡ (commit_code).spell c → Gives result (Ok c) }
+    ensures only { (c : Commit) → (commit_code).Fits c
+        → bytes.now ≡ (commit_code).spell c
+        → Gives result (Ok c) }
     ensures exact { Gives result (whole commit_code bytes.now) }
 {
     field::from_bytes(alloc, bytes)

@@ -191,7 +191,8 @@ pub fn told_meta_to_json(
     time: &Moment,
     meta: &Meta,
 ) -> Result<Value, NoMemory>
-    ensures { IfOk result (λ v. view v ≡ told_meta_data hash.now parent merge_parent time.now meta.now) }
+    ensures { IfOk result
+        (λ v. view v ≡ told_meta_data hash.now parent merge_parent time.now meta.now) }
 {
     Ok(
         meta_object(alloc, meta)?

@@ -23,8 +23,11 @@ pub fn to_bytes(alloc: Global, content: &Content) -> Result<Vec<u8>, NoMemory>
 /// The content that the bytes spell, all of them. The fault is the first from the left, bytes left
 /// over the last.
 pub fn from_bytes(alloc: Global, bytes: &[u8]) -> Result<Content, FieldFault>
-    ensures found { IfOk result (λ c. (content_code).Fits c × (bytes.now ≡ (content_code).spell c)) }
-    ensures only { (c : Content) → (content_code).Fits c → bytes.now ≡ (content_code).spell c → Gives result (Ok c) }
+    ensures found { IfOk result
+        (λ c. (content_code).Fits c × (bytes.now ≡ (content_code).spell c)) }
+    ensures only { (c : Content) → (content_code).Fits c
+        → bytes.now ≡ (content_code).spell c
+        → Gives result (Ok c) }
     ensures exact { Gives result (whole content_code bytes.now) }
 {
     field::from_bytes(alloc, bytes)

@@ -127,5 +127,7 @@ impl WriteForm for ContentForm {
 
 /// What is written of a content is read as that content, with its id.
 pub fn reads_again()
-    ensures { (c : Content) → (content_code).Fits c → IsOfBytes c.id → content_as (content_data c) ≡ Some (record { id = Some c.id; body = c.body }) }
+    ensures { (c : Content) → (content_code).Fits c
+        → IsOfBytes c.id
+        → content_as (content_data c) ≡ Some (record { id = Some c.id; body = c.body }) }
 {}

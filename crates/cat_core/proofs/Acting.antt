@@ -1,5 +1,5 @@
 -- What a call does to a store is a turn of its caller.
-use Rattle.std.proofs.Common.{◌≡◌, ◌≤◌, ℕ, ◌+◌, List, [], ◌∷◌, ◌++◌, reverse, Some, None, Result, Ok, Err, true, false, refl, sym, ap, ◌∙◌, subst, inl, inr, arith, le_refl}
+use Rattle.std.proofs.Common.{◌≡◌, ◌≤◌, ℕ, ◌+◌, List, [], ◌∷◌, ◌++◌, reverse, Option, Some, None, Result, Ok, Err, true, false, refl, sym, ap, ◌∙◌, subst, inl, inr, ⊎_elim, arith, le_refl}
 use Rattle.std.proofs.lemmas.List.{append-nil, reverse-append}
 use Rattle.sha2.specs.Sha256.{sha256}
 use Rattle.cat_checks.specs.Histories.{IsLegalFrom}
@@ -24,11 +24,12 @@ use Rattle.cat_decisions.specs.declared.building.Built.{Built}
 use Rattle.cat_core.specs.declared.draft.Draft.{Draft}
 use Rattle.cat_core.specs.declared.draft.Settled.{Settled}
 use Rattle.cat_core.specs.declared.draft.Settled.TheVariants as settled
-use Rattle.cat_core.specs.Drafts.{Does, IsOpen, IsOpening, IsRefused, Refers, Refuses, Settles, called_in, closed, command_in, dropping, holding, opening_in, open_draft_of, with_opened, without}
+use Rattle.cat_core.specs.Drafts.{Does, Expires, IsOpen, IsOpening, IsRefused, Refers, Refuses, Settles, called_in, closed, command_in, dropping, holding, opening_in, open_draft_of, with_opened, without}
 use Rattle.cat_core.specs.declared.tickets.Ticket.{Ticket}
 use Rattle.cat_model.specs.Naming.{names_of}
 use Rattle.cat_core.specs.Stored.{AreWaiting, IsNumberOfNone, IsSound, Stored, log_of, opened_of, opening_at, snap}
 use Rattle.cat_core.proofs.Sound.{Brings, IsCallIn, call_brings, limits_called, made_brings, sound_called}
+use Rattle.cat_core.proofs.Settling.{draft_refused}
 use Rattle.cat_core.proofs.Waiting.{in_all, leaves_closed, leaves_opened, none_left, none_of_none, waiting_closed, waits}
 
 -- ---- entries that a call brought
@@ -88,7 +89,7 @@ module _ {K : Type 0} (s : Stored K) (called : Called) (caller : ℕ) (r : Refus
   acts_refused RefExists is = refused is
   acts_refused (ContentNotFound x) is = refused is
   acts_refused (Conflicts x) is = refused is
-  acts_refused (Expired x y) is = absurd is
+  acts_refused (Expired x y) is = refused is
   acts_refused (RetriesSpent x) is = refused is
   acts_refused (SweepOpen x) is = refused is
   acts_refused (Limit x y) is = refused is
@@ -125,12 +126,13 @@ acts_opened {K} s s' d after legal more other = subst (λ (x : Stored K). Acts I
   others = leaves_opened s.left_open (open_draft_of d);
 }
 
-later_dropped : (caller : ℕ) (m : Mark) (o : Opening) → Later caller m (record m { dropped = Some o })
-later_dropped caller m o = record { grows = record { fault = λ x e. e; draft = le_refl m.draft; drafter = λ _. refl; sweep = le_refl _ }; new_fault = λ x e. inl e; new_draft = inl refl }
+-- which drafts were dropped or refused last is told, and others may be
+later_telling : (caller : ℕ) (m : Mark) (dropped expired : Option Opening) → Later caller m (record m { dropped = dropped; expired = expired })
+later_telling caller m dropped expired = record { grows = record { fault = λ x e. e; draft = le_refl m.draft; drafter = λ _. refl; sweep = le_refl _ }; new_fault = λ x e. inl e; new_draft = inl refl }
 
 pub acts_dropped : {K : Type 0} (s s' : Stored K) (d : Draft) → s' ≡ dropping s d → IsLegalFrom (opened_of s) (log_of s) → Acts IsLegalFrom d.caller (snap s) (snap s')
 acts_dropped {K} s s' d after legal =
-    subst (λ (x : Stored K). Acts IsLegalFrom d.caller (snap s) (snap x)) (sym after) (acts_idle s d.caller s.keeper (record (s.mark) { dropped = Some (opening_in d) }) (closed s d) legal (later_dropped d.caller s.mark (opening_in d)) (leaves_closed s.left_open (opening_in d)))
+    subst (λ (x : Stored K). Acts IsLegalFrom d.caller (snap s) (snap x)) (sym after) (acts_idle s d.caller s.keeper (record (s.mark) { dropped = Some (opening_in d) }) (closed s d) legal (later_telling d.caller s.mark (Some (opening_in d)) s.mark.expired) (leaves_closed s.left_open (opening_in d)))
 
 pub acts_still : {K : Type 0} (s s' : Stored K) (caller : ℕ) → s' ≡ s → IsLegalFrom (opened_of s) (log_of s) → Acts IsLegalFrom caller (snap s) (snap s')
 acts_still {K} s s' caller after legal =
@@ -140,7 +142,11 @@ module _ {K : Type 0} (s : Stored K) (d : Draft) (built : Built) (moment : ℕ) 
     (waiting : AreWaiting s.book.draft s.book.log (without (opening_in d) s.left_open.drafts)) (none : IsNumberOfNone d.number (without (opening_in d) s.left_open.drafts)) where
   pub acts_settled : (result : Settled) → Settles s d built moment result s' → Acts IsLegalFrom d.caller (snap s) (snap s')
   acts_settled (settled.Done told) does = acts_done s (called_in s d moment) d.caller d.number s' (closed s d) is sound below waiting none (leaves_closed s.left_open (opening_in d)) told does.1
-  acts_settled (settled.Refused r) refuses = acts_refused s (called_in s d moment) d.caller r s' (closed s d) sound.legal (leaves_closed s.left_open (opening_in d)) r.why refuses.1
+  acts_settled (settled.Refused r) refuses = ⊎_elim
+      (λ (gone : Expires (called_in s d moment) s d r s'). subst (λ (x : Stored K). Acts IsLegalFrom d.caller (snap s) (snap x)) (sym gone.after)
+      (acts_idle s d.caller s'.keeper (record (s.mark) { expired = Some (opening_in d) }) (closed s d) sound.legal (later_telling d.caller s.mark s.mark.dropped (Some (opening_in d))) (leaves_closed s.left_open (opening_in d))))
+      (λ (there : Refuses (called_in s d moment) d.caller s r r.why s' (closed s d)). acts_refused s (called_in s d moment) d.caller r s' (closed s d) sound.legal (leaves_closed s.left_open (opening_in d)) r.why there)
+      (draft_refused (called_in s d moment) s d r r.why s' refuses.1)
   acts_settled (settled.Moved e view) moved = acts_still s s' d.caller moved.after sound.legal
 
 -- ---- as the calls say it
@@ -149,7 +155,7 @@ pub acts_settle : {K : Type 0} (s s' : Stored K) (d : Draft) (built : Built) (mo
 acts_settle {K} s s' d built moment result sound made is settles =
     let there : IsOpen (open_draft_of d) s.left_open.drafts = in_all d.caller (open_draft_of d) s.left_open.drafts is in
     let one = waits s.book.draft s.book.log (open_draft_of d) s.left_open.drafts sound.waiting there in
-    acts_settled s d built moment s' sound (made_brings d.caller d.number moment s.book (command_in d) made (call_opens d.call) one.above one.below one.new) one.below
+    acts_settled s d built moment s' sound (made_brings d.caller d.number moment d.place s.book (command_in d) made (call_opens d.call) one.above one.below one.new) one.below
     (waiting_closed s.book.draft s.book.log (opening_in d) s.left_open.drafts sound.waiting) (none_left s.book.draft s.book.log (open_draft_of d) s.left_open.drafts sound.waiting there) result settles
 
 pub acts_open : {K : Type 0} (caller : ℕ) (c : Command) (s s' : Stored K) (d : Draft) (view : State) → IsSound s.book s.began s.left_open.drafts → s.mark.draft ≡ s.book.draft → IsOpening caller c s s' d view → Acts IsLegalFrom caller (snap s) (snap s')

@@ -44,17 +44,17 @@ draft_of caller state draft command turn (Ok (after, reply)) = draft_by (nat_lt 
 
 -- the last draft number is the greatest
 turned_draft : (book : Book) (turn : Turn) (command : Command) → (turned book turn command).draft ≡ max book.draft turn.draft
-turned_draft book turn command = draft_of turn.caller book.state (max book.draft turn.draft) command (begun book turn) (turned_step book turn command)
+turned_draft book turn command = draft_of turn.caller book.state (max book.draft turn.draft) command (begun turn) (turned_step book turn command)
 
 -- no step refuses for want of memory or a fault
 plain : (book : Book) (turn : Turn) (command : Command) → IsPlain (turned_step book turn command)
-plain book turn command = plain_of _ (usual_step book.state command (begun book turn))
+plain book turn command = plain_of _ (usual_step book.state command (begun turn))
 
 step_refused : (book : Book) (turn : Turn) (command : Command) (why : Refusal) → turned_step book turn command ≡ Err why → Runs (turned book turn command) book (taking book turn.draft) (Err (Failed (failures.Refused why)))
 step_refused book turn command why s = (other _ why (plain book turn command) s, record { said = rw s refl; book = rw s refl })
 
 spared : (book : Book) (turn : Turn) (command : Command) → IsSpared (turned book turn command) book (taking book turn.draft)
-spared book turn command = record { state = refl; log = refl; kept = le-max_left book.draft turn.draft; taken = omega (arith, turned_draft book turn command) }
+spared book turn command = record { state = refl; log = refl; base = refl; kept = le-max_left book.draft turn.draft; taken = omega (arith, turned_draft book turn command) }
 
 failed : (book : Book) (turn : Turn) (command : Command) (failure : Failure) → Fails failure (turned_step book turn command) → Runs (turned book turn command) book (taking book turn.draft) (Err (Failed failure))
 failed book turn command failures.NoMemory s = spared book turn command
@@ -88,6 +88,7 @@ step_not_kept book after turn command next reply s p t = record {
   logged = turned_logs book turn command next reply s p;
   state = ap (λ (b : Book). b.state) t;
   log = ap (λ (b : Book). b.log) t;
+  base = ap (λ (b : Book). b.base) t;
   draft = ap (λ (b : Book). b.draft) t ∙ sym (turned_draft book turn command);
 }
 

@@ -1,5 +1,5 @@
 -- What was decided of a call, carried out.
-use Rattle.std.proofs.Common.{◌≡◌, [], ◌∷◌, true, false, Result, Ok, Err, IfErr, IfOk, OnErr, OnOk, refl, sym, ap, subst, ◌∙◌}
+use Rattle.std.proofs.Common.{◌≡◌, [], ◌∷◌, true, Result, Ok, Err, IfErr, IfOk, OnErr, OnOk, refl, sym, ap, subst, ◌∙◌}
 use Rattle.sha2.specs.Sha256.{sha256}
 use Rattle.cat_frames.specs.Entries.{is_logged}
 use Rattle.cat_model.specs.declared.command.Command.{Command}
@@ -20,20 +20,13 @@ use Rattle.cat_state.specs.Changing.{MayBeMade, applied}
 use Rattle.cat_state.specs.Kept.{IsUnrefused}
 use Rattle.cat_core.specs.declared.ledger.logging.Turn.{Turn}
 use Rattle.cat_core.specs.Deciding.{IsDecided, made_book, made_entry, made_told}
-use Rattle.cat_core.specs.Making.{Runs, entry_at, taking, unmade_expired, with_entry}
+use Rattle.cat_core.specs.Making.{Runs, entry_at, taking, with_entry}
 use Rattle.cat_core.specs.Turns.{turned, turned_step}
 use Rattle.cat_core.proofs.Called.{accepted, no_memory, none_logged, step_fails, step_not_kept, step_unchanged, turned_logs}
 
--- no contents are gone where the rules don't refuse
-pub unrefused_there : {T : Type 0} (result : Result T Unmade) → IfErr result IsUnrefused → IfErr result (λ why. unmade_expired why ≡ false)
-unrefused_there (Ok x) w = tt
-unrefused_there (Err NotKept) w = refl
-unrefused_there (Err (Failed failures.NoMemory)) w = refl
-unrefused_there (Err (Failed (failures.Refused why))) w = absurd w
-
 module _ (book : Book) (turn : Turn) (command : Command) where
   -- it is a decision of one form
-  pub decided_as : (decided other : Result Decision Failure) → decided ≡ other → IsDecided book turn command decided → IsDecided book turn command other
+  decided_as : (decided other : Result Decision Failure) → decided ≡ other → IsDecided book turn command decided → IsDecided book turn command other
   decided_as decided other is d = subst (λ (x : Result Decision Failure). IsDecided book turn command x) is d
 
   -- ---- a refusal, or want of memory

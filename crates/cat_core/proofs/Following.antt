@@ -1,30 +1,37 @@
 -- Whether an entry leads a book on, by how far its tests come.
-use Rattle.std.proofs.Common.{◌≡◌, ℕ, ◌+◌, ◌<◌, ◌≤◌, List, [], ◌∷◌, ◌++◌, length, reverse, Some, None, Result, Ok, Err, Bool, true, false, ◌&&◌, ◌||◌, not, cond, if◌then◌else◌, nat_eq, nat_lt, refl, sym, ap, subst, ◌∙◌, arith}
+use Rattle.std.proofs.Common.{◌≡◌, ℕ, ◌+◌, ◌<◌, ◌≤◌, List, [], ◌∷◌, ◌++◌, length, reverse, Option, Some, None, Result, Ok, Err, Bool, true, false, ◌&&◌, ◌||◌, not, cond, if◌then◌else◌, nat_eq, nat_lt, refl, sym, ap, subst, ◌∙◌, arith}
 use Rattle.std.specs.List.{list_any}
 use Rattle.std.specs.Str.{bytes_eq}
 use Rattle.std.specs.Cmp.{nat_eq_equiv}
 use Rattle.std.specs.Prelude.{is_ok}
 use Rattle.std.proofs.lemmas.Bool.{ltb-false, ltb-true}
-use Rattle.std.proofs.lemmas.List.{reverse-append, map-append}
+use Rattle.std.proofs.lemmas.List.{length-append, reverse-append, map-append}
 use Rattle.std.proofs.lemmas.Slice.Eq.{bytes_eq-Decides}
 use Rattle.sha2.specs.Sha256.{sha256}
 use Rattle.cat_codes.specs.declared.fault.FieldFault.{FieldFault}
 use Rattle.cat_codes.specs.Code.{whole}
 use Rattle.cat_codes.specs.ListLaws.{and_true}
 use Rattle.cat_checks.specs.LeadingLaws.{logged_place}
-use Rattle.cat_checks.specs.Legal.{draft_after, draft_is_new, has_its_draft, is_just, is_legal, next_book, read_next, replayed_by, replayed_call, turn_of}
+use Rattle.cat_checks.specs.HistoryLaws.{EndsCourse, entry_ends, past_more}
+use Rattle.cat_checks.specs.Legal.{draft_after, draft_is_new, has_its_draft, is_just, is_legal, may_be_done, next_book, read_next, replayed_action, replayed_by, replayed_call, turn_of}
 use Rattle.cat_frames.specs.Entries.{is_logged, log_entry_code}
 use Rattle.cat_model.specs.declared.command.Command.{Command}
+use Rattle.cat_model.specs.declared.log_entry.Action.{Action}
+use Rattle.cat_model.specs.declared.log_entry.Action.TheVariants as actions
 use Rattle.cat_model.specs.declared.log_entry.LogEntry.{LogEntry}
+use Rattle.cat_model.specs.declared.reference.Reference.{Reference}
 use Rattle.cat_model.specs.Book.{Book, after_call}
 use Rattle.cat_model.specs.Calls.{Called, attempt, stepped}
+use Rattle.cat_model.specs.Past.{course, past_of}
 use Rattle.cat_model.specs.Refusing.{Outcome, Tested}
 use Rattle.cat_model.specs.State.{State}
 use Rattle.cat_model.specs.Step.{Turn, opening, step}
 use Rattle.cat_model.specs.WellMade.{is_well_made}
 use Rattle.cat_state.specs.Kept.{spelling, spellings}
 use Rattle.cat_core.specs.Opening.{Adds, AreDrafts, IsMadeAgain, NewestIsLogged, ReadsAs, RunsAgain, is_newest, may_follow, next_by}
-use Rattle.cat_core.proofs.Relogged.{IsLogOf, call_logs}
+use Rattle.cat_core.specs.Sweeping.{AreTaken, IsFollowed, TakesOne}
+use Rattle.cat_core.proofs.Relogged.{IsLogOf, call_logs, entry_logs}
+use Rattle.cat_core.proofs.Sound.{Brings, BringsOne, replays}
 
 -- ---- draft numbers
 
@@ -45,11 +52,11 @@ more_drafts numbers more log entry draft own are added = λ d.
 
 -- ---- the tests of an entry
 
--- what may follow is well made, and has its draft
-pub follows_made : (log : List LogEntry) (entry : LogEntry) → may_follow log entry ≡ true → (is_well_made sha256 entry.command ≡ true) × (has_its_draft entry ≡ true)
-follows_made log entry may =
-    let two = (and_true (is_well_made sha256 entry.command && has_its_draft entry) (draft_is_new log entry.draft) may).0 in
-    and_true (is_well_made sha256 entry.command) (has_its_draft entry) two
+-- what may follow may be logged, and has its draft
+pub follows_parts : (book : Book) (entry : LogEntry) → may_follow book entry ≡ true → (may_be_done sha256 book entry.action ≡ true) × (has_its_draft entry ≡ true)
+follows_parts book entry may =
+    let two = (and_true (may_be_done sha256 book entry.action && has_its_draft entry) (draft_is_new book.log entry.draft) may).0 in
+    and_true (may_be_done sha256 book entry.action) (has_its_draft entry) two
 
 unread : (book : Book) (reading : Result LogEntry FieldFault) → is_ok reading ≡ false → read_next sha256 book reading ≡ None
 unread book (Ok entry) e = absurd cc
@@ -63,17 +70,17 @@ read_is : (book : Book) (payload : List ℕ) (entry : LogEntry) → ReadsAs payl
 read_is book payload entry reads = ap (read_next sha256 book) reads.0
 
 -- an entry that may not follow
-barred : (book : Book) (entry : LogEntry) → may_follow book.log entry ≡ false → next_book sha256 book entry ≡ None
+barred : (book : Book) (entry : LogEntry) → may_follow book entry ≡ false → next_book sha256 book entry ≡ None
 unfolding next_book is_legal
 barred book entry may = rw may refl
 
-pub may_not : (book after : Book) (payload : List ℕ) (entry : LogEntry) → ReadsAs payload (Some entry) → may_follow book.log entry ≡ false → Adds book after payload false
+pub may_not : (book after : Book) (payload : List ℕ) (entry : LogEntry) → ReadsAs payload (Some entry) → may_follow book entry ≡ false → Adds book after payload false
 may_not book after payload entry reads may = read_is book payload entry reads ∙ barred book entry may
 
 -- one whose call brings something else
 other : (book : Book) (entry : LogEntry) → is_just sha256 entry (replayed_call sha256 book entry).logged ≡ false → next_book sha256 book entry ≡ None
 unfolding next_book is_legal
-other book entry differs = rw differs (by_test (may_follow book.log entry))
+other book entry differs = rw differs (by_test (may_follow book entry))
   where
     by_test : (b : Bool) → (if b && false then Some (after_call book (replayed_call sha256 book entry)) else None) ≡ None
     by_test true = refl
@@ -96,12 +103,21 @@ other_made book after payload entry reads made differs =
     let spelled : bytes_eq (spelling made.entry) payload ≡ false = subst (λ (l : List LogEntry). is_newest l payload ≡ false) (newest_is book after _ made) differs in
     read_is book payload entry reads ∙ other book entry (ap (is_just sha256 entry) made.logged ∙ ap (bytes_eq (spelling made.entry)) (sym reads.1) ∙ spelled)
 
+is_legal_by : (book : Book) (entry : LogEntry) → may_follow book entry ≡ true → is_just sha256 entry (replayed_call sha256 book entry).logged ≡ true → is_legal sha256 book entry ≡ true
+unfolding is_legal
+is_legal_by book entry may just = rw (may, just) refl
+
+made_just : (book after : Book) (payload : List ℕ) (entry : LogEntry) → ReadsAs payload (Some entry) → (made : IsMadeAgain (replayed_call sha256 book entry) book after) → is_newest after.log payload ≡ true → is_just sha256 entry (replayed_call sha256 book entry).logged ≡ true
+made_just book after payload entry reads made is =
+    let spelled : bytes_eq (spelling made.entry) payload ≡ true = subst (λ (l : List LogEntry). is_newest l payload ≡ true) (newest_is book after _ made) is in
+    ap (is_just sha256 entry) made.logged ∙ ap (bytes_eq (spelling made.entry)) (sym reads.1) ∙ spelled
+
 -- one whose call brings just this
-legal : (book : Book) (entry : LogEntry) → may_follow book.log entry ≡ true → is_just sha256 entry (replayed_call sha256 book entry).logged ≡ true → next_book sha256 book entry ≡ Some (after_call book (replayed_call sha256 book entry))
+legal : (book : Book) (entry : LogEntry) → may_follow book entry ≡ true → is_just sha256 entry (replayed_call sha256 book entry).logged ≡ true → next_book sha256 book entry ≡ Some (after_call book (replayed_call sha256 book entry))
 unfolding next_book is_legal
 legal book entry may just = rw (may, just) refl
 
-pub just_made : (book after : Book) (payload : List ℕ) (entry : LogEntry) → ReadsAs payload (Some entry) → may_follow book.log entry ≡ true → IsMadeAgain (replayed_call sha256 book entry) book after → is_newest after.log payload ≡ true → Adds book after payload true
+pub just_made : (book after : Book) (payload : List ℕ) (entry : LogEntry) → ReadsAs payload (Some entry) → may_follow book entry ≡ true → IsMadeAgain (replayed_call sha256 book entry) book after → is_newest after.log payload ≡ true → Adds book after payload true
 just_made book after payload entry reads may made is =
     let spelled : bytes_eq (spelling made.entry) payload ≡ true = subst (λ (l : List LogEntry). is_newest l payload ≡ true) (newest_is book after _ made) is in
     record {
@@ -120,18 +136,61 @@ just_made book after payload entry reads may made is =
 logged_one : (draft : ℕ) (logged : List LogEntry) (e : LogEntry) → IsLogOf draft logged → logged ≡ e ∷ [] → (is_logged sha256 e ≡ true) × (e.draft ≡ draft)
 logged_one draft logged e is same = subst (IsLogOf draft) same is
 
-pub newest_logged : (book after : Book) (entry : LogEntry) → may_follow book.log entry ≡ true → IsMadeAgain (replayed_call sha256 book entry) book after → NewestIsLogged after.log
-newest_logged book after entry may made =
-    let parts = follows_made book.log entry may in
-    subst NewestIsLogged (sym (newest_is book after _ made)) (logged_one entry.draft _ made.entry (call_logs book entry parts.0 parts.1) made.logged).0
+module _ (book after : Book) (entry : LogEntry) (payload : List ℕ) (reads : ReadsAs payload (Some entry)) (may : may_follow book entry ≡ true) (made : IsMadeAgain (replayed_call sha256 book entry) book after) where
+  made_logs : (is_logged sha256 made.entry ≡ true) × (made.entry.draft ≡ entry.draft)
+  made_logs =
+      let parts = follows_parts book entry may in
+      logged_one entry.draft _ made.entry (entry_logs book entry parts.0 parts.1 reads.2) made.logged
 
--- the numbers of the drafts, with its number
-pub drafts_after : (book after : Book) (entry : LogEntry) (numbers more : List ℕ) → may_follow book.log entry ≡ true → IsMadeAgain (replayed_call sha256 book entry) book after → AreDrafts numbers book.log
-    → ((d : ℕ) → list_any (nat_eq d) more ≡ cond (nat_eq entry.draft d) true (list_any (nat_eq d) numbers)) → AreDrafts more after.log
-drafts_after book after entry numbers more may made are added =
-    let parts = follows_made book.log entry may in
-    subst (AreDrafts more) (sym (newest_is book after _ made))
-    (more_drafts numbers more book.log made.entry entry.draft (logged_one entry.draft _ made.entry (call_logs book entry parts.0 parts.1) made.logged).1 are added)
+  pub newest_logged : NewestIsLogged after.log
+  newest_logged = subst NewestIsLogged (sym (newest_is book after _ made)) made_logs.0
+
+  -- the numbers of the drafts, with its number
+  drafts_after : (numbers more : List ℕ) → AreDrafts numbers book.log → ((d : ℕ) → list_any (nat_eq d) more ≡ cond (nat_eq entry.draft d) true (list_any (nat_eq d) numbers)) → AreDrafts more after.log
+  drafts_after numbers more are added = subst (AreDrafts more) (sym (newest_is book after _ made)) (more_drafts numbers more book.log made.entry entry.draft made_logs.1 are added)
+
+  -- ---- what is kept beside the book
+
+  module _ (newest : is_newest after.log payload ≡ true) where
+    is_legal_there : is_legal sha256 book entry ≡ true
+    is_legal_there = is_legal_by book entry may (made_just book after payload entry reads made newest)
+
+    -- what it brings is the entry that was made
+    brings_one : BringsOne 0 entry.draft book made.entry after.state
+    brings_one =
+        subst (BringsOne 0 entry.draft book made.entry) (sym (ap (λ (b : Book). b.state) made.book))
+        (subst (λ (l : List LogEntry). Brings 0 entry.draft book l (replayed_call sha256 book entry).state) made.logged (replays book entry is_legal_there).0)
+
+    state_is : (replayed_call sha256 book made.entry).state ≡ after.state
+    state_is = brings_one.leads
+
+    base_is : after.base ≡ book.base
+    base_is = ap (λ (b : Book). b.base) made.book
+
+    -- the book after it has the state and the log of the one after the entry that was made
+    as_after : (P : State → List LogEntry → State → Type 0) → P (replayed_call sha256 book made.entry).state (made.entry ∷ book.log) book.base → P after.state after.log after.base
+    as_after P p =
+        subst (λ (base : State). P after.state after.log base) (sym base_is)
+        (subst (λ (log : List LogEntry). P after.state log book.base) (sym (newest_is book after _ made))
+        (subst (λ (state : State). P state (made.entry ∷ book.log) book.base) state_is p))
+
+    ends_after : EndsCourse sha256 book → EndsCourse sha256 after
+    ends_after ends = as_after (λ state log base. (course sha256 base log).state ≡ state) (entry_ends sha256 book made.entry ends)
+
+    past_after : EndsCourse sha256 book → past_of sha256 after ≡ book.state ∷ past_of sha256 book
+    unfolding past_of
+    past_after ends = as_after (λ state log base. (course sha256 base log).past ≡ book.state ∷ past_of sha256 book) (past_more sha256 book made.entry ends)
+
+    pub followed_on : (numbers more : List ℕ) (taken longer : List (Option Reference)) → IsFollowed numbers taken book → TakesOne book after taken longer
+        → ((d : ℕ) → list_any (nat_eq d) more ≡ cond (nat_eq entry.draft d) true (list_any (nat_eq d) numbers)) → IsFollowed more longer after
+    followed_on numbers more taken longer followed takes added = record {
+      drafts = drafts_after numbers more followed.drafts added;
+      ends = ends_after followed.ends;
+      count = omega (arith, ap length takes.more_are, length-append taken (takes.one ∷ []), followed.count, made.place);
+      taken_are =
+          subst (λ (past : List State). AreTaken after.state past (reverse longer)) (sym (past_after followed.ends))
+          (subst (λ (l : List (Option Reference)). AreTaken after.state (book.state ∷ past_of sha256 book) l) (sym (ap reverse takes.more_are ∙ reverse-append taken (takes.one ∷ []))) (takes.is, followed.taken_are));
+    }
 
 -- ---- the place that a call comes to
 
@@ -144,14 +203,19 @@ stepped_place : (state : State) (draft : ℕ) (command : Command) (turn : Turn) 
 stepped_place state draft command turn (Err why) is = omega arith
 stepped_place state draft command turn (Ok (after, reply)) is = choice_place state.place (nat_lt state.place after.place) _ _ (λ rose. logged_place sha256 state command turn after reply is rose) (omega arith)
 
-tested_place : (book : Book) (entry : LogEntry) (tests : Tested) → (replayed_by sha256 book entry tests).state.place ≡ book.state.place + length (replayed_by sha256 book entry tests).logged
-tested_place book entry (Err why) = omega arith
-tested_place book entry (Ok u) = stepped_place book.state (draft_after book entry) entry.command (turn_of book entry) (step sha256 book.state entry.command (turn_of book entry)) refl
+tested_place : (book : Book) (entry : LogEntry) (command : Command) (tests : Tested) → (replayed_by sha256 book entry command tests).state.place ≡ book.state.place + length (replayed_by sha256 book entry command tests).logged
+tested_place book entry command (Err why) = omega arith
+tested_place book entry command (Ok u) = stepped_place book.state (draft_after book entry) command (turn_of book entry) (step sha256 book.state command (turn_of book entry)) refl
+
+command_place : (book : Book) (entry : LogEntry) (command : Command) → (replayed_action sha256 book entry (actions.Call command)).state.place ≡ book.state.place + length (replayed_action sha256 book entry (actions.Call command)).logged
+unfolding attempt
+command_place book entry command = tested_place book entry command (opening sha256 book.state command)
 
 -- one more for each entry
-called_place : (book after : Book) (entry : LogEntry) → after ≡ after_call book (replayed_call sha256 book entry) → after.state.place ≡ book.state.place + length (replayed_call sha256 book entry).logged
-unfolding attempt
-called_place book after entry is = ap (λ (b : Book). b.state.place) is ∙ tested_place book entry (opening sha256 book.state entry.command)
+called_place : (book after : Book) (entry : LogEntry) (command : Command) → entry.action ≡ actions.Call command → after ≡ after_call book (replayed_call sha256 book entry) → after.state.place ≡ book.state.place + length (replayed_call sha256 book entry).logged
+called_place book after entry command called is =
+    ap (λ (b : Book). b.state.place) is
+    ∙ subst (λ (a : Action). (replayed_action sha256 book entry a).state.place ≡ book.state.place + length (replayed_action sha256 book entry a).logged) (sym called) (command_place book entry command)
 
 -- ---- by the place that the book came to
 
@@ -164,23 +228,23 @@ none_by : (logged : List LogEntry) (before after : ℕ) → after ≡ before + l
 none_by [] before after n le = refl
 none_by (e ∷ logged) before after n le = absurd (omega (arith, n, le))
 
-made_again : (book after : Book) (entry : LogEntry) → is_well_made sha256 entry.command ≡ true → has_its_draft entry ≡ true → after ≡ after_call book (replayed_call sha256 book entry)
+made_again : (book after : Book) (entry : LogEntry) → IsLogOf entry.draft (replayed_call sha256 book entry).logged → after ≡ after_call book (replayed_call sha256 book entry)
     → after.state.place ≡ book.state.place + length (replayed_call sha256 book entry).logged → book.state.place < after.state.place → RunsAgain (replayed_call sha256 book entry) book after true
-made_again book after entry made own is n lt =
-    let one = one_by entry.draft (replayed_call sha256 book entry).logged book.state.place after.state.place (call_logs book entry made own) n lt in
+made_again book after entry logs is n lt =
+    let one = one_by entry.draft (replayed_call sha256 book entry).logged book.state.place after.state.place logs n lt in
     record { entry = one.0; logged = one.1; book = is; place = one.2 }
 
 not_again : (book after : Book) (entry : LogEntry) → after.state.place ≡ book.state.place + length (replayed_call sha256 book entry).logged → after.state.place ≤ book.state.place → RunsAgain (replayed_call sha256 book entry) book after false
 not_again book after entry n le = none_by _ book.state.place after.state.place n le
 
 -- a call that was accepted, by whether the place rose
-pub ran_by : (book after : Book) (entry : LogEntry) (before now : ℕ) → is_well_made sha256 entry.command ≡ true → has_its_draft entry ≡ true → after ≡ after_call book (replayed_call sha256 book entry)
+pub ran_by : (book after : Book) (entry : LogEntry) (command : Command) (before now : ℕ) → entry.action ≡ actions.Call command → is_well_made sha256 command ≡ true → has_its_draft entry ≡ true → after ≡ after_call book (replayed_call sha256 book entry)
     → before ≡ book.state.place → now ≡ after.state.place → RunsAgain (replayed_call sha256 book entry) book after (nat_lt before now)
-ran_by book after entry before now made own is b a = by_test (nat_lt before now) refl
+ran_by book after entry command before now called made own is b a = by_test (nat_lt before now) refl
   where
     n : after.state.place ≡ book.state.place + length (replayed_call sha256 book entry).logged
-    n = called_place book after entry is
+    n = called_place book after entry command called is
 
     by_test : (rose : Bool) → nat_lt before now ≡ rose → RunsAgain (replayed_call sha256 book entry) book after rose
-    by_test true rose = let lt : before < now = ltb-true before now rose in made_again book after entry made own is n (omega (arith, lt, b, a))
+    by_test true rose = let lt : before < now = ltb-true before now rose in made_again book after entry (call_logs book entry command called made own) is n (omega (arith, lt, b, a))
     by_test false rose = let le : now ≤ before = ltb-false before now rose in not_again book after entry n (omega (arith, le, b, a))

@@ -57,6 +57,7 @@ holds t c xs ys x added ticket names =
 -- the number is taken
 pub sound_taken : (book : Book) (faults : ℕ) (left_open : List drafts.OpenDraft) (d : drafts.OpenDraft) → IsSound book faults left_open → d.opening.number ≡ book.draft + 1 → IsSound (record book { draft = d.opening.number }) faults (left_open ++ d ∷ [])
 sound_taken book faults left_open d sound next = record {
+  base = sound.base;
   legal = sound.legal;
   led = sound.led;
   taken = at_most_more book.draft d.opening.number book.log (omega arith) sound.taken;
@@ -74,14 +75,14 @@ step_held {K} members book after keeper fallen began number takes was =
     subst (λ (b : Book). IsInStep members b keeper fallen began) (sym takes) record { payloads = was.payloads; number = was.number; fallen = was.fallen; later = was.later; rose = was.rose; counted = was.counted }
 
 -- what is left then
-pub held_as : {K : Type 0} (book after : Book) (keeper : K) (fault : Option FailedAppend) (drafter : ℕ) (dropped : Option Ticket) (xs ys : List OpenDraft) (began : ℕ) (t : Ticket) (c : Command) (x : Stored K) → after ≡ taking book t.number → t.number ≡ book.draft + 1 → map draft_held ys ≡ map draft_held xs ++ held_for t c ∷ []
-    → record { book = book; keeper = keeper; mark = held_mark book.draft drafter dropped fault; left_open = held_open xs; began = began } ≡ x
-    → record { book = after; keeper = keeper; mark = held_mark after.draft t.caller dropped fault; left_open = held_open ys; began = began } ≡ holding x t c
-held_as {K} book after keeper fault drafter dropped xs ys began t c x takes next is x_is =
+pub held_as : {K : Type 0} (book after : Book) (keeper : K) (fault : Option FailedAppend) (drafter : ℕ) (dropped expired : Option Ticket) (xs ys : List OpenDraft) (began : ℕ) (t : Ticket) (c : Command) (x : Stored K) → after ≡ taking book t.number → t.number ≡ book.draft + 1 → map draft_held ys ≡ map draft_held xs ++ held_for t c ∷ []
+    → record { book = book; keeper = keeper; mark = held_mark book.draft drafter dropped expired fault; left_open = held_open xs; began = began } ≡ x
+    → record { book = after; keeper = keeper; mark = held_mark after.draft t.caller dropped expired fault; left_open = held_open ys; began = began } ≡ holding x t c
+held_as {K} book after keeper fault drafter dropped expired xs ys began t c x takes next is x_is =
     let taken : after ≡ record book { draft = t.number } = takes ∙ ap (λ (m : ℕ). record book { draft = m }) (next_greatest book.draft t.number next) in
-    let before : Stored K = record { book = book; keeper = keeper; mark = held_mark book.draft drafter dropped fault; left_open = held_open xs; began = began } in
-    let after_is : Stored K = record { book = after; keeper = keeper; mark = held_mark after.draft t.caller dropped fault; left_open = held_open ys; began = began } in
-    let there : after_is ≡ holding before t c = λ i. record { book = taken i; keeper = keeper; mark = held_mark (taken i).draft t.caller dropped fault; left_open = record { drafts = is i; sweep = None }; began = began } in
+    let before : Stored K = record { book = book; keeper = keeper; mark = held_mark book.draft drafter dropped expired fault; left_open = held_open xs; began = began } in
+    let after_is : Stored K = record { book = after; keeper = keeper; mark = held_mark after.draft t.caller dropped expired fault; left_open = held_open ys; began = began } in
+    let there : after_is ≡ holding before t c = λ i. record { book = taken i; keeper = keeper; mark = held_mark (taken i).draft t.caller dropped expired fault; left_open = record { drafts = is i; sweep = None }; began = began } in
     there ∙ ap (λ (z : Stored K). holding z t c) x_is
 
 -- ---- one less

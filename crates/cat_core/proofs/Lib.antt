@@ -21,3 +21,8 @@ pub mod Relogged
 pub mod Following
 pub mod Led
 pub mod Reopened
+pub mod Taken
+pub mod Looking
+pub mod Spared
+pub mod Swept
+pub mod Marked

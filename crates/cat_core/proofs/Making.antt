@@ -1,5 +1,5 @@
 -- What a store answers and leaves by what a call made in its ledger.
-use Rattle.std.proofs.Common.{◌≡◌, ◌≤◌, ℕ, arith, List, [], ◌++◌, Option, Some, None, Result, Ok, Err, IfErr, false, refl, sym, ap, subst, ◌∙◌}
+use Rattle.std.proofs.Common.{◌≡◌, ◌≤◌, ℕ, arith, List, [], ◌++◌, Option, Some, None, Result, Ok, Err, refl, sym, ap, subst, ◌∙◌}
 use Rattle.std.specs.Option.{option_map}
 use Rattle.std.specs.Prelude.{IfSome}
 use Rattle.cat_io.specs.Causes.{Rose}
@@ -13,12 +13,11 @@ use Rattle.cat_model.specs.Book.{Book, after_call}
 use Rattle.cat_model.specs.Calls.{Called}
 use Rattle.cat_model.specs.Drafts.{Open}
 use Rattle.cat_model.specs.Mark.{FailedAppend}
-use Rattle.cat_decisions.specs.Expiring.{is_expired}
 use Rattle.cat_state.specs.declared.failure.Failure.TheVariants as failures
 use Rattle.cat_state.specs.declared.unmade.Unmade.{Unmade}
 use Rattle.cat_state.specs.declared.unmade.Unmade.TheVariants.{Failed, NotKept}
 use Rattle.cat_state.specs.Kept.{Keeps, spelling}
-use Rattle.cat_core.specs.Making.{Runs, unmade_expired}
+use Rattle.cat_core.specs.Making.{Runs}
 use Rattle.cat_core.specs.PlainLaws.{IsOther}
 use Rattle.cat_core.specs.declared.tickets.Fallen.{Fallen}
 use Rattle.cat_core.specs.declared.tickets.OpenDraft.{OpenDraft}
@@ -33,24 +32,24 @@ use Rattle.cat_core.proofs.Sound.{Brings, IsCallIn}
 
 -- ---- refusals
 
-pub refuses : {K : Type 0} (called : Called) (caller : ℕ) (s : Stored K) (r : Refused) (s' : Stored K) (left_open : Open) (why : Refusal) → IsOther why → is_expired why ≡ false → IsRefused called s r s' left_open → Refuses called caller s r why s' left_open
-refuses called caller s r s' left_open (BadRequest x) other there is = is
-refuses called caller s r s' left_open RefNotFound other there is = is
-refuses called caller s r s' left_open RefExists other there is = is
-refuses called caller s r s' left_open (ContentNotFound x) other there is = is
-refuses called caller s r s' left_open (Conflicts x) other there is = is
-refuses called caller s r s' left_open (Expired x y) other there is = absurd cc
-refuses called caller s r s' left_open (RetriesSpent x) other there is = is
-refuses called caller s r s' left_open (SweepOpen x) other there is = is
-refuses called caller s r s' left_open (Limit x y) other there is = is
-refuses called caller s r s' left_open (Collision x y z) other there is = is
-refuses called caller s r s' left_open Fault other there is = absurd cc
-refuses called caller s r s' left_open (Down x) other there is = absurd cc
-refuses called caller s r s' left_open NoMemory other there is = absurd cc
-refuses called caller s r s' left_open NoRoute other there is = is
-refuses called caller s r s' left_open (WrongMethod x) other there is = is
-refuses called caller s r s' left_open TooLarge other there is = is
-refuses called caller s r s' left_open Encoding other there is = is
+pub refuses : {K : Type 0} (called : Called) (caller : ℕ) (s : Stored K) (r : Refused) (s' : Stored K) (left_open : Open) (why : Refusal) → IsOther why → IsRefused called s r s' left_open → Refuses called caller s r why s' left_open
+refuses called caller s r s' left_open (BadRequest x) other is = is
+refuses called caller s r s' left_open RefNotFound other is = is
+refuses called caller s r s' left_open RefExists other is = is
+refuses called caller s r s' left_open (ContentNotFound x) other is = is
+refuses called caller s r s' left_open (Conflicts x) other is = is
+refuses called caller s r s' left_open (Expired x y) other is = is
+refuses called caller s r s' left_open (RetriesSpent x) other is = is
+refuses called caller s r s' left_open (SweepOpen x) other is = is
+refuses called caller s r s' left_open (Limit x y) other is = is
+refuses called caller s r s' left_open (Collision x y z) other is = is
+refuses called caller s r s' left_open Fault other is = absurd cc
+refuses called caller s r s' left_open (Down x) other is = absurd cc
+refuses called caller s r s' left_open NoMemory other is = absurd cc
+refuses called caller s r s' left_open NoRoute other is = is
+refuses called caller s r s' left_open (WrongMethod x) other is = is
+refuses called caller s r s' left_open TooLarge other is = is
+refuses called caller s r s' left_open Encoding other is = is
 
 -- ---- what is in flight
 
@@ -114,39 +113,39 @@ module _ {K : Type 0} (members : Ghosts K)
     (safe : (k : K) (ps : List (List ℕ)) (c : Option (List (List ℕ))) → members.down k ≡ None → members.told k ≡ Some ps → members.may_leave k c → c ≡ Some ps)
     (only_now : (k : K) (c : Option (List (List ℕ))) → members.left_since k (members.moment k) c → members.may_leave k c) where
   -- a store as it is held
-  abbrev pub stored_at : Book → K → Option Fallen → ℕ → Option Ticket → List OpenDraft → ℕ → Stored K
-  stored_at book keeper fallen drafter dropped held began = record { book = book; keeper = keeper; mark = held_mark book.draft drafter dropped (failed fallen (members.in_flight keeper)); left_open = held_open held; began = began }
+  abbrev pub stored_at : Book → K → Option Fallen → ℕ → Option Ticket → Option Ticket → List OpenDraft → ℕ → Stored K
+  stored_at book keeper fallen drafter dropped expired held began = record { book = book; keeper = keeper; mark = held_mark book.draft drafter dropped expired (failed fallen (members.in_flight keeper)); left_open = held_open held; began = began }
 
-  module _ (caller : ℕ) (before after : Book) (old new : K) (drafter : ℕ) (dropped : Option Ticket) (held : List OpenDraft) (began : ℕ) (call : Book → Called) (right : LogsRight (call before)) (number : ℕ) (is : IsCallIn caller number before (call before)) where
+  module _ (caller : ℕ) (before after : Book) (old new : K) (drafter : ℕ) (dropped expired : Option Ticket) (held : List OpenDraft) (began : ℕ) (call : Book → Called) (right : LogsRight (call before)) (number : ℕ) (is : IsCallIn caller number before (call before)) where
     abbrev called : Called
     called = call before
 
     abbrev s : Stored K
-    s = stored_at before old None drafter dropped held began
+    s = stored_at before old None drafter dropped expired held began
 
     abbrev left : Option Fallen → Stored K
-    left fallen = stored_at after new fallen drafter dropped held began
+    left fallen = stored_at after new fallen drafter dropped expired held began
 
     -- the book is as it was
     stays_as : after ≡ before → left None ≡ record s { keeper = new; left_open = s.left_open }
-    stays_as same = λ i. stored_at (same i) new None drafter dropped held began
+    stays_as same = λ i. stored_at (same i) new None drafter dropped expired held began
 
     goes_as : after ≡ after_call before called → left None ≡ record s { book = after_call before called; keeper = new; left_open = s.left_open }
     goes_as same =
         let n : after.draft ≡ before.draft = ap (λ (b : Book). b.draft) same ∙ is.draft in
-        λ i. record { book = same i; keeper = new; mark = held_mark (n i) drafter dropped None; left_open = held_open held; began = began }
+        λ i. record { book = same i; keeper = new; mark = held_mark (n i) drafter dropped expired None; left_open = held_open held; began = began }
 
-    as_before : after.state ≡ before.state → after.log ≡ before.log → after.draft ≡ before.draft → after ≡ before
-    as_before state log draft = λ i. record { state = state i; draft = draft i; log = log i }
+    as_before : after.state ≡ before.state → after.log ≡ before.log → after.base ≡ before.base → after.draft ≡ before.draft → after ≡ before
+    as_before state log base draft = λ i. record { state = state i; draft = draft i; log = log i; base = base i }
 
     falls_as : (payload : List ℕ) → members.in_flight new ≡ Some payload → after ≡ before
         → left (Some (record { caller = caller; count = members.faults new })) ≡ record s { keeper = new; mark = record (s.mark) { fault = Some (record { caller = caller; count = members.faults new; payload = payload }) }; left_open = s.left_open }
-    falls_as payload flies same = λ i. record { book = same i; keeper = new; mark = held_mark (same i).draft drafter dropped (failed (Some (record { caller = caller; count = members.faults new })) (flies i)); left_open = held_open held; began = began }
+    falls_as payload flies same = λ i. record { book = same i; keeper = new; mark = held_mark (same i).draft drafter dropped expired (failed (Some (record { caller = caller; count = members.faults new })) (flies i)); left_open = held_open held; began = began }
 
-    refers_as : (made : Result Told Unmade) → Runs called before after made → Keeps members old new called.logged made → IfErr made (λ why. unmade_expired why ≡ false)
+    refers_as : (made : Result Told Unmade) → Runs called before after made → Keeps members old new called.logged made
         → Refers called caller s (left (fallen_by caller (members.faults new) None made)) (told_at before.state.place made)
-    refers_as (Ok told_is) runs keeps there = record { up = refl; said = runs.said; after = goes_as runs.book }
-    refers_as (Err NotKept) runs keeps there = record {
+    refers_as (Ok told_is) runs keeps = record { up = refl; said = runs.said; after = goes_as runs.book }
+    refers_as (Err NotKept) runs keeps = record {
       up = refl;
       place = refl;
       entry = keeps.entry;
@@ -154,35 +153,36 @@ module _ {K : Type 0} (members : Ghosts K)
       fault = record { caller = caller; count = members.faults new; payload = spelling keeps.entry };
       caller_is = refl;
       payload = refl;
-      after = falls_as (spelling keeps.entry) keeps.flies (as_before runs.state runs.log (runs.draft ∙ is.draft));
+      after = falls_as (spelling keeps.entry) keeps.flies (as_before runs.state runs.log runs.base (runs.draft ∙ is.draft));
     }
-    refers_as (Err (Failed failures.NoMemory)) runs keeps there =
+    refers_as (Err (Failed failures.NoMemory)) runs keeps =
         let low : before.draft ≤ after.draft = runs.kept in
         let high : after.draft ≤ before.draft = subst (λ (n : ℕ). after.draft ≤ n) is.draft runs.taken in
         let n : after.draft ≡ before.draft = omega arith in
-        (refl, stays_as (as_before runs.state runs.log n))
-    refers_as (Err (Failed (failures.Refused why))) runs keeps there =
+        (refl, stays_as (as_before runs.state runs.log runs.base n))
+    refers_as (Err (Failed (failures.Refused why))) runs keeps =
         let none : called.logged ≡ [] = right.none _ runs.1.said in
         let state : after.state ≡ before.state = ap (λ (b : Book). b.state) runs.1.book ∙ subst (λ (l : List LogEntry). Brings caller number before l called.state) none is.brings in
         let log : after.log ≡ before.log = ap (λ (b : Book). b.log) runs.1.book ∙ ap (λ (l : List LogEntry). l ++ before.log) none in
+        let base : after.base ≡ before.base = ap (λ (b : Book). b.base) runs.1.book in
         let draft : after.draft ≡ before.draft = ap (λ (b : Book). b.draft) runs.1.book ∙ is.draft in
-        refuses called caller s _ (left None) s.left_open why runs.0 there (record { up = refl; said = runs.1.said; none = none; after = stays_as (as_before state log draft) })
+        refuses called caller s _ (left None) s.left_open why runs.0 (record { up = refl; said = runs.1.said; none = none; after = stays_as (as_before state log base draft) })
 
     -- all that is told
     pub all_told : (fallen after_fallen : Option Fallen) (x y : Stored K) (place : ℕ) (made : Result Told Unmade) (result : Result Told Refused) → fallen ≡ None → after_fallen ≡ fallen_by caller (members.faults new) fallen made
-        → stored_at before old fallen drafter dropped held began ≡ x → left after_fallen ≡ y → place ≡ before.state.place → result ≡ told_at place made → members.down old ≡ None
-        → Runs called before after made → Keeps members old new called.logged made → IfErr made (λ why. unmade_expired why ≡ false)
+        → stored_at before old fallen drafter dropped expired held began ≡ x → left after_fallen ≡ y → place ≡ before.state.place → result ≡ told_at place made → members.down old ≡ None
+        → Runs called before after made → Keeps members old new called.logged made
         → IsTold members caller x y (call x.book) result
-    all_told fallen after_fallen x y place made result none fell x_is y_is place_is result_is up runs keeps there =
+    all_told fallen after_fallen x y place made result none fell x_is y_is place_is result_is up runs keeps =
         let ended : Stored K = left (fallen_by caller (members.faults new) None made) in
         let whole : IsTold members caller s ended (call before) (told_at before.state.place made) = record {
-          refers = refers_as made runs keeps there;
+          refers = refers_as made runs keeps;
           keeps = keeps_told members safe only_now old new called before after before.state.place made runs keeps;
           crash = leaves_made members safe only_now old new called.logged made up keeps;
         } in
         let answer : told_at before.state.place made ≡ result = ap (λ (p : ℕ). told_at p made) (sym place_is) ∙ sym result_is in
         let last : ended ≡ y = ap left (sym (fell ∙ ap (λ (f : Option Fallen). fallen_by caller (members.faults new) f made) none)) ∙ y_is in
-        let first : s ≡ x = ap (λ (f : Option Fallen). stored_at before old f drafter dropped held began) (sym none) ∙ x_is in
+        let first : s ≡ x = ap (λ (f : Option Fallen). stored_at before old f drafter dropped expired held began) (sym none) ∙ x_is in
         subst (λ (z : Stored K). IsTold members caller z y (call z.book) result) first
         (subst (λ (z : Stored K). IsTold members caller s z (call before) result) last
         (subst (λ (r : Result Told Refused). IsTold members caller s ended (call before) r) answer whole))

@@ -1,7 +1,8 @@
 -- What settling a draft comes to, by how far it gets.
-use Rattle.std.proofs.Common.{◌≡◌, ℕ, List, [], Option, Some, None, Result, Ok, Err, true, false, refl, sym, ap, ◌∙◌, subst}
+use Rattle.std.proofs.Common.{◌≡◌, ◌⊎◌, inl, inr, ℕ, List, [], Option, Some, None, Result, Ok, Err, true, false, refl, sym, ap, ◌∙◌, subst}
 use Rattle.sha2.specs.Sha256.{sha256}
 use Rattle.cat_keeper.specs.declared.keeper.Keeper.{Ghosts}
+use Rattle.cat_names.specs.Fields.{Key}
 use Rattle.cat_names.specs.declared.hash.Hash.{Hash}
 use Rattle.cat_model.specs.declared.command.Command.{Command}
 use Rattle.cat_model.specs.declared.log_entry.LogEntry.{LogEntry}
@@ -16,8 +17,6 @@ use Rattle.cat_model.specs.Drafts.{Open}
 use Rattle.cat_model.specs.Refusing.{Tested}
 use Rattle.cat_model.specs.State.{State, reference_of}
 use Rattle.cat_model.specs.Step.{opening, opens_draft}
-use Rattle.cat_decisions.specs.Expiring.{is_expired}
-use Rattle.cat_decisions.specs.ExpiringLaws.{unexpired_fails, unexpired_opening}
 use Rattle.cat_state.specs.declared.failure.Failure.{Failure}
 use Rattle.cat_state.specs.declared.failure.Failure.TheVariants as failures
 use Rattle.cat_state.specs.Giving.{Fails}
@@ -30,10 +29,10 @@ use Rattle.cat_state.proofs.Appended.{leaves_any, stays}
 use Rattle.cat_core.specs.declared.draft.Draft.{Draft}
 use Rattle.cat_core.specs.declared.draft.Settled.{Settled}
 use Rattle.cat_core.specs.declared.draft.Settled.TheVariants as settled
-use Rattle.cat_core.specs.Drafts.{IsGivenBack, IsOn, NotOpened, Refuses, called_in, closed, command_in, may_open}
-use Rattle.cat_core.specs.Kept.{IsSettled, IsTold}
+use Rattle.cat_core.specs.Drafts.{Expires, IsGivenBack, IsOn, IsRefused, NotOpened, Refuses, RefusesDraft, called_in, closed, command_in, is_expired, may_open, opening_in}
+use Rattle.cat_core.specs.Kept.{IsSettled, IsTold, KeepsTold}
 use Rattle.cat_core.specs.Stored.{IsDownAt, IsUp, Stored}
-use Rattle.cat_core.proofs.Before.{open_other, opening_other, tests_refuse}
+use Rattle.cat_core.proofs.Before.{open_other, opening_other, opening_there, tests_refuse}
 use Rattle.cat_core.proofs.InStep.{right_attempt}
 use Rattle.cat_core.proofs.Keeping.{not_fault}
 use Rattle.cat_core.proofs.Making.{refuses, up_of}
@@ -92,7 +91,7 @@ refused_on s called caller r s' left_open RefNotFound is = record { up = is.up; 
 refused_on s called caller r s' left_open RefExists is = record { up = is.up; said = is.said; none = is.none; after = is.after }
 refused_on s called caller r s' left_open (ContentNotFound x) is = record { up = is.up; said = is.said; none = is.none; after = is.after }
 refused_on s called caller r s' left_open (Conflicts x) is = record { up = is.up; said = is.said; none = is.none; after = is.after }
-refused_on s called caller r s' left_open (Expired x y) is = absurd is
+refused_on s called caller r s' left_open (Expired x y) is = record { up = is.up; said = is.said; none = is.none; after = is.after }
 refused_on s called caller r s' left_open (RetriesSpent x) is = record { up = is.up; said = is.said; none = is.none; after = is.after }
 refused_on s called caller r s' left_open (SweepOpen x) is = record { up = is.up; said = is.said; none = is.none; after = is.after }
 refused_on s called caller r s' left_open (Limit x y) is = record { up = is.up; said = is.said; none = is.none; after = is.after }
@@ -106,11 +105,69 @@ refused_on s called caller r s' left_open (WrongMethod x) is = record { up = is.
 refused_on s called caller r s' left_open TooLarge is = record { up = is.up; said = is.said; none = is.none; after = is.after }
 refused_on s called caller r s' left_open Encoding is = record { up = is.up; said = is.said; none = is.none; after = is.after }
 
--- ---- settling
+-- ---- refusals of drafts that are settled
 
-abbrev pub settled_as : Result Told Refused → Settled
-settled_as (Ok x) = settled.Done x
-settled_as (Err r) = settled.Refused r
+-- a cause that says that contents are gone
+gone_is : (why : Refusal) → is_expired why ≡ true → (keys : List Key) × (place : ℕ) × (why ≡ Expired keys place)
+gone_is (BadRequest x) e = absurd cc
+gone_is RefNotFound e = absurd cc
+gone_is RefExists e = absurd cc
+gone_is (ContentNotFound x) e = absurd cc
+gone_is (Conflicts x) e = absurd cc
+gone_is (Expired x y) e = (x, y, refl)
+gone_is (RetriesSpent x) e = absurd cc
+gone_is (SweepOpen x) e = absurd cc
+gone_is (Limit x y) e = absurd cc
+gone_is (Collision x y z) e = absurd cc
+gone_is Fault e = absurd cc
+gone_is (Down x) e = absurd cc
+gone_is NoMemory e = absurd cc
+gone_is NoRoute e = absurd cc
+gone_is (WrongMethod x) e = absurd cc
+gone_is TooLarge e = absurd cc
+gone_is Encoding e = absurd cc
+
+-- another cause
+refuses_draft : {K : Type 0} (called : Called) (s : Stored K) (d : Draft) (r : Refused) (why : Refusal) (s' : Stored K) → is_expired why ≡ false → Refuses called d.caller s r why s' (closed s d) → RefusesDraft called s d r why s'
+refuses_draft called s d r (BadRequest x) s' there is = is
+refuses_draft called s d r RefNotFound s' there is = is
+refuses_draft called s d r RefExists s' there is = is
+refuses_draft called s d r (ContentNotFound x) s' there is = is
+refuses_draft called s d r (Conflicts x) s' there is = is
+refuses_draft called s d r (Expired x y) s' there is = absurd cc
+refuses_draft called s d r (RetriesSpent x) s' there is = is
+refuses_draft called s d r (SweepOpen x) s' there is = is
+refuses_draft called s d r (Limit x y) s' there is = is
+refuses_draft called s d r (Collision x y z) s' there is = is
+refuses_draft called s d r Fault s' there is = is
+refuses_draft called s d r (Down x) s' there is = is
+refuses_draft called s d r NoMemory s' there is = is
+refuses_draft called s d r NoRoute s' there is = is
+refuses_draft called s d r (WrongMethod x) s' there is = is
+refuses_draft called s d r TooLarge s' there is = is
+refuses_draft called s d r Encoding s' there is = is
+
+-- one or the other
+pub draft_refused : {K : Type 0} (called : Called) (s : Stored K) (d : Draft) (r : Refused) (why : Refusal) (s' : Stored K) → RefusesDraft called s d r why s' → Expires called s d r s' ⊎ Refuses called d.caller s r why s' (closed s d)
+draft_refused called s d r (BadRequest x) s' is = inr is
+draft_refused called s d r RefNotFound s' is = inr is
+draft_refused called s d r RefExists s' is = inr is
+draft_refused called s d r (ContentNotFound x) s' is = inr is
+draft_refused called s d r (Conflicts x) s' is = inr is
+draft_refused called s d r (Expired x y) s' is = inl is
+draft_refused called s d r (RetriesSpent x) s' is = inr is
+draft_refused called s d r (SweepOpen x) s' is = inr is
+draft_refused called s d r (Limit x y) s' is = inr is
+draft_refused called s d r (Collision x y z) s' is = inr is
+draft_refused called s d r Fault s' is = inr is
+draft_refused called s d r (Down x) s' is = inr is
+draft_refused called s d r NoMemory s' is = inr is
+draft_refused called s d r NoRoute s' is = inr is
+draft_refused called s d r (WrongMethod x) s' is = inr is
+draft_refused called s d r TooLarge s' is = inr is
+draft_refused called s d r Encoding s' is = inr is
+
+-- ---- settling
 
 up_not_down : {K : Type 0} (s : Stored K) (count : ℕ) → IsUp s → IsDownAt s count → ⊥
 up_not_down s count up down = up_of down.0 (sym up ∙ down.1)
@@ -156,13 +213,13 @@ module _ {K : Type 0} (members : Ghosts K)
     pub settled_refused : (place : ℕ) (why : Refusal) (r : Refused) → IsUp s → opening sha256 s.book.state (command_in d) ≡ Err why → place ≡ s.book.state.place → r ≡ refused_at place (failures.Refused why) → s' ≡ record s { left_open = closed s d } → It (settled.Refused r)
     settled_refused place why r up fails same_place is left =
         let other : IsOther why = opening_other s.book.state (command_in d) why fails in
-        let called_so = tests_refuse s.book d.caller at d.number (command_in d) why fails in
-        let there : is_expired why ≡ false = unexpired_fails (failures.Refused why) (opening sha256 s.book.state (command_in d)) (unexpired_opening s.book.state (command_in d)) fails in
-        let none : called.logged ≡ [] = (right_attempt s.book (in_draft d.caller at d.number) (command_in d)).none _ called_so.said in
+        let called_so = tests_refuse s.book d.caller at d.number d.place (command_in d) why fails in
+        let there : is_expired why ≡ false = opening_there s.book.state (command_in d) why fails in
+        let none : called.logged ≡ [] = (right_attempt s.book (in_draft d.caller at d.number d.place) (command_in d)).none _ called_so.said in
         let here : Refused = record { place = Some s.book.state.place; why = why } in
         let same : here ≡ r = ap (λ (p : ℕ). let x : Refused = record { place = Some p; why = why } in x) (sym same_place) ∙ sym is in
         subst (λ (x : Refused). It (settled.Refused x)) same record {
-          settles = (λ u passes other. absurd (err_not_ok _ why fails passes), refuses called d.caller s here s' (closed s d) why other there (record { up = up; said = called_so.said; none = none; after = same_as left }));
+          settles = (λ u passes other. absurd (err_not_ok _ why fails passes), refuses_draft called s d here why s' there (refuses called d.caller s here s' (closed s d) why other (record { up = up; said = called_so.said; none = none; after = same_as left })));
           keeps = λ u. record { done = tt; fault = λ is_fault. absurd (not_fault why other is_fault); other = λ no. still s.keeper s'.keeper (keeper_same left) };
           crash = crash_same (keeper_same left);
         }
@@ -183,12 +240,42 @@ module _ {K : Type 0} (members : Ghosts K)
           crash = crash_same same;
         }
 
-    -- the call is made
-    pub settled_told : (shut : Stored K) (result : Result Told Refused) → IsOn s d built → shut ≡ record s { left_open = closed s d }
-        → IsTold members d.caller shut s' (attempt_on sha256 shut.book (in_draft d.caller at d.number) (command_in d)) result → It (settled_as result)
-    settled_told shut result on left is =
-        by result (subst (λ (x : Stored K). IsTold members d.caller x s' (attempt_on sha256 x.book (in_draft d.caller at d.number) (command_in d)) result) left is)
-      where
-        by : (result : Result Told Refused) → IsTold members d.caller (record s { left_open = closed s d }) s' called result → It (settled_as result)
-        by (Ok x) is = record { settles = (on, record { up = is.refers.up; said = is.refers.said; after = is.refers.after }); keeps = λ u. is.keeps; crash = λ u. is.crash }
-        by (Err r) is = record { settles = (λ u p no. on, refused_on s called d.caller r s' (closed s d) r.why is.refers); keeps = λ u. is.keeps; crash = λ u. is.crash }
+    module _ (shut : Stored K) (on : IsOn s d built) (left : shut ≡ record s { left_open = closed s d }) where
+      abbrev Tells : Stored K → Result Told Refused → Type 0
+      Tells made result = IsTold members d.caller shut made (attempt_on sha256 shut.book (in_draft d.caller at d.number d.place) (command_in d)) result
+
+      told_of : (made : Stored K) (result : Result Told Refused) → Tells made result → IsTold members d.caller (record s { left_open = closed s d }) made called result
+      told_of made result is = subst (λ (x : Stored K). IsTold members d.caller x made (attempt_on sha256 x.book (in_draft d.caller at d.number d.place) (command_in d)) result) left is
+
+      -- the call is made
+      pub settled_done : (x : Told) → Tells s' (Ok x) → It (settled.Done x)
+      settled_done x is =
+          let own = told_of s' (Ok x) is in
+          record { settles = (on, record { up = own.refers.up; said = own.refers.said; after = own.refers.after }); keeps = λ u. own.keeps; crash = λ u. own.crash }
+
+      -- it is refused, not for contents that are gone
+      pub settled_unmade : (r : Refused) → is_expired r.why ≡ false → Tells s' (Err r) → It (settled.Refused r)
+      settled_unmade r there is =
+          let own = told_of s' (Err r) is in
+          record { settles = (λ u p no. on, refuses_draft called s d r r.why s' there (refused_on s called d.caller r s' (closed s d) r.why own.refers)); keeps = λ u. own.keeps; crash = λ u. own.crash }
+
+      -- it is refused for these, and the mark tells of the draft then
+      pub settled_expired : (r : Refused) (made : Stored K) → is_expired r.why ≡ true → s' ≡ record made { mark = record (made.mark) { expired = Some (opening_in d) } } → Tells made (Err r) → It (settled.Refused r)
+      settled_expired r made gone marked is =
+          let own = told_of made (Err r) is in
+          let why : r.why ≡ Expired (gone_is r.why gone).0 (gone_is r.why gone).1 = (gone_is r.why gone).2 in
+          let keeper : s'.keeper ≡ made.keeper = ap (λ (x : Stored K). x.keeper) marked in
+          let refused : IsRefused called (record s { left_open = closed s d }) r made (closed s d) = subst (λ (w : Refusal). Refuses called d.caller (record s { left_open = closed s d }) r w made (closed s d)) why own.refers in
+          let expires : Expires called s d r s' = record {
+            up = refused.up;
+            said = refused.said;
+            none = refused.none;
+            after = marked
+                ∙ ap (λ (x : Stored K). record x { mark = record (x.mark) { expired = Some (opening_in d) } }) refused.after
+                ∙ ap (λ (k : K). record s { keeper = k; mark = record (s.mark) { expired = Some (opening_in d) }; left_open = closed s d }) (sym keeper);
+          } in
+          record {
+            settles = (λ u p no. on, subst (λ (w : Refusal). RefusesDraft called s d r w s') (sym why) expires);
+            keeps = λ u. subst (λ (k : K). KeepsTold members s.keeper k called.logged (Err r)) (sym keeper) own.keeps;
+            crash = λ u. subst (λ (k : K). Leaves members s.keeper k called.logged) (sym keeper) own.crash;
+          }

@@ -1,24 +1,30 @@
 -- Books that their logs lead to: what a call brings leads them on.
 use Rattle.std.proofs.Common.{◌≡◌, ◌≢◌, ◌≤◌, ◌<◌, ℕ, max, List, [], ◌∷◌, ◌++◌, reverse, Ok, Err, Bool, true, false, not, ◌&&◌, if◌then◌else◌, nat_eq, nat_lt, refl, sym, ap, ◌∙◌, subst, arith, le_refl, ne_eqb}
 use Rattle.std.proofs.lemmas.List.{append-nil, reverse-append, reverse-reverse}
+use Rattle.std.proofs.lemmas.Map.Views.{exact_unsigned_eq}
 use Rattle.std.proofs.Math.Nat.{le-max_left, le-max_right, max-zero}
 use Rattle.cat_codes.specs.ListLaws.{and_true}
 use Rattle.sha2.specs.Sha256.{sha256}
-use Rattle.cat_checks.specs.AcceptedLaws.{accepted_is_legal}
+use Rattle.cat_checks.specs.AcceptedLaws.{accepted_is_legal, swept_is_legal}
 use Rattle.cat_checks.specs.Histories.{AreLegal, IsLegalFrom, begun, book_after, book_at}
-use Rattle.cat_checks.specs.HistoryLaws.{AreAtMost, all_above, at_most_more, book_more, books_uphold, first_upholds, legal_more, limits_stay, log_is}
-use Rattle.cat_checks.specs.Legal.{IsLegal, draft_after, draft_is_new, has_its_draft, is_just, is_legal, replayed_by, replayed_call, turn_of}
+use Rattle.cat_checks.specs.HistoryLaws.{AreAtMost, all_above, at_most_more, base_stays, book_more, books_uphold, first_upholds, legal_more, limits_stay, log_is}
+use Rattle.cat_checks.specs.Legal.{IsLegal, draft_after, draft_is_new, has_its_draft, is_just, is_legal, may_be_done, may_be_swept, opens_one, replayed_action, replayed_by, replayed_call, turn_of}
 use Rattle.cat_checks.specs.Upheld.{Upholds}
 use Rattle.cat_model.specs.declared.command.Command.{Command}
 use Rattle.cat_model.specs.declared.limits.Limits.{Limits}
+use Rattle.cat_model.specs.declared.log_entry.Action.{Action}
+use Rattle.cat_model.specs.declared.log_entry.Action.TheVariants as actions
 use Rattle.cat_model.specs.declared.log_entry.LogEntry.{LogEntry}
 use Rattle.cat_model.specs.declared.reply.Reply.{Reply}
+use Rattle.cat_model.specs.declared.sweep.Sweep.{Sweep}
 use Rattle.cat_model.specs.Book.{Book, after_call, attempt_on, call_on, first_book}
 use Rattle.cat_model.specs.Calls.{Called, attempt, entry_made, in_draft, stepped, tried, unchanged_by}
 use Rattle.cat_model.specs.Drafts.{OpenDraft}
+use Rattle.cat_model.specs.Past.{course, past_of}
 use Rattle.cat_model.specs.Refusing.{Outcome, Tested}
 use Rattle.cat_model.specs.State.{State, first_state}
 use Rattle.cat_model.specs.Step.{Turn, opening, opens_draft, step}
+use Rattle.cat_model.specs.Sweeps.{step_sweep, sweep_call, sweep_entry, swept_by}
 use Rattle.cat_model.specs.Turns.{Opened}
 use Rattle.cat_model.specs.WellMade.{is_well_made}
 use Rattle.cat_core.proofs.Waiting.{waiting_on}
@@ -37,29 +43,43 @@ same_stepped : (state : State) (a b : ℕ) (command : Command) (turn : Turn) (ou
 same_stepped state a b command turn (Err why) = (refl, refl)
 same_stepped state a b command turn (Ok (after, reply)) = same_choice (nat_lt state.place after.place) _ _ _ _ (refl, refl) (refl, refl)
 
-same_tested : (state : State) (a b : ℕ) (log : List LogEntry) (e : LogEntry) (t : Tested)
-    → SameLogged (replayed_by sha256 (record { state = state; draft = a; log = log }) e t) (replayed_by sha256 (record { state = state; draft = b; log = log }) e t)
-same_tested state a b log e (Err why) = (refl, refl)
-same_tested state a b log e (Ok u) = same_stepped state (max a e.draft) (max b e.draft) e.command _ (step sha256 state e.command _)
+-- a book with this last draft number
+abbrev numbered : State → List LogEntry → State → ℕ → Book
+numbered state log base draft = record { state = state; draft = draft; log = log; base = base }
 
-same_replayed : (state : State) (a b : ℕ) (log : List LogEntry) (e : LogEntry)
-    → SameLogged (replayed_call sha256 (record { state = state; draft = a; log = log }) e) (replayed_call sha256 (record { state = state; draft = b; log = log }) e)
-unfolding attempt
-same_replayed state a b log e = same_tested state a b log e (opening sha256 state e.command)
+same_tested : (state base : State) (a b : ℕ) (log : List LogEntry) (e : LogEntry) (command : Command) (t : Tested)
+    → SameLogged (replayed_by sha256 (numbered state log base a) e command t) (replayed_by sha256 (numbered state log base b) e command t)
+same_tested state base a b log e command (Err why) = (refl, refl)
+same_tested state base a b log e command (Ok u) = same_stepped state (max a e.draft) (max b e.draft) command _ (step sha256 state command _)
+
+same_swept : (state : State) (a b moment : ℕ) (s : Sweep) (outcome : Outcome) → SameLogged (swept_by 0 state a moment s outcome) (swept_by 0 state b moment s outcome)
+same_swept state a b moment s (Err why) = (refl, refl)
+same_swept state a b moment s (Ok (after, reply)) = (refl, refl)
+
+same_action : (state base : State) (a b : ℕ) (log : List LogEntry) (e : LogEntry) (action : Action)
+    → SameLogged (replayed_action sha256 (numbered state log base a) e action) (replayed_action sha256 (numbered state log base b) e action)
+unfolding attempt past_of sweep_call
+same_action state base a b log e (actions.Call command) = same_tested state base a b log e command (opening sha256 state command)
+same_action state base a b log e (actions.Sweep s) = same_swept state (max a e.draft) (max b e.draft) e.moment s (step_sweep state (course sha256 base log).past s)
+
+same_done : (state base : State) (a b : ℕ) (log : List LogEntry) (action : Action) → may_be_done sha256 (numbered state log base a) action ≡ may_be_done sha256 (numbered state log base b) action
+same_done state base a b log (actions.Call command) = refl
+same_done state base a b log (actions.Sweep s) = refl
 
 abbrev SameLegal : Book → Book → LogEntry → Type 0
 SameLegal x y e = (is_legal sha256 x e ≡ is_legal sha256 y e) × SameLogged (replayed_call sha256 x e) (replayed_call sha256 y e)
 
-same_legal : (state : State) (a b : ℕ) (log : List LogEntry) (e : LogEntry) → SameLegal (record { state = state; draft = a; log = log }) (record { state = state; draft = b; log = log }) e
+same_legal : (state base : State) (a b : ℕ) (log : List LogEntry) (e : LogEntry) → SameLegal (numbered state log base a) (numbered state log base b) e
 unfolding is_legal
-same_legal state a b log e =
-    let same = same_replayed state a b log e in
-    (ap (λ (l : List LogEntry). is_well_made sha256 e.command && (if opens_draft e.command then not (nat_eq e.draft 0) else nat_eq e.draft 0) && draft_is_new log e.draft && is_just sha256 e l) same.0, same)
+same_legal state base a b log e =
+    let same = same_action state base a b log e e.action in
+    (λ i. same_done state base a b log e.action i && has_its_draft e && draft_is_new log e.draft && is_just sha256 e (same.0 i), same)
 
-legal_alike : (x y : Book) (e : LogEntry) → x.state ≡ y.state → x.log ≡ y.log → SameLegal x y e
-legal_alike x y e state log =
+legal_alike : (x y : Book) (e : LogEntry) → x.state ≡ y.state → x.log ≡ y.log → x.base ≡ y.base → SameLegal x y e
+legal_alike x y e state log base =
     subst (λ (s : State). SameLegal x (record y { state = s }) e) state
-    (subst (λ (l : List LogEntry). SameLegal x (record { state = x.state; draft = y.draft; log = l }) e) log (same_legal x.state x.draft y.draft x.log e))
+    (subst (λ (l : List LogEntry). SameLegal x (record y { state = x.state; log = l }) e) log
+    (subst (λ (s : State). SameLegal x (numbered x.state x.log s y.draft) e) base (same_legal x.state x.base x.draft y.draft x.log e)))
 
 -- ---- one entry more
 
@@ -68,7 +88,7 @@ start limits faults = record { state = first_state sha256 limits; draft = 0; fau
 
 -- a book that its log leads to from the empty catalogue
 abbrev pub IsLed : Limits → ℕ → Book → Type 0
-IsLed limits faults book = IsLegalFrom (start limits faults) (reverse book.log) × ((book_at (start limits faults) (reverse book.log)).state ≡ book.state)
+IsLed limits faults book = IsLegalFrom (start limits faults) (reverse book.log) × ((book_at (start limits faults) (reverse book.log)).state ≡ book.state) × (book.base ≡ first_state sha256 limits)
 
 turned_log : (e : LogEntry) (log : List LogEntry) → reverse (e ∷ log) ≡ reverse log ++ e ∷ []
 turned_log e log = reverse-append (e ∷ []) log
@@ -78,26 +98,27 @@ own_log : (limits : Limits) (faults : ℕ) (log : List LogEntry) → (book_at (s
 own_log limits faults log = log_is sha256 (begun (start limits faults)) (reverse log) ∙ append-nil _ ∙ reverse-reverse log
 
 pub led_on : (limits : Limits) (faults : ℕ) (book : Book) (e : LogEntry) (after : State) (draft : ℕ) → IsLed limits faults book → IsLegal sha256 book e → (replayed_call sha256 book e).state ≡ after
-    → IsLed limits faults (record { state = after; draft = draft; log = e ∷ book.log })
+    → IsLed limits faults (record book { state = after; draft = draft; log = e ∷ book.log })
 led_on limits faults book e after draft led legal leads =
     let from = begun (start limits faults) in
     let at : Book = book_at (start limits faults) (reverse book.log) in
-    let same : SameLegal at book e = legal_alike at book e led.1 (own_log limits faults book.log) in
+    let same : SameLegal at book e = legal_alike at book e led.1 (own_log limits faults book.log) (base_stays sha256 from (reverse book.log) ∙ sym led.2) in
     let there : IsLegal sha256 at e = record { legal = same.0 ∙ legal.legal; logged = same.1.0 ∙ legal.logged } in
     let each : AreLegal sha256 from (reverse book.log ++ e ∷ []) = legal_more sha256 from (reverse book.log) (e ∷ []) led.0.legal (there, tt) in
     let all : IsLegalFrom (start limits faults) (reverse book.log ++ e ∷ []) = record { legal = each; above = all_above (reverse book.log ++ e ∷ []) } in
     let state : (book_after sha256 from (reverse book.log ++ e ∷ [])).state ≡ after = ap (λ (b : Book). b.state) (book_more sha256 from (reverse book.log) (e ∷ [])) ∙ same.1.1 ∙ leads in
-    subst (λ (l : List LogEntry). IsLegalFrom (start limits faults) l × ((book_after sha256 from l).state ≡ after)) (sym (turned_log e book.log)) (all, state)
+    let both = subst (λ (l : List LogEntry). IsLegalFrom (start limits faults) l × ((book_after sha256 from l).state ≡ after)) (sym (turned_log e book.log)) (all, state) in
+    (both.0, both.1, led.2)
 
 limits_same : (book : Book) (e : LogEntry) (after : State) → (replayed_call sha256 book e).state ≡ after → after.limits ≡ book.state.limits
 limits_same book e after leads = sym (ap (λ (s : State). s.limits) leads) ∙ limits_stay sha256 book (e ∷ [])
 
 pub sound_on : (book : Book) (faults : ℕ) (left_open ds : List OpenDraft) (e : LogEntry) (after : State) → IsSound book faults left_open → IsLegal sha256 book e → (replayed_call sha256 book e).state ≡ after → e.draft ≤ book.draft → AreWaiting book.draft book.log ds → IsNumberOfNone e.draft ds
-    → IsSound (record { state = after; draft = book.draft; log = e ∷ book.log }) faults ds
+    → IsSound (record book { state = after; log = e ∷ book.log }) faults ds
 sound_on book faults left_open ds e after sound legal leads low waiting none =
-    let led : IsLed after.limits faults (record { state = after; draft = book.draft; log = e ∷ book.log }) =
-    subst (λ (l : Limits). IsLed l faults (record { state = after; draft = book.draft; log = e ∷ book.log })) (sym (limits_same book e after leads)) (led_on book.state.limits faults book e after book.draft (sound.legal, sound.led) legal leads) in
-    record { legal = led.0; led = led.1; taken = (low, sound.taken); waiting = waiting_on book.draft book.log e ds none waiting }
+    let led : IsLed after.limits faults (record book { state = after; log = e ∷ book.log }) =
+    subst (λ (l : Limits). IsLed l faults (record book { state = after; log = e ∷ book.log })) (sym (limits_same book e after leads)) (led_on book.state.limits faults book e after book.draft (sound.legal, sound.led, sound.base) legal leads) in
+    record { base = led.2; legal = led.0; led = led.1; taken = (low, sound.taken); waiting = waiting_on book.draft book.log e ds none waiting }
 
 -- ---- what a call brings
 
@@ -152,18 +173,18 @@ above_zero : (n : ℕ) → 0 < n → nat_eq n 0 ≡ false
 above_zero n h = ne_eqb n 0 (λ e. omega arith)
 
 -- a call in its draft
-module _ (caller number moment : ℕ) (book : Book) (command : Command) (made : is_well_made sha256 command ≡ true) (opens : opens_draft command ≡ true) (above : 0 < number) (below : number ≤ book.draft) (new : draft_is_new book.log number ≡ true) where
+module _ (caller number moment opened : ℕ) (book : Book) (command : Command) (made : is_well_made sha256 command ≡ true) (opens : opens_draft command ≡ true) (above : 0 < number) (below : number ≤ book.draft) (new : draft_is_new book.log number ≡ true) where
   abbrev its_turn : Turn
-  its_turn = record { draft = number; opened = book.state.place; moment = moment }
+  its_turn = record { draft = number; opened = opened; moment = moment }
 
-  numbered : (if opens_draft command then not (nat_eq number 0) else nat_eq number 0) ≡ true
-  numbered = rw (opens, above_zero number above) refl
+  has_number : (if opens_draft command then not (nat_eq number 0) else nat_eq number 0) ≡ true
+  has_number = rw (opens, above_zero number above) refl
 
   tested_brings : (t : Tested) → IsCallIn caller number book (tried sha256 caller book.state book.draft command its_turn t)
   tested_brings (Err why) = record { draft = refl; brings = refl }
-  tested_brings (Ok u) = stepped_brings caller book command its_turn made numbered new (max book.draft number) (greatest book.draft number below)
+  tested_brings (Ok u) = stepped_brings caller book command its_turn made has_number new (max book.draft number) (greatest book.draft number below)
 
-  pub made_brings : IsCallIn caller number book (attempt_on sha256 book (in_draft caller moment number) command)
+  pub made_brings : IsCallIn caller number book (attempt_on sha256 book (in_draft caller moment number opened) command)
   unfolding attempt
   made_brings = tested_brings (opening sha256 book.state command)
 
@@ -187,16 +208,16 @@ module _ (caller moment : ℕ) (book : Book) (command : Command) (made : is_well
 
 -- other drafts are open
 pub sound_with : (book : Book) (faults : ℕ) (left_open ds : List OpenDraft) → IsSound book faults left_open → AreWaiting book.draft book.log ds → IsSound book faults ds
-sound_with book faults left_open ds sound waiting = record { legal = sound.legal; led = sound.led; taken = sound.taken; waiting = waiting }
+sound_with book faults left_open ds sound waiting = record { base = sound.base; legal = sound.legal; led = sound.led; taken = sound.taken; waiting = waiting }
 
 module _ (caller number : ℕ) (book : Book) (faults : ℕ) (left_open ds : List OpenDraft) (sound : IsSound book faults left_open) (below : number ≤ book.draft) (waiting : AreWaiting book.draft book.log ds) (none : IsNumberOfNone number ds) where
-  sound_by : (logged : List LogEntry) (after : State) (draft : ℕ) → draft ≡ book.draft → Brings caller number book logged after → IsSound (record { state = after; draft = draft; log = logged ++ book.log }) faults ds
+  sound_by : (logged : List LogEntry) (after : State) (draft : ℕ) → draft ≡ book.draft → Brings caller number book logged after → IsSound (record book { state = after; draft = draft; log = logged ++ book.log }) faults ds
   sound_by [] after draft same brings =
-      subst (λ (s : State). IsSound (record { state = s; draft = draft; log = book.log }) faults ds) (sym brings)
+      subst (λ (s : State). IsSound (record book { state = s; draft = draft }) faults ds) (sym brings)
       (subst (λ (n : ℕ). IsSound (record book { draft = n }) faults ds) (sym same) (sound_with book faults left_open ds sound waiting))
   sound_by (e ∷ []) after draft same brings =
       let n : e.draft ≡ number = brings.draft_is in
-      subst (λ (n : ℕ). IsSound (record { state = after; draft = n; log = e ∷ book.log }) faults ds) (sym same)
+      subst (λ (n : ℕ). IsSound (record book { state = after; draft = n; log = e ∷ book.log }) faults ds) (sym same)
       (sound_on book faults left_open ds e after sound brings.legal brings.leads (subst (λ (n : ℕ). n ≤ book.draft) (sym n) below) waiting (subst (λ (n : ℕ). IsNumberOfNone n ds) (sym n) none))
   sound_by (e ∷ f ∷ more) after draft same brings = absurd brings
 
@@ -220,17 +241,17 @@ pub record IsReopened (limits : Limits) (faults : ℕ) (book : Book) : Type 0 wh
   pub taken : AreAtMost book.draft book.log
 
 pub reopened_first : (limits : Limits) (faults : ℕ) → IsReopened limits faults (first_book sha256 limits)
-reopened_first limits faults = record { led = (record { legal = tt; above = tt }, refl); limits_are = refl; taken = tt }
+reopened_first limits faults = record { led = (record { legal = tt; above = tt }, refl, refl); limits_are = refl; taken = tt }
 
 pub sound_reopened : (limits : Limits) (faults : ℕ) (book : Book) → IsReopened limits faults book → IsSound book faults []
 sound_reopened limits faults book is =
     let led : IsLed book.state.limits faults book = subst (λ (l : Limits). IsLed l faults book) (sym is.limits_are) is.led in
-    record { legal = led.0; led = led.1; taken = is.taken; waiting = tt }
+    record { base = led.2; legal = led.0; led = led.1; taken = is.taken; waiting = tt }
 
 module _ (limits : Limits) (faults number : ℕ) (book : Book) (is : IsReopened limits faults book) where
-  reopened_by : (logged : List LogEntry) (after : State) (draft : ℕ) → book.draft ≤ draft → (logged ≢ [] → number ≤ draft) → Brings 0 number book logged after → IsReopened limits faults (record { state = after; draft = draft; log = logged ++ book.log })
+  reopened_by : (logged : List LogEntry) (after : State) (draft : ℕ) → book.draft ≤ draft → (logged ≢ [] → number ≤ draft) → Brings 0 number book logged after → IsReopened limits faults (record book { state = after; draft = draft; log = logged ++ book.log })
   reopened_by [] after draft more low brings =
-      subst (λ (s : State). IsReopened limits faults (record { state = s; draft = draft; log = book.log })) (sym brings)
+      subst (λ (s : State). IsReopened limits faults (record book { state = s; draft = draft })) (sym brings)
       record { led = is.led; limits_are = is.limits_are; taken = at_most_more book.draft draft book.log more is.taken }
   reopened_by (e ∷ []) after draft more low brings =
       let n : e.draft ≡ number = brings.draft_is in
@@ -241,33 +262,52 @@ module _ (limits : Limits) (faults number : ℕ) (book : Book) (is : IsReopened 
       }
   reopened_by (e ∷ f ∷ more_entries) after draft more low brings = absurd brings
 
-legal_parts : (book : Book) (e : LogEntry) → is_legal sha256 book e ≡ true → (is_well_made sha256 e.command ≡ true) × (has_its_draft e ≡ true) × (draft_is_new book.log e.draft ≡ true)
+legal_parts : (book : Book) (e : LogEntry) → is_legal sha256 book e ≡ true → (may_be_done sha256 book e.action ≡ true) × (has_its_draft e ≡ true) × (draft_is_new book.log e.draft ≡ true)
 unfolding is_legal
 legal_parts book e legal =
-    let first = and_true (is_well_made sha256 e.command && has_its_draft e && draft_is_new book.log e.draft) (is_just sha256 e (replayed_call sha256 book e).logged) legal in
-    let second = and_true (is_well_made sha256 e.command && has_its_draft e) (draft_is_new book.log e.draft) first.0 in
-    let third = and_true (is_well_made sha256 e.command) (has_its_draft e) second.0 in
+    let first = and_true (may_be_done sha256 book e.action && has_its_draft e && draft_is_new book.log e.draft) (is_just sha256 e (replayed_call sha256 book e).logged) legal in
+    let second = and_true (may_be_done sha256 book e.action && has_its_draft e) (draft_is_new book.log e.draft) first.0 in
+    let third = and_true (may_be_done sha256 book e.action) (has_its_draft e) second.0 in
     (third.0, third.1, second.1)
 
 -- what the call of a legal entry brings, by nobody
 module _ (book : Book) (e : LogEntry) (legal : is_legal sha256 book e ≡ true) where
   -- a draft number that is taken stays so, and an entry's is taken
-  abbrev Replays : Called → Type 0
+  abbrev pub Replays : Called → Type 0
   Replays c = Brings 0 e.draft book c.logged c.state × (book.draft ≤ c.draft) × (c.logged ≢ [] → e.draft ≤ c.draft)
 
-  replayed_at : (t : Tested) → Replays (replayed_by sha256 book e t)
-  replayed_at (Err why) = (refl, le_refl book.draft, λ some. absurd (some refl))
-  replayed_at (Ok u) =
+  replayed_at : (command : Command) → e.action ≡ actions.Call command → (t : Tested) → Replays (replayed_by sha256 book e command t)
+  replayed_at command is (Err why) = (refl, le_refl book.draft, λ some. absurd (some refl))
+  replayed_at command is (Ok u) =
       let parts = legal_parts book e legal in
-      let taken = stepped_draft 0 book.state (draft_after book e) e.command (turn_of book e) (step sha256 book.state e.command (turn_of book e)) in (
-        stepped_logs 0 book e.command (turn_of book e) parts.0 parts.1 parts.2 (draft_after book e) (step sha256 book.state e.command (turn_of book e)) refl,
+      let made : is_well_made sha256 command ≡ true = subst (λ (a : Action). may_be_done sha256 book a ≡ true) is parts.0 in
+      let own : (if opens_draft command then not (nat_eq e.draft 0) else nat_eq e.draft 0) ≡ true = subst (λ (a : Action). (if opens_one a then not (nat_eq e.draft 0) else nat_eq e.draft 0) ≡ true) is parts.1 in
+      let taken = stepped_draft 0 book.state (draft_after book e) command (turn_of book e) (step sha256 book.state command (turn_of book e)) in (
+        stepped_logs 0 book command (turn_of book e) made own parts.2 (draft_after book e) (step sha256 book.state command (turn_of book e)) refl,
         subst (λ (n : ℕ). book.draft ≤ n) (sym taken) (le-max_left book.draft e.draft),
         λ some. subst (λ (n : ℕ). e.draft ≤ n) (sym taken) (le-max_right book.draft e.draft),
       )
 
-  replays : Replays (replayed_call sha256 book e)
-  unfolding attempt
-  replays = replayed_at (opening sha256 book.state e.command)
+  swept_one : (s : Sweep) (after : State) → 0 ≡ e.draft → IsLegal sha256 book (sweep_entry 0 after.place e.moment s) → (replayed_call sha256 book (sweep_entry 0 after.place e.moment s)).state ≡ after → BringsOne 0 e.draft book (sweep_entry 0 after.place e.moment s) after
+  unfolding sweep_entry
+  swept_one s after none legal leads = record { caller_is = refl; draft_is = none; legal = legal; leads = leads }
+
+  swept_at : (s : Sweep) → e.action ≡ actions.Sweep s → (outcome : Outcome) → step_sweep book.state (past_of sha256 book) s ≡ outcome → Replays (swept_by 0 book.state (draft_after book e) e.moment s outcome)
+  swept_at s is (Err why) steps = (refl, le-max_left book.draft e.draft, λ some. absurd (some refl))
+  swept_at s is (Ok (after, reply)) steps =
+      let parts = legal_parts book e legal in
+      let may : may_be_swept sha256 book s ≡ true = subst (λ (a : Action). may_be_done sha256 book a ≡ true) is parts.0 in
+      let none : nat_eq e.draft 0 ≡ true = subst (λ (a : Action). (if opens_one a then not (nat_eq e.draft 0) else nat_eq e.draft 0) ≡ true) is parts.1 in
+      let one = swept_is_legal 0 book e.moment s after reply may steps in
+      (swept_one s after (sym (exact_unsigned_eq e.draft 0 none)) one.0 one.1, le-max_left book.draft e.draft, λ some. le-max_right book.draft e.draft)
+
+  replays_by : (action : Action) → e.action ≡ action → Replays (replayed_action sha256 book e action)
+  unfolding attempt sweep_call
+  replays_by (actions.Call command) is = replayed_at command is (opening sha256 book.state command)
+  replays_by (actions.Sweep s) is = swept_at s is (step_sweep book.state (past_of sha256 book) s) refl
+
+  pub replays : Replays (replayed_call sha256 book e)
+  replays = replays_by e.action refl
 
 pub reopened_on : (limits : Limits) (faults : ℕ) (book : Book) (e : LogEntry) → IsReopened limits faults book → is_legal sha256 book e ≡ true → IsReopened limits faults (after_call book (replayed_call sha256 book e))
 reopened_on limits faults book e is legal =

@@ -16,8 +16,8 @@ use Rattle.cat_core.specs.Stored.{IsInStep, IsNumberOfNone, IsSound}
 use Rattle.cat_core.proofs.InStep.{LogsRight, in_step}
 use Rattle.cat_core.proofs.Sound.{IsCallIn, sound_called}
 
-book_is : (a b : Book) → a.state ≡ b.state → a.draft ≡ b.draft → a.log ≡ b.log → b ≡ a
-book_is a b state draft log = λ i. record { state = sym state i; draft = sym draft i; log = sym log i }
+book_is : (a b : Book) → a.state ≡ b.state → a.draft ≡ b.draft → a.log ≡ b.log → a.base ≡ b.base → b ≡ a
+book_is a b state draft log base = λ i. record { state = sym state i; draft = sym draft i; log = sym log i; base = sym base i }
 
 -- the book is sound
 pub sound_made : (caller number : ℕ) (before after : Book) (faults : ℕ) (open_drafts : List OpenDraft) (called : Called) (made : Result Told Unmade) → Runs called before after made → IsCallIn caller number before called → number ≤ before.draft → IsSound before faults open_drafts → IsNumberOfNone number open_drafts
@@ -25,12 +25,12 @@ pub sound_made : (caller number : ℕ) (before after : Book) (faults : ℕ) (ope
 sound_made caller number before after faults open_drafts called (Ok told) runs is below sound none =
     subst (λ (b : Book). IsSound b faults open_drafts) (sym runs.book) (sound_called caller number before faults open_drafts open_drafts sound below sound.waiting none called is)
 sound_made caller number before after faults open_drafts called (Err NotKept) runs is below sound none =
-    subst (λ (b : Book). IsSound b faults open_drafts) (book_is after before runs.state (runs.draft ∙ is.draft) runs.log) sound
+    subst (λ (b : Book). IsSound b faults open_drafts) (book_is after before runs.state (runs.draft ∙ is.draft) runs.log runs.base) sound
 sound_made caller number before after faults open_drafts called (Err (Failed failures.NoMemory)) runs is below sound none =
     let low : before.draft ≤ after.draft = runs.kept in
     let high : after.draft ≤ before.draft = subst (λ (n : ℕ). after.draft ≤ n) is.draft runs.taken in
     let n : after.draft ≡ before.draft = omega arith in
-    subst (λ (b : Book). IsSound b faults open_drafts) (book_is after before runs.state n runs.log) sound
+    subst (λ (b : Book). IsSound b faults open_drafts) (book_is after before runs.state n runs.log runs.base) sound
 sound_made caller number before after faults open_drafts called (Err (Failed (failures.Refused why))) runs is below sound none =
     subst (λ (b : Book). IsSound b faults open_drafts) (sym runs.1.book) (sound_called caller number before faults open_drafts open_drafts sound below sound.waiting none called is)
 

@@ -14,8 +14,8 @@ use Rattle.cat_core.specs.declared.ledger.logging.Turn.{Turn}
 use Rattle.cat_core.specs.LoggedLaws.{IsDraftOf, call_opens}
 use Rattle.cat_core.specs.Turns.{turned}
 
-abbrev pub turn_of : ℕ → ℕ → ℕ → Turn
-turn_of caller moment number = record { caller = caller; draft = number; moment = moment }
+abbrev pub turn_of : ℕ → ℕ → ℕ → ℕ → Turn
+turn_of caller moment number opened = record { caller = caller; draft = number; opened = opened; moment = moment }
 
 -- ---- in no draft
 
@@ -31,9 +31,9 @@ passes state (commands.Commit c) opens = absurd cc
 passes state (commands.Merge m) opens = absurd cc
 passes state (commands.Transplant t) opens = absurd cc
 
-pub undrafted : (caller moment : ℕ) (book : Book) (command : Command) → opens_draft command ≡ false → turned book (turn_of caller moment 0) command ≡ call_on sha256 caller book command moment
+pub undrafted : (caller moment place : ℕ) (book : Book) (command : Command) → place ≡ book.state.place → opens_draft command ≡ false → turned book (turn_of caller moment 0 place) command ≡ call_on sha256 caller book command moment
 unfolding attempt
-undrafted caller moment book command opens = rw (passes book.state command opens, opens) refl
+undrafted caller moment place book command at opens = rw (at, passes book.state command opens, opens) refl
 
 -- ---- in a draft of a number
 
@@ -43,6 +43,6 @@ some_number draft some = grind (arith, nat_tests, some)
 pub number_is : (call : Call) (number : ℕ) → 0 < number → IsDraftOf (command_of call) number
 number_is call number some = rw (call_opens call) (some_number number some)
 
-pub settled : (book : Book) (caller moment number : ℕ) (call : Call) → opening sha256 book.state (command_of call) ≡ Ok tt → turned book (turn_of caller moment number) (command_of call) ≡ attempt_on sha256 book (in_draft caller moment number) (command_of call)
+pub settled : (book : Book) (caller moment number opened : ℕ) (call : Call) → opening sha256 book.state (command_of call) ≡ Ok tt → turned book (turn_of caller moment number opened) (command_of call) ≡ attempt_on sha256 book (in_draft caller moment number opened) (command_of call)
 unfolding attempt
-settled book caller moment number call opened = rw opened refl
+settled book caller moment number opened call passed = rw passed refl

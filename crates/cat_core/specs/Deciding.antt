@@ -1,5 +1,5 @@
 -- What was decided of a call in its turn, and what its change makes of a book.
-use Rattle.std.specs.Prelude.{◌≡◌, ◌+◌, false, Result, Ok, Err, IfErr, IsTrue}
+use Rattle.std.specs.Prelude.{◌≡◌, ◌+◌, Result, Ok, Err, IsTrue}
 use Rattle.sha2.specs.Sha256.{sha256}
 use Rattle.cat_frames.specs.Entries.{is_logged}
 use Rattle.cat_model.specs.declared.command.Command.{Command}
@@ -10,7 +10,6 @@ use Rattle.cat_decisions.specs.declared.decision.Decision.{Decision}
 use Rattle.cat_decisions.specs.declared.decision.Decision.TheVariants as decisions
 use Rattle.cat_decisions.specs.declared.decision.Making.{Making}
 use Rattle.cat_decisions.specs.Decisions.{Decides}
-use Rattle.cat_decisions.specs.Expiring.{fails_expired}
 use Rattle.cat_state.specs.declared.failure.Failure.{Failure}
 use Rattle.cat_state.specs.Changing.{applied}
 use Rattle.cat_core.specs.declared.ledger.logging.Turn.{Turn}
@@ -39,8 +38,7 @@ MayBeLogged book turn (Ok (decisions.Told reply)) = Unit {0}
 MayBeLogged book turn (Ok (decisions.Made m)) = IsTrue (is_logged sha256 (made_entry book turn m))
 MayBeLogged book turn (Err failure) = Unit {0}
 
--- it is what the command's step in the turn comes to, refuses nothing for contents that are gone, and may be logged
+-- it is what the command's step in the turn comes to, and may be logged
 pub record IsDecided (book : Book) (turn : Turn) (command : Command) (decided : Result Decision Failure) : Type 0 where
   pub decides : Decides turn.draft book.state command (turned_step book turn command) decided
-  pub there : IfErr decided (λ failure. fails_expired failure ≡ false)
   pub logged : MayBeLogged book turn decided

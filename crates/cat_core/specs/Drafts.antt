@@ -1,5 +1,5 @@
 -- Drafts: what opening, settling and dropping one answers, and what it leaves.
-use Rattle.std.specs.Prelude.{◌≡◌, ◌⊎◌, ℕ, ◌+◌, List, [], ◌∷◌, ◌++◌, Some, None, Ok, Err, Result, true, cond, nat_eq, ◌&&◌}
+use Rattle.std.specs.Prelude.{◌≡◌, ◌⊎◌, ℕ, ◌+◌, List, [], ◌∷◌, ◌++◌, Some, None, Ok, Err, Result, Bool, true, false, cond, nat_eq, ◌&&◌}
 use Rattle.sha2.specs.Sha256.{sha256}
 use Rattle.cat_model.specs.declared.command.Command.{Command}
 use Rattle.cat_model.specs.declared.log_entry.LogEntry.{LogEntry}
@@ -68,7 +68,7 @@ holding s t c = record s {
 
 -- what the call brings in its draft
 abbrev pub called_in : {K : Type 0} → Stored K → Draft → ℕ → Called
-called_in s d moment = attempt_on sha256 s.book (in_draft d.caller moment d.number) (command_in d)
+called_in s d moment = attempt_on sha256 s.book (in_draft d.caller moment d.number d.place) (command_in d)
 
 -- the branch has the head that was built on
 abbrev pub IsOn : {K : Type 0} → Stored K → Draft → Built → Type 0
@@ -129,7 +129,6 @@ abbrev pub Refuses : {K : Type 0} → Called → ℕ → Stored K → Refused �
 Refuses called caller s r refusals.NoMemory s' left_open = (r.place ≡ None) × (s' ≡ record s { keeper = s'.keeper; left_open = left_open })
 Refuses called caller s r (refusals.Down count) s' left_open = (r.place ≡ Some s.book.state.place) × IsDownAt s count × (s' ≡ record s { left_open = left_open })
 Refuses called caller s r refusals.Fault s' left_open = Falls called caller s r s' left_open
-Refuses called caller s r (refusals.Expired keys place) s' left_open = ⊥
 Refuses called caller s r why s' left_open = IsRefused called s r s' left_open
 
 -- what a call answers and leaves that opens no draft
@@ -138,6 +137,22 @@ Refers called caller s s' (Ok told) = Does called s told s' s.left_open
 Refers called caller s s' (Err r) = Refuses called caller s r r.why s' s.left_open
 
 -- ---- settling
+
+abbrev pub is_expired : Refusal → Bool
+is_expired (refusals.Expired keys place) = true
+is_expired _ = false
+
+-- contents are gone that its plans set: the mark tells of the draft
+pub record Expires {K : Type 0} (called : Called) (s : Stored K) (d : Draft) (r : Refused) (s' : Stored K) : Type 0 where
+  pub up : IsUp s
+  pub said : called.said ≡ Err r
+  pub none : called.logged ≡ []
+  pub after : s' ≡ record s { keeper = s'.keeper; mark = record (s.mark) { expired = Some (opening_in d) }; left_open = closed s d }
+
+-- a refusal of a draft that is settled, by its reason
+abbrev pub RefusesDraft : {K : Type 0} → Called → Stored K → Draft → Refused → Refusal → Stored K → Type 0
+RefusesDraft called s d r (refusals.Expired keys place) s' = Expires called s d r s'
+RefusesDraft called s d r why s' = Refuses called d.caller s r why s' (closed s d)
 
 -- the head was found to be the one that was built on
 abbrev pub IsSettledOn : {K : Type 0} → Stored K → Draft → Built → Refused → Type 0
@@ -155,7 +170,7 @@ pub record IsMoved {K : Type 0} (s : Stored K) (d : Draft) (built : Built) (e : 
 -- what settling a draft at a moment answers, and what it leaves
 abbrev pub Settles : {K : Type 0} → Stored K → Draft → Built → ℕ → Settled → Stored K → Type 0
 Settles s d built moment (settled.Done told) s' = IsOn s d built × Does (called_in s d moment) s told s' (closed s d)
-Settles s d built moment (settled.Refused r) s' = IsSettledOn s d built r × Refuses (called_in s d moment) d.caller s r r.why s' (closed s d)
+Settles s d built moment (settled.Refused r) s' = IsSettledOn s d built r × RefusesDraft (called_in s d moment) s d r r.why s'
 Settles s d built moment (settled.Moved e view) s' = IsMoved s d built e view s'
 
 -- the draft is given back with a view; or memory ran out, and it is closed

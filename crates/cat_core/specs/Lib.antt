@@ -11,3 +11,4 @@ pub mod Made
 pub mod Kept
 pub mod Opening
 pub mod Whole
+pub mod Sweeping

@@ -8,6 +8,7 @@ use Rattle.cat_frames.specs.RequestLaws.{given_is_logged}
 use Rattle.cat_model.specs.declared.command.Command.{Command}
 use Rattle.cat_model.specs.declared.command.Command.TheVariants as commands
 use Rattle.cat_model.specs.declared.command.CommitRequest.{CommitRequest}
+use Rattle.cat_model.specs.declared.log_entry.Action.TheVariants as actions
 use Rattle.cat_model.specs.declared.reply.Reply.{Reply}
 use Rattle.cat_decisions.specs.declared.call.Call.{Call}
 use Rattle.cat_decisions.specs.declared.call.Call.TheVariants as calls
@@ -33,7 +34,7 @@ unfolding is_well_made
 contents_of c made = (and_true (may_be_asked c.ops) (have_contents sha256 c.ops c.contents) made).1
 
 pub call_is_logged : (place caller draft moment : ℕ) (command : Command) (reply : Reply) → is_well_made sha256 command ≡ true → IsDraftOf command draft → is_some (head_told reply) ≡ true
-    → is_logged sha256 (record { place = place; caller = caller; draft = draft; moment = moment; command = logged_command sha256 draft command; head = head_left command reply }) ≡ true
+    → is_logged sha256 (record { place = place; caller = caller; draft = draft; moment = moment; action = actions.Call (logged_command sha256 draft command); head = head_left command reply }) ≡ true
 unfolding is_logged is_well_made
 call_is_logged place caller draft moment (commands.Create c) reply made own head = rw (own, head, made) refl
 call_is_logged place caller draft moment (commands.Assign c) reply made own head = rw (own, head, made) refl

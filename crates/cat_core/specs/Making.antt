@@ -1,7 +1,8 @@
 -- What a call that may change a book returns and leaves.
-use Rattle.std.specs.Prelude.{◌≡◌, ℕ, ◌+◌, [], ◌∷◌, Option, Some, None, Result, Ok, Err, Bool, false, max, ◌≤◌}
+use Rattle.std.specs.Prelude.{◌≡◌, ℕ, ◌+◌, [], ◌∷◌, Option, Some, None, Result, Ok, Err, max, ◌≤◌}
 use Rattle.cat_names.specs.declared.hash.Hash.{Hash}
 use Rattle.cat_model.specs.declared.command.Command.{Command}
+use Rattle.cat_model.specs.declared.log_entry.Action.TheVariants as actions
 use Rattle.cat_model.specs.declared.log_entry.LogEntry.{LogEntry}
 use Rattle.cat_model.specs.declared.refusal.Refusal.TheVariants as refusals
 use Rattle.cat_model.specs.declared.refusal.Refused.{Refused}
@@ -12,7 +13,6 @@ use Rattle.cat_model.specs.State.{State}
 use Rattle.cat_state.specs.declared.failure.Failure.{Failure}
 use Rattle.cat_state.specs.declared.failure.Failure.TheVariants as failures
 use Rattle.cat_core.specs.PlainLaws.{IsOther}
-use Rattle.cat_decisions.specs.Expiring.{fails_expired}
 use Rattle.cat_core.specs.declared.ledger.logging.Turn.{Turn}
 use Rattle.cat_state.specs.declared.unmade.Unmade.{Unmade}
 use Rattle.cat_state.specs.declared.unmade.Unmade.TheVariants.{Failed, NotKept}
@@ -33,7 +33,7 @@ taking book draft = record book { draft = max book.draft draft }
 
 -- the entry of a call that a book accepts
 abbrev pub entry_at : Book → Turn → Command → Option Hash → LogEntry
-entry_at book turn command head = record { place = book.state.place + 1; caller = turn.caller; draft = turn.draft; moment = turn.moment; command = command; head = head }
+entry_at book turn command head = record { place = book.state.place + 1; caller = turn.caller; draft = turn.draft; moment = turn.moment; action = actions.Call command; head = head }
 
 -- the book at the state that follows, with one entry more
 abbrev pub with_entry : Book → State → LogEntry → Book
@@ -41,23 +41,20 @@ with_entry book after entry = record book { state = after; log = entry ∷ book.
 
 -- ---- what was made, or why nothing was
 
--- contents are gone
-abbrev pub unmade_expired : Unmade → Bool
-unmade_expired NotKept = false
-unmade_expired (Failed failure) = fails_expired failure
-
 -- the entry of an accepted call wasn't kept: state and log are as before, and the draft number is the call's
 pub record IsNotKept (called : Called) (before after : Book) : Type 0 where
   pub entry : LogEntry
   pub logged : called.logged ≡ entry ∷ []
   pub state : after.state ≡ before.state
   pub log : after.log ≡ before.log
+  pub base : after.base ≡ before.base
   pub draft : after.draft ≡ called.draft
 
 -- memory ran out: state and log are as before, and the draft number is taken at most
 pub record IsSpared (called : Called) (before after : Book) : Type 0 where
   pub state : after.state ≡ before.state
   pub log : after.log ≡ before.log
+  pub base : after.base ≡ before.base
   pub kept : before.draft ≤ after.draft
   pub taken : after.draft ≤ called.draft
 

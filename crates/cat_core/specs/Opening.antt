@@ -4,13 +4,12 @@ use Rattle.std.specs.List.{list_any}
 use Rattle.std.specs.Str.{bytes_eq}
 use Rattle.sha2.specs.Sha256.{sha256}
 use Rattle.cat_codes.specs.Code.{whole}
-use Rattle.cat_checks.specs.Legal.{draft_is_new, has_its_draft, read_next, replayed}
+use Rattle.cat_checks.specs.Legal.{draft_is_new, has_its_draft, may_be_done, read_next, replayed}
 use Rattle.cat_frames.specs.Entries.{is_logged, log_entry_code}
 use Rattle.cat_model.specs.declared.limits.Limits.{Limits}
 use Rattle.cat_model.specs.declared.log_entry.LogEntry.{LogEntry}
 use Rattle.cat_model.specs.Book.{Book, after_call, first_book}
 use Rattle.cat_model.specs.Calls.{Called}
-use Rattle.cat_model.specs.WellMade.{is_well_made}
 use Rattle.cat_state.specs.Kept.{spelling, spellings}
 
 -- ---- the whole
@@ -68,14 +67,14 @@ abbrev pub NewestIsLogged : List LogEntry → Type 0
 NewestIsLogged [] = Unit {0}
 NewestIsLogged (entry ∷ log) = is_logged sha256 entry ≡ true
 
--- the entry that bytes spell, or none where they spell none
+-- the entry that bytes spell, which has a spelling, or none where they spell none
 abbrev pub ReadsAs : List ℕ → Option LogEntry → Type 0
 ReadsAs payload None = is_ok (whole (log_entry_code sha256) payload) ≡ false
-ReadsAs payload (Some entry) = (whole (log_entry_code sha256) payload ≡ Ok entry) × (payload ≡ spelling entry)
+ReadsAs payload (Some entry) = (whole (log_entry_code sha256) payload ≡ Ok entry) × (payload ≡ spelling entry) × (log_entry_code sha256).Fits entry
 
--- it may follow the log, but for what its call brings
-abbrev pub may_follow : List LogEntry → LogEntry → Bool
-may_follow log entry = is_well_made sha256 entry.command && has_its_draft entry && draft_is_new log entry.draft
+-- it may follow the log, but for what its action brings
+abbrev pub may_follow : Book → LogEntry → Bool
+may_follow book entry = may_be_done sha256 book entry.action && has_its_draft entry && draft_is_new book.log entry.draft
 
 -- the numbers are those of the entries' drafts
 abbrev pub AreDrafts : List ℕ → List LogEntry → Type 0

@@ -72,8 +72,8 @@ failed (Some f) None = None
 failed None payload = None
 
 -- of a sweep nothing is known yet
-abbrev pub held_mark : ℕ → ℕ → Option Ticket → Option FailedAppend → Mark
-held_mark draft drafter dropped fault = record { fault = fault; sweep = None; closed = None; draft = draft; drafter = drafter; dropped = option_map opening_at dropped; expired = None }
+abbrev pub held_mark : ℕ → ℕ → Option Ticket → Option Ticket → Option FailedAppend → Mark
+held_mark draft drafter dropped expired fault = record { fault = fault; sweep = None; closed = None; draft = draft; drafter = drafter; dropped = option_map opening_at dropped; expired = option_map opening_at expired }
 
 abbrev pub held_open : List OpenDraft → Open
 held_open left_open = record { drafts = map draft_held left_open; sweep = None }
@@ -112,8 +112,9 @@ pub record IsFree {K : Type 0} (number : ℕ) (s : Stored K) : Type 0 where
   pub new : draft_is_new s.book.log number ≡ true
   pub none : IsNumberOfNone number s.left_open.drafts
 
--- the book is what its log leads to from the empty catalogue, each entry legal where it stands; and so are the drafts
+-- the book started from the empty catalogue and is what its log leads to, each entry legal where it stands; and so are the drafts
 pub record IsSound (book : Book) (faults : ℕ) (left_open : List drafts.OpenDraft) : Type 0 where
+  pub base : book.base ≡ first_state sha256 book.state.limits
   pub legal : IsLegalFrom (record { state = first_state sha256 book.state.limits; draft = 0; faults = faults }) (reverse book.log)
   pub led : (book_at (record { state = first_state sha256 book.state.limits; draft = 0; faults = faults }) (reverse book.log)).state ≡ book.state
   pub taken : AreAtMost book.draft book.log

@@ -1,7 +1,6 @@
--- A state from which nothing is missing: what its references and its maps name is there.
+-- A state from which nothing is missing: what its references name is there.
 use Rattle.std.specs.Prelude.{is_some, IsTrue}
 use Rattle.std.specs.List.{list_all}
-use Rattle.cat_names.specs.declared.hash.Hash.{Hash}
 use Rattle.cat_model.specs.Chain.{entries}
 use Rattle.cat_model.specs.State.{Digest, State, content_at, is_known}
 
@@ -9,6 +8,6 @@ use Rattle.cat_model.specs.State.{Digest, State, content_at, is_known}
 abbrev pub HasHeads : Digest → State → Type 0
 HasHeads digest state = IsTrue (list_all (λ r. is_known digest state r.head) state.references)
 
--- each content that is visible at a commit is there
+-- each content that is visible where a reference points is there
 abbrev pub HasVisible : State → Type 0
-HasVisible state = (hash : Hash) → IsTrue (list_all (λ x. is_some (content_at state.present x.1.hash)) (entries state.commits hash))
+HasVisible state = IsTrue (list_all (λ r. list_all (λ x. is_some (content_at state.present x.1.hash)) (entries state.commits r.head)) state.references)

@@ -4,7 +4,7 @@ ghost use Rattle.std.specs.Prelude.{◌≡◌, ◌+◌, Ok, true, IfErr, IfOk, I
 ghost use Rattle.sha2.specs.Sha256.{sha256};
 ghost use Rattle.cat_decisions.specs.Builds.{HasHead, IsBuilt, IsGivenBy, command_of};
 ghost use Rattle.cat_checks.specs.Histories.{IsLegalFrom};
-ghost use Rattle.cat_core.specs.Drafts.{IsGivenBack, IsOpen, IsOpening, NotOpened, Settles, called_in, closed, command_in, dropping, holding, may_open, open_draft_of};
+ghost use Rattle.cat_core.specs.Drafts.{IsGivenBack, IsOpen, IsOpening, NotOpened, Settles, called_in, closed, command_in, dropping, holding, is_expired, may_open, open_draft_of};
 ghost use Rattle.cat_core.specs.Kept.{IsSettled, IsTold, KeepsSettled};
 ghost use Rattle.cat_core.specs.Stored.{IsFree, IsUp, snap};
 ghost use Rattle.cat_state.specs.Kept.{Leaves};
@@ -29,11 +29,18 @@ use cat_decisions::call::{Call, call_of};
 use cat_keeper::Keeper;
 use cat_model::command::Command;
 use cat_model::moment::Moment;
-use cat_model::refusal::Refused;
+use cat_model::refusal::{Refusal, Refused};
 use cat_model::reply::Told;
 use cat_state::failure::Failure;
 use cat_state::view::View;
 use std::alloc::Global;
+
+/// Whether contents are gone.
+fn is_expired(why: &Refusal) -> bool
+    ensures { result ≡ is_expired why.now }
+{
+    matches!(why, Refusal::Expired { .. })
+}
 
 /// The number of the next draft, the call in it, and a view of the catalogue, unless a test before
 /// the draft refuses.
@@ -158,6 +165,7 @@ impl<K: Keeper> Store<K> {
         alloc: Global,
         caller: u32,
         number: u64,
+        opened: u32,
         moment: Moment,
         call: Call<'_>,
         built: Built,
@@ -169,11 +177,20 @@ impl<K: Keeper> Store<K> {
         requires opened { opening sha256 self.old.book.state (command_of call) ≡ Ok tt }
         requires built { IsBuilt self.old.book.state call built }
         ensures { IsTold K.Keeper caller self.old self.new
-            (attempt_on sha256 self.old.book (in_draft caller moment number)
+            (attempt_on sha256 self.old.book (in_draft caller moment number opened)
             (command_of call.entry)) result }
     {
         let place = self.ledger.place();
-        let made = self.ledger.settle(alloc, &mut self.keeper, caller, moment, number, call, built);
+        let made = self.ledger.settle(
+            alloc,
+            &mut self.keeper,
+            caller,
+            moment,
+            number,
+            opened,
+            call,
+            built,
+        );
         tell(&self.keeper, &mut self.fallen, caller, place, made)
     }
 
@@ -222,11 +239,21 @@ impl<K: Keeper> Store<K> {
             return self.moved(draft);
         }
         self.is_built_now(&draft.call, &built);
-        let Ticket { number, caller, .. } = ticket_of(&draft);
+        let ticket = ticket_of(&draft);
+        let Ticket {
+            number,
+            caller,
+            place: opened,
+        } = ticket;
         let call = self.close(draft);
-        match self.make(alloc, caller, number, moment, call, built) {
+        match self.make(alloc, caller, number, opened, moment, call, built) {
             Ok(told) => Settled::Done(told),
-            Err(why) => Settled::Refused(why),
+            Err(refused) => {
+                if is_expired(&refused.why) {
+                    self.expired = Some(ticket);
+                }
+                Settled::Refused(refused)
+            }
         }
     }
 

@@ -21,6 +21,7 @@ mod logging;
 mod making;
 mod remaking;
 mod replaying;
+mod sweeping;
 
 pub(crate) use calls::refused;
 use cat_codes::fault::NoMemory;
@@ -42,7 +43,9 @@ pub struct Ledger {
 }
 
 impl Model for Ledger {
+    ghost use Rattle.sha2.specs.Sha256.{sha256};
     ghost use Rattle.cat_model.specs.Book.{Book};
+    ghost use Rattle.cat_model.specs.State.{first_state};
 
     ghost Value = { Book };
 
@@ -52,6 +55,7 @@ impl Model for Ledger {
       state = s.catalogue;
       draft = s.draft;
       log = reverse s.log.items;
+      base = first_state sha256 s.catalogue.limits;
     } };
 }
 

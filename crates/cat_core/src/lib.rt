@@ -11,6 +11,7 @@
 mod draft;
 mod drafting;
 mod ledger;
+mod marking;
 mod opening;
 mod referring;
 mod replay;

@@ -3,7 +3,8 @@
 ghost use Rattle.std.specs.Prelude.{ℕ, List, ◌≡◌, ◌≤◌, ◌<◌, ◌+◌, None, IfOk, IsErrOf, OnOk};
 ghost use Rattle.cat_io.specs.Causes.{Rose};
 ghost use Rattle.cat_state.specs.Kept.{Stayed};
-ghost use Rattle.cat_core.specs.Opening.{AreDrafts, IsAdded, IsIllegalAt, IsLedTo, IsPayloadAt, next_by};
+ghost use Rattle.cat_core.specs.Opening.{IsAdded, IsIllegalAt, IsLedTo, IsPayloadAt, next_by};
+ghost use Rattle.cat_core.specs.Sweeping.{IsFollowed};
 
 use crate::ledger::Ledger;
 use crate::replay::Replay;
@@ -47,11 +48,12 @@ fn add_payload<K: Keeper>(
     i: u32,
 ) -> Result<(), StoreFault>
     requires there { i < K.kept keeper.old }
-    requires drafts { AreDrafts replay.old.drafts.keys replay.old.ledger.log }
+    requires followed { IsFollowed replay.old.drafts.keys replay.old.taken.items replay.old.ledger }
     ensures added { OnOk result
         ((payload : List ℕ) × IsPayloadAt (K.told keeper.old) i payload
         × IsAdded replay.old.ledger replay.new.ledger payload) }
-    ensures drafts { OnOk result (AreDrafts replay.new.drafts.keys replay.new.ledger.log) }
+    ensures followed { OnOk result
+        (IsFollowed replay.new.drafts.keys replay.new.taken.items replay.new.ledger) }
     ensures illegal { (place : ℕ) → IsErrOf result (StoreFault.Illegal place)
         → (place ≡ i + 1)
         × ((payload : List ℕ) × IsPayloadAt (K.told keeper.old) i payload

@@ -1,31 +1,55 @@
 //! A log, executed again.
 
-ghost use Rattle.std.specs.Prelude.{◌≡◌, ◌≤◌, ◌&&◌, ◌||◌, Some, IfOk, IsTrue, bytes_eq};
+ghost use Rattle.std.specs.Prelude.{◌≡◌, ◌≤◌, ◌<◌, ◌&&◌, ◌||◌, Some, IfOk, IsTrue, bytes_eq, length, nat_le};
+ghost use Rattle.std.specs.List.{list_all};
 ghost use Rattle.sha2.specs.Sha256.{sha256};
+ghost use Rattle.cat_checks.specs.Legal as legal;
 ghost use Rattle.cat_checks.specs.Legal.{draft_is_new, has_its_draft, replayed_call};
 ghost use Rattle.cat_frames.specs.Entries.{is_logged};
+ghost use Rattle.cat_graph.specs.Linked.{is_known};
+ghost use Rattle.cat_mark.specs.Marks.{is_marked};
+ghost use Rattle.cat_model.specs.declared.log_entry.Action.TheVariants as actions;
+ghost use Rattle.cat_model.specs.Base.{is_among};
 ghost use Rattle.cat_model.specs.Book.{first_book};
+ghost use Rattle.cat_model.specs.State.{reference_of};
 ghost use Rattle.cat_model.specs.WellMade.{is_well_made};
+ghost use Rattle.cat_names.specs.declared.hash.Hash.{Hash};
 ghost use Rattle.cat_state.specs.Kept.{spelling};
 ghost use Rattle.cat_core.specs.Opening as opening;
-ghost use Rattle.cat_core.specs.Opening.{Adds, AreDrafts, NewestIsLogged, ReadsAs, RunsAgain};
+ghost use Rattle.cat_core.specs.Opening.{Adds, AreDrafts, IsMadeAgain, NewestIsLogged, ReadsAs, RunsAgain};
+ghost use Rattle.cat_core.specs.Sweeping as sweeping;
+ghost use Rattle.cat_core.specs.Sweeping.{AreRemoved, IsFollowed, Removes, TakesOne, name_in, saved_on};
 
 use crate::ledger::Ledger;
+use crate::marking::marks_of;
 use cat_checks::commands::is_well_made;
 use cat_checks::drafts::has_its_draft;
 use cat_codes::fault::{FieldFault, NoMemory};
 use cat_frames::{from_bytes, to_bytes};
+use cat_mark::Marks;
+use cat_model::command::Command;
 use cat_model::limits::Limits;
-use cat_model::log_entry::LogEntry;
+use cat_model::log_entry::{Action, LogEntry};
+use cat_model::reference::Reference;
+use cat_model::sweep::Sweep;
+use cat_names::hash::Hash;
+use cat_names::ref_name::RefName;
+use cat_state::catalogue::Catalogue;
 use cat_state::failure::Failure;
 use std::alloc::Global;
 use std::collections::HashSet;
+
+/// The most patterns of a sweep's policy.
+const MOST_PATTERNS: usize = 1_000;
 
 /// A ledger that the payloads of a log led to, and the draft numbers of its entries.
 #[derive(Drop)]
 pub(crate) struct Replay {
     pub(crate) ledger: Ledger,
     pub(crate) drafts: HashSet<u64>,
+    /// Of each entry the reference that it moved or removed, as it was before, so that a sweep finds
+    /// what was live since its opening. None for an entry that made a reference, and for a sweep.
+    pub(crate) taken: Vec<Option<Reference>>,
 }
 
 /// The entry that bytes spell, if they spell one.
@@ -40,14 +64,20 @@ fn read(alloc: Global, payload: &[u8]) -> Result<Option<LogEntry>, NoMemory>
 }
 
 /// Makes the call of an entry again: whether it is accepted with a change.
-fn run_again(alloc: Global, ledger: &mut Ledger, entry: &LogEntry) -> Result<bool, NoMemory>
-    requires well_made { IsTrue (is_well_made sha256 entry.now.command) }
+fn run_again(
+    alloc: Global,
+    ledger: &mut Ledger,
+    entry: &LogEntry,
+    command: &Command,
+) -> Result<bool, NoMemory>
+    requires call { entry.now.action ≡ actions.Call command.now }
+    requires well_made { IsTrue (is_well_made sha256 command.now) }
     requires own_draft { IsTrue (has_its_draft entry.now) }
     ensures { IfOk result
         (RunsAgain (replayed_call sha256 ledger.old entry.now) ledger.old ledger.new) }
 {
     let place = ledger.place();
-    match ledger.replay(alloc, entry) {
+    match ledger.replay(alloc, entry, command) {
         // What was told is let go by a call, so that the proof doesn't take each kind of it apart.
         Ok(told) => {
             drop(told);
@@ -81,17 +111,87 @@ fn is_newest(alloc: Global, ledger: &Ledger, payload: &[u8]) -> Result<bool, NoM
     }
 }
 
+/// The name of the reference that a command makes, moves or removes.
+fn name_in(command: &Command) -> &RefName
+    ensures { result.now ≡ name_in command.now }
+{
+    match command {
+        Command::Create(create) => &create.name,
+        Command::Assign(assign) => &assign.name,
+        Command::Delete(delete) => &delete.name,
+        Command::Commit(request) => &request.branch,
+        Command::Merge(merge) => &merge.branch,
+        Command::Transplant(transplant) => &transplant.branch,
+    }
+}
+
+/// The reference that a command moves or removes, as it is before.
+fn reference_in(catalogue: &Catalogue, command: &Command) -> Result<Option<Reference>, NoMemory>
+    ensures { IfOk result
+        (λ found. found ≡ reference_of catalogue.now.references (name_in command.now)) }
+{
+    match catalogue.references().get(name_in(command)) {
+        None => Ok(None),
+        Some(reference) => Ok(Some(reference.clone()?)),
+    }
+}
+
+/// Whether each of the hashes is known.
+fn are_known(catalogue: &Catalogue, hashes: &[Hash]) -> bool
+    ensures { result ≡ list_all (is_known catalogue.now.commits) hashes.now }
+{
+    for hash in hashes {
+        if !catalogue.commits().is_known(hash) {
+            return false;
+        }
+    }
+    true
+}
+
+/// Whether a sweep may be logged.
+fn may_be_swept(ledger: &Ledger, sweep: &Sweep) -> bool
+    ensures { result ≡ legal.may_be_swept sha256 ledger.now sweep.now }
+{
+    ledger.starts_empty();
+    sweep.opened <= ledger.place()
+        && are_known(ledger.catalogue(), sweep.commits.as_slice())
+        && sweep.policy.cutoffs.len() <= MOST_PATTERNS
+}
+
+/// Whether an action may be logged.
+fn may_be_done(alloc: Global, ledger: &Ledger, action: &Action) -> Result<bool, NoMemory>
+    ensures { IfOk result (λ b. b ≡ legal.may_be_done sha256 ledger.now action.now) }
+{
+    match action {
+        Action::Call(command) => is_well_made(alloc, command),
+        Action::Sweep(sweep) => Ok(may_be_swept(ledger, sweep)),
+    }
+}
+
+/// Whether there is room for a sweep: for an entry, and for so many names in it.
+fn has_room(catalogue: &Catalogue, sweep: &Sweep) -> bool
+    ensures { result ≡ sweeping.has_room catalogue.now sweep.now }
+{
+    sweep.commits.known();
+    sweep.contents.known();
+    let limits = catalogue.limits();
+    let names = sweep.commits.len() as u64 + sweep.contents.len() as u64;
+    u64::from(catalogue.place()) < limits.log && names <= limits.names
+}
+
 impl Replay {
     /// The ledger of an empty catalogue.
     pub(crate) fn new(alloc: Global, limits: Limits) -> Result<Replay, NoMemory>
         requires log { limits.log ≤ 4294967295 }
         requires commits { limits.commits ≤ 4294967295 }
         ensures ledger { IfOk result (λ replay. replay.ledger ≡ first_book sha256 limits) }
-        ensures drafts { IfOk result (λ replay. AreDrafts replay.drafts.keys replay.ledger.log) }
+        ensures followed { IfOk result
+            (λ replay. IsFollowed replay.drafts.keys replay.taken.items replay.ledger) }
     {
         Ok(Replay {
             ledger: Ledger::new(alloc, limits)?,
             drafts: HashSet::new(alloc),
+            taken: Vec::new(alloc),
         })
     }
 
@@ -103,49 +203,184 @@ impl Replay {
         draft == 0 || !self.drafts.contains(&draft)
     }
 
-    /// Whether the entry may follow, but for what its call brings.
+    /// Whether the entry may follow, but for what its action brings.
     fn may_follow(&self, alloc: Global, entry: &LogEntry) -> Result<bool, NoMemory>
         requires { AreDrafts self.now.drafts.keys self.now.ledger.log }
-        ensures { IfOk result (λ b. b ≡ opening.may_follow self.now.ledger.log entry.now) }
+        ensures { IfOk result (λ b. b ≡ opening.may_follow self.now.ledger entry.now) }
     {
-        Ok(is_well_made(alloc, &entry.command)? && has_its_draft(entry) && self.is_new(entry.draft))
+        Ok(
+            may_be_done(alloc, &self.ledger, &entry.action)?
+                && has_its_draft(entry)
+                && self.is_new(entry.draft),
+        )
     }
 
-    /// Adds an entry, its call made again; false where it may not follow.
-    fn follow(&mut self, alloc: Global, entry: &LogEntry, payload: &[u8]) -> Result<bool, NoMemory>
-        requires drafts { AreDrafts self.old.drafts.keys self.old.ledger.log }
-        requires reads { ReadsAs payload.now (Some entry.now) }
-        ensures adds { IfOk result (Adds self.old.ledger self.new.ledger payload.now) }
-        ensures drafts { IfOk result
-            (λ added. IsTrue added → AreDrafts self.new.drafts.keys self.new.ledger.log) }
+    /// Makes the call of an entry again, and keeps what it took: whether it is accepted with a
+    /// change.
+    fn call_again(
+        &mut self,
+        alloc: Global,
+        entry: &LogEntry,
+        command: &Command,
+    ) -> Result<bool, NoMemory>
+        requires call { entry.now.action ≡ actions.Call command.now }
+        requires well_made { IsTrue (is_well_made sha256 command.now) }
+        requires own_draft { IsTrue (has_its_draft entry.now) }
+        ensures runs { IfOk result
+            (RunsAgain (replayed_call sha256 self.old.ledger entry.now) self.old.ledger
+            self.new.ledger) }
+        ensures takes { IfOk result
+            (λ ran. IsTrue ran
+            → TakesOne self.old.ledger self.new.ledger self.old.taken.items self.new.taken.items) }
+        ensures drafts { self.new.drafts ≡ self.old.drafts }
     {
-        if !self.may_follow(alloc, entry)? {
-            return Ok(false);
+        let references = self.ledger.catalogue().references();
+        references.known();
+        let found = reference_in(self.ledger.catalogue(), command)?;
+        let ran = run_again(alloc, &mut self.ledger, entry, command)?;
+        if ran {
+            self.taken.push(found)?;
         }
-        if !run_again(alloc, &mut self.ledger, entry)? {
+        Ok(ran)
+    }
+
+    /// What a sweep keeps, as marks.
+    fn marks(&self, alloc: Global, sweep: &Sweep) -> Result<Marks, NoMemory>
+        requires followed { IsFollowed self.now.drafts.keys self.now.taken.items self.now.ledger }
+        requires opened { sweep.now.opened ≤ self.now.ledger.state.place }
+        ensures { IfOk result
+            (λ marks. (hash : Hash)
+            → is_marked marks hash ≡ is_among (saved_on self.now.ledger sweep.now) hash) }
+    {
+        let catalogue = self.ledger.catalogue();
+        let _ = catalogue.commits();
+        let _ = catalogue.references();
+        marks_of(alloc, catalogue, self.taken.as_slice(), sweep)
+    }
+
+    /// The hashes of the contents that a sweep removes.
+    fn removed(&self, alloc: Global, sweep: &Sweep) -> Result<Vec<Hash>, NoMemory>
+        requires followed { IsFollowed self.now.drafts.keys self.now.taken.items self.now.ledger }
+        requires opened { sweep.now.opened ≤ self.now.ledger.state.place }
+        ensures { IfOk result
+            (λ hashes. AreRemoved self.now.ledger sweep.now hashes.items) }
+    {
+        let marks = self.marks(alloc, sweep)?;
+        marks.unmarked(alloc, self.ledger.catalogue().contents())
+    }
+
+    /// Makes a sweep again, which removes the contents of these hashes. Its entry is the one that
+    /// is logged for it, whatever else was read.
+    fn sweep_again(
+        &mut self,
+        alloc: Global,
+        entry: LogEntry,
+        hashes: Vec<Hash>,
+    ) -> Result<bool, NoMemory>
+        requires own_draft { IsTrue (has_its_draft entry) }
+        requires removes { Removes self.old.ledger entry hashes.items }
+        ensures runs { IfOk result
+            (RunsAgain (replayed_call sha256 self.old.ledger entry) self.old.ledger
+            self.new.ledger) }
+        ensures takes { IfOk result
+            (λ ran. IsTrue ran
+            → TakesOne self.old.ledger self.new.ledger self.old.taken.items self.new.taken.items) }
+        ensures drafts { self.new.drafts ≡ self.old.drafts }
+    {
+        let catalogue = self.ledger.catalogue();
+        let _ = catalogue.limits();
+        let _ = catalogue.references();
+        let place = catalogue.place() + 1;
+        let LogEntry { moment, action, .. } = entry;
+        let logged = LogEntry {
+            place,
+            caller: 0,
+            draft: 0,
+            moment,
+            action,
+            head: None,
+        };
+        self.ledger.sweep_again(alloc, logged, hashes.as_slice())?;
+        self.taken.push(None)?;
+        Ok(true)
+    }
+
+    /// Executes an entry again: whether it brings an entry.
+    fn run(&mut self, alloc: Global, entry: LogEntry) -> Result<bool, NoMemory>
+        requires followed { IsFollowed self.old.drafts.keys self.old.taken.items self.old.ledger }
+        requires may { IsTrue (opening.may_follow self.old.ledger entry) }
+        ensures runs { IfOk result
+            (RunsAgain (replayed_call sha256 self.old.ledger entry) self.old.ledger
+            self.new.ledger) }
+        ensures takes { IfOk result
+            (λ ran. IsTrue ran
+            → TakesOne self.old.ledger self.new.ledger self.old.taken.items self.new.taken.items) }
+        ensures drafts { self.new.drafts ≡ self.old.drafts }
+    {
+        match &entry.action {
+            Action::Call(command) => {
+                let ran = self.call_again(alloc, &entry, command);
+                drop(entry);
+                ran
+            }
+            Action::Sweep(sweep) => {
+                if !has_room(self.ledger.catalogue(), sweep) {
+                    drop(entry);
+                    return Ok(false);
+                }
+                match self.removed(alloc, sweep) {
+                    Ok(hashes) => self.sweep_again(alloc, entry, hashes),
+                    Err(_) => {
+                        drop(entry);
+                        Err(NoMemory)
+                    }
+                }
+            }
+        }
+    }
+
+    /// Adds an entry, executed again; false where it may not follow.
+    fn follow(&mut self, alloc: Global, entry: LogEntry, payload: &[u8]) -> Result<bool, NoMemory>
+        requires followed { IsFollowed self.old.drafts.keys self.old.taken.items self.old.ledger }
+        requires reads { ReadsAs payload.now (Some entry) }
+        requires may { IsTrue (opening.may_follow self.old.ledger entry) }
+        ensures adds { IfOk result (Adds self.old.ledger self.new.ledger payload.now) }
+        ensures followed { IfOk result
+            (λ added. IsTrue added
+            → IsFollowed self.new.drafts.keys self.new.taken.items self.new.ledger) }
+    {
+        let draft = entry.draft;
+        if !self.run(alloc, entry)? {
             return Ok(false);
         }
         if !is_newest(alloc, &self.ledger, payload)? {
             return Ok(false);
         }
-        self.drafts.insert(entry.draft)?;
+        self.drafts.insert(draft)?;
         Ok(true)
     }
 
     /// Adds the entry that a payload spells; false where it spells none, or its entry may not follow.
     pub(crate) fn add(&mut self, alloc: Global, payload: &[u8]) -> Result<bool, NoMemory>
-        requires drafts { AreDrafts self.old.drafts.keys self.old.ledger.log }
+        requires followed { IsFollowed self.old.drafts.keys self.old.taken.items self.old.ledger }
         ensures adds { IfOk result (Adds self.old.ledger self.new.ledger payload.now) }
-        ensures drafts { IfOk result
-            (λ added. IsTrue added → AreDrafts self.new.drafts.keys self.new.ledger.log) }
+        ensures followed { IfOk result
+            (λ added. IsTrue added
+            → IsFollowed self.new.drafts.keys self.new.taken.items self.new.ledger) }
     {
         match read(alloc, payload)? {
             None => Ok(false),
-            Some(entry) => {
-                let followed = self.follow(alloc, &entry, payload);
-                drop(entry);
-                followed
-            }
+            Some(entry) => match self.may_follow(alloc, &entry) {
+                Ok(true) => self.follow(alloc, entry, payload),
+                Ok(false) => {
+                    drop(entry);
+                    Ok(false)
+                }
+                Err(_) => {
+                    drop(entry);
+                    Err(NoMemory)
+                }
+            },
         }
     }
 }

@@ -45,6 +45,7 @@ pub struct Store<K: Keeper> {
     pub(crate) fallen: Option<Fallen>,
     pub(crate) drafter: u32,
     pub(crate) dropped: Option<Ticket>,
+    pub(crate) expired: Option<Ticket>,
     pub(crate) drafts: Vec<OpenDraft>,
     began: u64,
 }
@@ -57,7 +58,7 @@ impl<K: Keeper> Model for Store<K> {
     ghost view = { λ s. record {
       book = s.ledger;
       keeper = s.keeper;
-      mark = held_mark s.ledger.draft s.drafter s.dropped
+      mark = held_mark s.ledger.draft s.drafter s.dropped s.expired
           (failed s.fallen (K.in_flight s.keeper));
       left_open = held_open s.drafts.items;
       began = s.began;
@@ -109,6 +110,7 @@ impl<K: Keeper> Store<K> {
             fallen: None,
             drafter: 0,
             dropped: None,
+            expired: None,
             drafts: Vec::new(alloc),
             began,
         }
@@ -212,6 +214,7 @@ impl<K: Keeper> Store<K> {
     pub fn history(&self)
         ensures legal { IsLegalFrom (opened_of self.now) (log_of self.now) }
         ensures led { (book_at (opened_of self.now) (log_of self.now)).state ≡ self.now.book.state }
+        ensures base { self.now.book.base ≡ (opened_of self.now).state }
         ensures upheld { Upholds sha256 self.now.book.state }
         ensures draft { self.now.mark.draft ≡ self.now.book.draft }
     {
@@ -219,14 +222,12 @@ impl<K: Keeper> Store<K> {
     }
 
     /// What holds of the state: each reference points at a commit that is there, or at the hash that
-    /// has no ancestor, and each content that is visible at a commit is there.
+    /// has no ancestor, and each content that is visible where one points is there.
     pub fn nothing_is_missing(&self)
         ensures heads { HasHeads sha256 self.now.book.state }
         ensures visible { HasVisible self.now.book.state }
     {
-        let catalogue = self.ledger.catalogue();
-        let _ = catalogue.references();
-        catalogue.contents_are_held();
+        let _ = self.ledger.catalogue().references();
     }
 
     /// What holds of the book and of the drafts beside it.

@@ -1,15 +1,12 @@
 -- What is decided of a call, by its kind.
-use Rattle.std.proofs.Common.{◌≡◌, ℕ, Result, Ok, Err, IfErr, false, sym, subst}
+use Rattle.std.proofs.Common.{◌≡◌, Result, sym, subst}
 use Rattle.sha2.specs.Sha256.{sha256}
 use Rattle.cat_model.specs.declared.command.Command.{Command}
-use Rattle.cat_model.specs.Refusing.{Outcome}
 use Rattle.cat_model.specs.State.{State}
 use Rattle.cat_model.specs.Step.{Turn, step}
 use Rattle.cat_state.specs.declared.failure.Failure.{Failure}
 use Rattle.cat_decisions.specs.declared.decision.Decision.{Decision}
 use Rattle.cat_decisions.specs.Decisions.{Decides}
-use Rattle.cat_decisions.specs.Expiring.{fails_expired}
-use Rattle.cat_decisions.specs.ExpiringLaws.{IsUnexpired, unexpired_fails}
 use Rattle.cat_decisions.specs.declared.call.Call.{Call}
 use Rattle.cat_decisions.specs.Builds.{command_of}
 
@@ -21,8 +18,3 @@ decides_command state turn command one result is = subst (λ (x : Command). Deci
 pub decides_call : (state : State) (turn : Turn) (call one : Call) (result : Result Decision Failure) → call ≡ one → Decides turn.draft state (command_of one) (step sha256 state (command_of one) turn) result
     → Decides turn.draft state (command_of call) (step sha256 state (command_of call) turn) result
 decides_call state turn call one result is = subst (λ (x : Call). Decides turn.draft state (command_of x) (step sha256 state (command_of x) turn) result) (sym is)
-
--- what is decided of a step that isn't refused for contents that are gone isn't refused so
-pub decides_there : (draft : ℕ) (state : State) (command : Command) (taken : Outcome) (result : Result Decision Failure) → IsUnexpired taken → Decides draft state command taken result → IfErr result (λ failure. fails_expired failure ≡ false)
-decides_there draft state command taken (Ok decision) there d = tt
-decides_there draft state command taken (Err failure) there d = unexpired_fails failure taken there d

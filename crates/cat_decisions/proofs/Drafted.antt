@@ -10,25 +10,18 @@ use Rattle.cat_model.specs.Base.{base}
 use Rattle.cat_model.specs.Chain.{entries}
 use Rattle.cat_model.specs.Maps.{after_changes}
 use Rattle.cat_model.specs.Merges as merges
-use Rattle.cat_model.specs.Merges.{entries_set, merge_planned}
+use Rattle.cat_model.specs.Merges.{merge_planned}
 use Rattle.cat_model.specs.Namespaces.{is_well_formed}
 use Rattle.cat_model.specs.Plan as definition
 use Rattle.cat_model.specs.State.{State}
 use Rattle.cat_merge.specs.declared.plan.Plan.{Plan}
 use Rattle.cat_merge.specs.declared.plan.Planned.{Planned}
 use Rattle.cat_merge.specs.Planned.{as_planned, planned}
-use Rattle.cat_state.specs.Keeping.{has_contents}
 use Rattle.cat_decisions.specs.declared.drafts.Draft.{Draft}
 use Rattle.cat_decisions.specs.Drafts.{AreDrafted, AreKnown, ArePlans, IsMergeDraft, all_planned, asked_of, logged_merge}
 
-pub one_plan : (state : State) (head : Hash) (p : Plan) → p.map ≡ after_changes p.ops (entries state.commits head) → (p.conflicts ≡ [] → is_well_formed p.map ≡ true) → has_contents state.present p.map ≡ true → has_contents state.present (entries_set p.ops) ≡ true
-    → ArePlans state head (p ∷ [])
-one_plan state head p upon well held set = record {
-  upon = (upon, tt);
-  well_formed = λ none. both_true _ _ (well (sym (append-nil p.conflicts) ∙ none)) refl;
-  held = both_true _ _ held refl;
-  set = both_true _ _ set refl;
-}
+pub one_plan : (state : State) (head : Hash) (p : Plan) → p.map ≡ after_changes p.ops (entries state.commits head) → (p.conflicts ≡ [] → is_well_formed p.map ≡ true) → ArePlans state head (p ∷ [])
+one_plan state head p upon well = record { upon = (upon, tt); well_formed = λ none. both_true _ _ (well (sym (append-nil p.conflicts) ∙ none)) refl }
 
 -- the plan of a merge is what the definitions plan
 merge_exact : (state : State) (m : Merge) (head source ancestor : Hash) (p : Plan) (meta : Meta) → ancestor ≡ base state.commits source head

@@ -1,5 +1,4 @@
 pub mod Lists
-pub mod Unexpired
 pub mod Room
 pub mod Followed
 pub mod Settled

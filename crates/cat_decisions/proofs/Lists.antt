@@ -1,7 +1,6 @@
 -- Lists of plans, as the definitions have them.
-use Rattle.std.proofs.Common.{◌≡◌, suc, List, [], ◌∷◌, ◌++◌, ◌&&◌, length, map, flat_map, Bool, true, false, ◌||◌, cond, refl, ap}
-use Rattle.std.specs.List.{list_all, list_any}
-use Rattle.cat_keymap.specs.KeyOrder.{both_true, and_true}
+use Rattle.std.proofs.Common.{◌≡◌, suc, List, [], ◌∷◌, ◌++◌, length, map, flat_map, Bool, true, false, ◌||◌, cond, refl, ap}
+use Rattle.std.specs.List.{list_any}
 use Rattle.cat_model.specs.Merges as merges
 use Rattle.cat_merge.specs.declared.plan.Planned.{Planned}
 use Rattle.cat_merge.specs.Planned.{as_planned}
@@ -44,15 +43,3 @@ any_by false p kept rest e = e
 pub any_is : (planned : List Planned) → list_any (λ p. merges.has_changes p.plan.ops) (all_planned planned) ≡ is_filled (changing planned)
 any_is [] = refl
 any_is (p ∷ planned) = any_by (has_changes p) p (changing planned) _ (any_is planned)
-
-all_on : {A : Type 0} (q : A → Bool) (xs ys : List A) → list_all q xs ≡ true → list_all q ys ≡ true → list_all q (xs ++ ys) ≡ true
-all_on q [] ys a b = b
-all_on q (x ∷ xs) ys a b = let both = and_true (q x) (list_all q xs) a in both_true _ _ both.0 (all_on q xs ys both.1 b)
-
-pub all_flat : {A B : Type 0} (q : B → Bool) (f : A → List B) (xs : List A) → list_all (λ x. list_all q (f x)) xs ≡ true → list_all q (flat_map f xs) ≡ true
-all_flat q f [] e = refl
-all_flat q f (x ∷ xs) e = let both = and_true (list_all q (f x)) (list_all (λ y. list_all q (f y)) xs) e in all_on q (f x) (flat_map f xs) both.0 (all_flat q f xs both.1)
-
-pub all_mapped : {A B : Type 0} (q : B → Bool) (f : A → B) (xs : List A) → list_all q (map f xs) ≡ list_all (λ x. q (f x)) xs
-all_mapped q f [] = refl
-all_mapped q f (x ∷ xs) = ap (λ b. q (f x) && b) (all_mapped q f xs)

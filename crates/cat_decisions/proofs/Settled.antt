@@ -85,6 +85,11 @@ module _ (state : State) (d : Draft) (branch : Reference) (opened moment : ℕ) 
       ∙ ap (λ (l : List merges.Planned). after_contents l (d.asked.dry_run || not (list_any (λ p. merges.has_changes p.plan.ops) (all_planned d.planned.items)))) (made_are d.planned.items)
       ∙ ap (λ (b : Bool). after_contents (all_planned (changing d.planned.items)) (d.asked.dry_run || not b)) (any_is d.planned.items)
 
+  -- what plans set is gone
+  pub contents_refused : (failure : Failure) → Fails failure (needs_set_contents state (all_planned d.planned.items) opened) → Fails failure (step_applied sha256 state its_plans)
+  unfolding step_applied
+  contents_refused failure fails = fails_on failure (needs_set_contents state (all_planned d.planned.items) opened) _ fails
+
   -- a commit is refused
   pub commits_refused : (failure : Failure) → needs_set_contents state (all_planned d.planned.items) opened ≡ Ok tt
       → Fails failure (with_planned sha256 moment state branch.head (all_planned (changing d.planned.items))) → Fails failure (step_applied sha256 state its_plans)
@@ -123,7 +128,7 @@ module _ (state : State) (d : Draft) (branch : Reference) (opened moment : ℕ) 
       by_tried false None is there = stays_is (branch.head, state) (none_made moment state branch.head (changing d.planned.items) there) (kept_as false is ∙ nothing_made (changing d.planned.items) there)
       by_tried false (Some a) is there = record {
         step = moved_is (a.0, with_additions state a.1) there.step (kept_as false is ∙ ap not (some_left (changing d.planned.items) there.some));
-        may = record { place = room.place; additions = there.new; reference = there.known };
+        may = record { place = room.place; additions = there.new; reference = there.last };
         command = refl;
         head = refl;
       }

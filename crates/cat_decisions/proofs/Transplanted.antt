@@ -1,14 +1,11 @@
 -- What commits changed, and the plans of it onto a head.
-use Rattle.std.proofs.Common.{◌≡◌, List, [], ◌∷◌, length, map, None, Bool, true, refl, sym, ap, subst, ◌∙◌}
-use Rattle.std.specs.List.{list_all}
+use Rattle.std.proofs.Common.{◌≡◌, List, length, map, None, true, sym, ap, subst, ◌∙◌}
 use Rattle.sha2.specs.Sha256.{sha256}
-use Rattle.cat_keymap.specs.KeyOrder.{both_true}
 use Rattle.cat_names.specs.declared.hash.Hash.{Hash}
 use Rattle.cat_model.specs.declared.command.Transplant.{Transplant}
-use Rattle.cat_model.specs.declared.commit.Commit.{Commit}
 use Rattle.cat_model.specs.declared.commit.Meta.{Meta}
 use Rattle.cat_model.specs.declared.reference.Reference.{Reference}
-use Rattle.cat_model.specs.Chain.{Commits, entries}
+use Rattle.cat_model.specs.Chain.{entries}
 use Rattle.cat_model.specs.Maps.{Map}
 use Rattle.cat_model.specs.Plan as definition
 use Rattle.cat_model.specs.State.{State, is_known}
@@ -17,21 +14,10 @@ use Rattle.cat_merge.specs.declared.plan.Plan.{Plan}
 use Rattle.cat_merge.specs.declared.plan.Planned.{Planned}
 use Rattle.cat_merge.specs.declared.transplant.Step.{Step}
 use Rattle.cat_merge.specs.Planned.{planned, step_of}
-use Rattle.cat_state.specs.Keeping.{has_contents}
 use Rattle.cat_decisions.specs.declared.drafts.Draft.{Draft}
-use Rattle.cat_decisions.specs.Drafts.{AreDrafted, ArePlans, IsTransplantDraft, all_planned, asked_of, logged_transplant, meta_of, paired, steps_are_held}
-use Rattle.cat_decisions.proofs.Lists.{all_mapped, length_mapped}
+use Rattle.cat_decisions.specs.Drafts.{AreDrafted, ArePlans, IsTransplantDraft, all_planned, asked_of, logged_transplant, meta_of, paired}
+use Rattle.cat_decisions.proofs.Lists.{length_mapped}
 use Rattle.cat_decisions.proofs.Paired.{merge_nothing, paired_are, plans_count, plans_paired}
-
-all_true : {A : Type 0} (q : A → Bool) (xs : List A) → ((x : A) → q x ≡ true) → list_all q xs ≡ true
-all_true q [] each = refl
-all_true q (x ∷ xs) each = both_true _ _ (each x) (all_true q xs each)
-
--- what is visible at the commits is held
-pub steps_held : (state : State) (steps : List Step) (chosen : Commits) → ((hash : Hash) → has_contents state.present (entries state.commits hash) ≡ true) → map step_of steps ≡ map (change_made state.commits) chosen → steps_are_held state.present steps ≡ true
-steps_held state steps chosen held e =
-    let there : Map × Map → Bool = λ (c : Map × Map). has_contents state.present c.1 in
-    sym (all_mapped there step_of steps) ∙ ap (λ (l : List (Map × Map)). list_all there l) e ∙ all_mapped there (change_made state.commits) chosen ∙ all_true (λ (x : Hash × Commit). there (change_made state.commits x)) chosen (λ x. held x.0)
 
 -- the plans of a transplant, each with its commit's meta, are what the definitions plan
 transplant_exact : (state : State) (t : Transplant) (head : Hash) (steps : List Step) (metas : List Meta) (plans : List Plan) → map step_of steps ≡ map (change_made state.commits) (commits_at state.commits t.hashes) → metas ≡ map meta_of (commits_at state.commits t.hashes)

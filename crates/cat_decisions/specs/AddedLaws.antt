@@ -1,8 +1,8 @@
--- Commits and contents below others that were added: what is said of a hash that is known among them stays.
+-- Commits below others that were added: what is said of a hash that is known among them stays.
 use Rattle.std.proofs.Common.{◌≡◌, List, [], ◌∷◌, ◌++◌, Option, Some, None, Bool, true, false, cond, ◌||◌, ◌&&◌, is_some, map, refl, sym, ap, subst, ◌∙◌}
-use Rattle.std.specs.Prelude.{filter, find, nat_lt, nat_eq}
+use Rattle.std.specs.Prelude.{filter, nat_lt, nat_eq}
 use Rattle.std.specs.List.{list_all}
-use Rattle.std.specs.Option.{option_map, option_map_or}
+use Rattle.std.specs.Option.{option_map_or}
 use Rattle.std.proofs.lemmas.Bool.{cond-false}
 use Rattle.std.proofs.lemmas.List.Folds.{list_all-append}
 use Rattle.std.proofs.lemmas.Option.{none-some, same_Some}
@@ -10,18 +10,15 @@ use Rattle.sha2.specs.Sha256.{sha256}
 use Rattle.cat_keymap.specs.KeyOrder.{both_true, and_true}
 use Rattle.cat_names.specs.declared.hash.Hash.{Hash}
 use Rattle.cat_model.specs.declared.commit.Commit.{Commit}
-use Rattle.cat_model.specs.declared.content.Content.{Content}
 use Rattle.cat_model.specs.Base.{ancestors, base, common_ancestors, hash_before, is_among, is_nearer, nearest, nearest_of}
 use Rattle.cat_model.specs.Chain.{Commits, chain, commit_of, entries, generation, map_of, on_chain}
 use Rattle.cat_model.specs.Later.{Adds}
-use Rattle.cat_model.specs.Maps.{Map}
 use Rattle.cat_model.specs.Same.{same_hash}
-use Rattle.cat_model.specs.State.{content_at, no_ancestor}
+use Rattle.cat_model.specs.State.{no_ancestor}
 use Rattle.cat_model.specs.Transplants.{change_made, commits_at}
 use Rattle.cat_graph.specs.Linked.{AreLinked, is_known, is_merge_known}
 use Rattle.cat_graph.specs.GraphLaws.{apart, found_is_known}
 use Rattle.cat_state.specs.HeldLaws.{all_more}
-use Rattle.cat_state.specs.Keeping.{has_contents}
 
 -- ---- hashes
 
@@ -236,21 +233,3 @@ changes_by older newer hash (Some c) rest are adds e others =
 pub changes_later : (older newer : Commits) (hashes : List Hash) → AreLinked newer → Adds older newer → map (change_made newer) (commits_at older hashes) ≡ map (change_made older) (commits_at older hashes)
 changes_later older newer [] are adds = refl
 changes_later older newer (hash ∷ hashes) are adds = changes_by older newer hash (commit_of older hash) (commits_at older hashes) are adds refl (changes_later older newer hashes are adds)
-
--- ---- contents
-
-found_by : (b : Bool) (x : Hash × Content) (found : Option (Hash × Content)) → is_some (option_map (λ (y : Hash × Content). y.1) found) ≡ true → is_some (option_map (λ (y : Hash × Content). y.1) (cond b (Some x) found)) ≡ true
-found_by true x found e = refl
-found_by false x found e = e
-
-content_after : (front older : List (Hash × Content)) (hash : Hash) → is_some (content_at older hash) ≡ true → is_some (content_at (front ++ older) hash) ≡ true
-content_after [] older hash e = e
-content_after (x ∷ front) older hash e = found_by (same_hash x.0 hash) x (find (λ y. same_hash y.0 hash) (front ++ older)) (content_after front older hash e)
-
--- a content that is there stays there
-pub content_later : (older newer : List (Hash × Content)) (hash : Hash) → Adds older newer → is_some (content_at older hash) ≡ true → is_some (content_at newer hash) ≡ true
-content_later older newer hash adds there = subst (λ (l : List (Hash × Content)). is_some (content_at l hash) ≡ true) (sym adds.1) (content_after adds.0 older hash there)
-
--- and so do those of a map
-pub contents_later : (older newer : List (Hash × Content)) (m : Map) → Adds older newer → has_contents older m ≡ true → has_contents newer m ≡ true
-contents_later older newer m adds = all_more (λ x. is_some (content_at older x.1.hash)) (λ x. is_some (content_at newer x.1.hash)) m (λ x. content_later older newer x.1.hash adds)

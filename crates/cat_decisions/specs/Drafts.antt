@@ -10,7 +10,6 @@ use Rattle.cat_model.specs.declared.command.Transplant.{Transplant}
 use Rattle.cat_model.specs.declared.commit.Commit.{Commit}
 use Rattle.cat_model.specs.declared.commit.Meta.{Meta}
 use Rattle.cat_model.specs.declared.conflict.Conflict.{Conflict}
-use Rattle.cat_model.specs.declared.content.Content.{Content}
 use Rattle.cat_model.specs.declared.merging.Detail.{Detail}
 use Rattle.cat_model.specs.declared.reference.Reference.{Reference}
 use Rattle.cat_model.specs.Base.{base}
@@ -23,9 +22,7 @@ use Rattle.cat_model.specs.Transplants as transplants
 use Rattle.cat_graph.specs.Linked.{is_merge_known}
 use Rattle.cat_merge.specs.declared.plan.Plan.{Plan}
 use Rattle.cat_merge.specs.declared.plan.Planned.{Planned}
-use Rattle.cat_merge.specs.declared.transplant.Step.{Step}
 use Rattle.cat_merge.specs.Planned.{AreUpon, as_planned}
-use Rattle.cat_state.specs.Keeping.{has_contents}
 use Rattle.cat_decisions.specs.declared.drafts.Asked.{Asked}
 use Rattle.cat_decisions.specs.declared.drafts.Draft.{Draft}
 
@@ -66,12 +63,10 @@ pub record AreKnown (state : State) (head other : Hash) : Type 0 where
   pub upon : IsTrue (is_known sha256 state head)
   pub source : IsTrue (is_known sha256 state other)
 
--- plans upon a head, each upon the one before: what they set is held, and what is visible on each map; without conflicts each map is well-formed
+-- plans upon a head, each upon the one before; without conflicts each map is well-formed
 pub record ArePlans (state : State) (head : Hash) (plans : List Plan) : Type 0 where
   pub upon : AreUpon (entries state.commits head) plans
   pub well_formed : flat_map (λ p. p.conflicts) plans ≡ [] → IsTrue (list_all (λ p. is_well_formed p.map) plans)
-  pub held : IsTrue (list_all (λ p. has_contents state.present p.map) plans)
-  pub set : IsTrue (list_all (λ p. has_contents state.present (merges.entries_set p.ops)) plans)
 
 -- they are so upon a known head, and what they merge is known
 pub record AreDrafted (state : State) (head : Hash) (planned : List Planned) : Type 0 where
@@ -116,7 +111,3 @@ abbrev pub paired : List Meta → List Plan → List Planned
 paired [] plans = []
 paired (meta ∷ metas) [] = []
 paired (meta ∷ metas) (plan ∷ plans) = record { merge_parent = None; meta = meta; plan = plan } ∷ paired metas plans
-
--- what is visible at each source is held
-abbrev pub steps_are_held : List (Hash × Content) → List Step → Bool
-steps_are_held present steps = list_all (λ s. has_contents present s.source) steps

@@ -24,9 +24,8 @@ use Rattle.cat_merge.specs.declared.plan.Plan.{Plan}
 use Rattle.cat_merge.specs.declared.plan.Planned.{Planned}
 use Rattle.cat_merge.specs.Planned.{AreUpon}
 use Rattle.cat_state.specs.HeldLaws.{all_more, or_left}
-use Rattle.cat_state.specs.Keeping.{has_contents}
 use Rattle.cat_decisions.specs.declared.drafts.Draft.{Draft}
-use Rattle.cat_decisions.specs.AddedLaws.{base_known, base_later, changes_later, commits_later, contents_later, entries_later, known_later, linked_before, merge_known_later}
+use Rattle.cat_decisions.specs.AddedLaws.{base_known, base_later, changes_later, commits_later, entries_later, known_later, linked_before, merge_known_later}
 use Rattle.cat_decisions.specs.Drafts.{AreDrafted, AreKnown, ArePlans, IsMergeDraft, IsTransplantDraft, all_planned, plans_of}
 
 -- ---- plans
@@ -35,8 +34,6 @@ plans_later : (a b : State) (head : Hash) (plans : List Plan) → AreLinked b.co
 plans_later a b head plans are later known made = record {
   upon = subst (λ (m : Map). AreUpon m plans) (sym (entries_later a.commits b.commits head are later.commits known)) made.upon;
   well_formed = made.well_formed;
-  held = all_more (λ p. has_contents a.present p.map) (λ p. has_contents b.present p.map) plans (λ p. contents_later a.present b.present p.map later.present) made.held;
-  set = all_more (λ p. has_contents a.present (merges.entries_set p.ops)) (λ p. has_contents b.present (merges.entries_set p.ops)) plans (λ p. contents_later a.present b.present (merges.entries_set p.ops) later.present) made.set;
 }
 
 drafted_later : (a b : State) (head : Hash) (planned : List Planned) → AreLinked b.commits → IsLater a b → AreDrafted a head planned → AreDrafted b head planned

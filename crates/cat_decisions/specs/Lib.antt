@@ -1,6 +1,4 @@
 pub mod Drafts
-pub mod Expiring
-pub mod ExpiringLaws
 pub mod AddedLaws
 pub mod OpenedLaws
 pub mod LaterLaws
@@ -10,4 +8,3 @@ pub mod Builds
 pub mod BuildLaws
 pub mod KeyLaws
 pub mod Putting
-pub mod UnexpiredLaws

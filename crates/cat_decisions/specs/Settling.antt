@@ -1,5 +1,5 @@
 -- What plans come to on a state.
-use Rattle.std.specs.Prelude.{◌≡◌, ◌<◌, ◌≤◌, ◌+◌, ℕ, List, Option, Some, None, Result, Ok, Err, Bool, true, false, IsTrue, if◌then◌else◌, length}
+use Rattle.std.specs.Prelude.{◌≡◌, ◌<◌, ◌≤◌, ◌+◌, ℕ, List, Option, Some, None, Result, Ok, Err, Bool, true, false, if◌then◌else◌, length}
 use Rattle.sha2.specs.Sha256.{sha256}
 use Rattle.cat_names.specs.declared.hash.Hash.{Hash}
 use Rattle.cat_model.specs.declared.command.Command.{Command}
@@ -12,13 +12,13 @@ use Rattle.cat_model.specs.declared.reply.Merged.{Merged}
 use Rattle.cat_model.specs.declared.reply.Reply.TheVariants as replies
 use Rattle.cat_model.specs.Merges.{with_planned}
 use Rattle.cat_model.specs.Refusing.{Outcome}
-use Rattle.cat_model.specs.State.{State, is_known}
+use Rattle.cat_model.specs.State.{State}
 use Rattle.cat_model.specs.Step.{head_told}
 use Rattle.cat_merge.specs.declared.plan.Planned.{Planned}
 use Rattle.cat_state.specs.declared.additions.Additions.{Additions}
 use Rattle.cat_state.specs.declared.change.ReferenceChange.TheVariants.{Moved}
 use Rattle.cat_state.specs.declared.failure.Failure.{Failure}
-use Rattle.cat_state.specs.Changing.{AreNewTo, MayBeMade, applied, with_additions}
+use Rattle.cat_state.specs.Changing.{AreNewTo, MayBeHead, MayBeMade, applied, with_additions}
 use Rattle.cat_state.specs.Giving.{Fails}
 use Rattle.cat_decisions.specs.declared.decision.Decision.{Decision}
 use Rattle.cat_decisions.specs.declared.decision.Decision.TheVariants.{Told, Made}
@@ -54,7 +54,7 @@ pub record IsAdded (moment : ℕ) (state : State) (head : Hash) (planned : List 
   pub some : length planned ≡ 0 → ⊥
   pub step : with_planned sha256 moment state head (all_planned planned) ≡ Ok (a.0, with_additions state a.1)
   pub new : AreNewTo state a.1
-  pub known : IsTrue (is_known sha256 (with_additions state a.1) a.0)
+  pub last : MayBeHead (with_additions state a.1) a.0
 
 -- what they add, if there are any
 abbrev pub AreAdded : ℕ → State → Hash → List Planned → Option (Hash × Additions) → Type 0

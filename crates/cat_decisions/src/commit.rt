@@ -1,6 +1,6 @@
 //! Commits that opened a draft, settled by what was judged at their branch's head.
 
-ghost use Rattle.std.specs.Prelude.{◌≡◌, Ok, IfErr, IfOk, IsTrue, false, flat_map};
+ghost use Rattle.std.specs.Prelude.{◌≡◌, Ok, IfOk, IsTrue, flat_map};
 ghost use Rattle.sha2.specs.Sha256.{sha256};
 ghost use Rattle.cat_names.specs.declared.hash.Hash.{Hash as HashValue};
 ghost use Rattle.cat_model.specs.declared.command.Command.TheVariants as commands;
@@ -9,7 +9,6 @@ ghost use Rattle.cat_model.specs.Distinct.{are_distinct};
 ghost use Rattle.cat_model.specs.Step.{opening};
 ghost use Rattle.cat_model.specs.WellMade.{have_contents};
 ghost use Rattle.cat_decisions.specs.Decisions.{Decides};
-ghost use Rattle.cat_decisions.specs.Expiring.{fails_expired};
 ghost use Rattle.cat_decisions.specs.Builds.{IsGiven, IsJudgedAt};
 ghost use Rattle.cat_decisions.specs.Putting.{making_of};
 
@@ -107,12 +106,10 @@ pub(crate) fn settle_commit(
         × IsJudgedAt catalogue.now request.now given.ops head judged }
     ensures decides { Decides number catalogue.now (commands.Commit request.now)
         (step_commit sha256 catalogue.now request.now number moment) result }
-    ensures there { IfErr result (λ failure. fails_expired failure ≡ false) }
 {
     let Ok((branch, _)) = open_commit(catalogue, request) else {
         unreachable!()
     };
-    catalogue.contents_are_held();
     let map = tested_map(catalogue, branch, given.ops.as_slice(), judged)?;
     let head = &branch.head;
     let (hash, additions) = additions(alloc, catalogue, moment, request, head, &given, map)?;

@@ -1,6 +1,6 @@
 //! What calls that open drafts come to.
 
-ghost use Rattle.std.specs.Prelude.{ℕ, ◌≡◌, Ok, IfErr, IsTrue, false};
+ghost use Rattle.std.specs.Prelude.{ℕ, ◌≡◌, Ok, IsTrue};
 ghost use Rattle.sha2.specs.Sha256.{sha256};
 ghost use Rattle.cat_names.specs.declared.hash.Hash.{Hash as HashValue};
 ghost use Rattle.cat_model.specs.declared.command.Command.TheVariants as commands;
@@ -9,7 +9,6 @@ ghost use Rattle.cat_model.specs.Step.{opening, step};
 ghost use Rattle.cat_model.specs.Transplants.{step_transplant};
 ghost use Rattle.cat_model.specs.WellMade.{is_well_made};
 ghost use Rattle.cat_decisions.specs.Decisions.{Decides};
-ghost use Rattle.cat_decisions.specs.Expiring.{fails_expired};
 ghost use Rattle.cat_decisions.specs.Builds.{IsBuilt, IsGivenBy, IsMergedAt, IsTransplantedAt, command_of};
 
 use crate::building::{Built, Work};
@@ -30,6 +29,7 @@ use std::alloc::Global;
 fn decide_merge(
     alloc: Global,
     catalogue: &Catalogue,
+    opened: u32,
     moment: Moment,
     merge: &Merge,
     draft: Draft,
@@ -38,19 +38,21 @@ fn decide_merge(
     requires planned { (head : HashValue) × IsMergedAt catalogue.now merge.now head draft }
     ensures decides { (number : ℕ)
         → Decides number catalogue.now (commands.Merge merge.now)
-        (step_merge sha256 catalogue.now merge.now catalogue.now.place moment) result }
-    ensures there { IfErr result (λ failure. fails_expired failure ≡ false) }
+        (step_merge sha256 catalogue.now merge.now opened moment) result }
 {
     let Ok((branch, source)) = open_merge(catalogue, merge) else {
         unreachable!()
     };
-    settle_merge(alloc, catalogue, moment, merge, branch, &source, draft)
+    settle_merge(
+        alloc, catalogue, opened, moment, merge, branch, &source, draft,
+    )
 }
 
 /// What a transplant comes to, as it was planned upon its branch's head.
 fn decide_transplant(
     alloc: Global,
     catalogue: &Catalogue,
+    opened: u32,
     moment: Moment,
     transplant: &Transplant,
     draft: Draft,
@@ -60,20 +62,21 @@ fn decide_transplant(
         × IsTransplantedAt catalogue.now transplant.now head draft }
     ensures decides { (number : ℕ)
         → Decides number catalogue.now (commands.Transplant transplant.now)
-        (step_transplant sha256 catalogue.now transplant.now catalogue.now.place moment) result }
-    ensures there { IfErr result (λ failure. fails_expired failure ≡ false) }
+        (step_transplant sha256 catalogue.now transplant.now opened moment) result }
 {
     let Ok(branch) = open_transplant(catalogue, transplant) else {
         unreachable!()
     };
-    settle_transplant(alloc, catalogue, moment, transplant, branch, draft)
+    settle_transplant(alloc, catalogue, opened, moment, transplant, branch, draft)
 }
 
-/// What a call comes to at a moment, in its draft, by what was built on its branch's head.
+/// What a call comes to at a moment, in its draft, which was opened at a place, by what was built on
+/// its branch's head.
 pub fn decide(
     alloc: Global,
     catalogue: &Catalogue,
     number: u64,
+    opened: u32,
     moment: Moment,
     call: Call<'_>,
     built: Built,
@@ -84,8 +87,7 @@ pub fn decide(
     requires built { IsBuilt catalogue.now call built }
     ensures decides { Decides number catalogue.now (command_of call.entry)
         (step sha256 catalogue.now (command_of call.entry)
-        (record { draft = number; opened = catalogue.now.place; moment = moment })) result }
-    ensures there { IfErr result (λ failure. fails_expired failure ≡ false) }
+        (record { draft = number; opened = opened; moment = moment })) result }
 {
     let Built { head: _, work } = built;
     match call {
@@ -97,11 +99,13 @@ pub fn decide(
         },
         Call::Merge(merge) => match work {
             Work::Judged(_) => unreachable!(),
-            Work::Planned(draft) => decide_merge(alloc, catalogue, moment, merge, draft),
+            Work::Planned(draft) => decide_merge(alloc, catalogue, opened, moment, merge, draft),
         },
         Call::Transplant(transplant) => match work {
             Work::Judged(_) => unreachable!(),
-            Work::Planned(draft) => decide_transplant(alloc, catalogue, moment, transplant, draft),
+            Work::Planned(draft) => {
+                decide_transplant(alloc, catalogue, opened, moment, transplant, draft)
+            }
         },
     }
 }

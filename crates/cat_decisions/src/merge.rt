@@ -1,15 +1,15 @@
 //! Merges of a commit into a branch.
 
-ghost use Rattle.std.specs.Prelude.{ℕ, ◌≡◌, ◌∷◌, [], Some, Ok, IfErr, IfOk, false};
+ghost use Rattle.std.specs.Prelude.{ℕ, ◌≡◌, ◌∷◌, [], Some, Ok, IfOk};
 ghost use Rattle.sha2.specs.Sha256.{sha256};
 ghost use Rattle.cat_model.specs.Chain.{entries};
 ghost use Rattle.cat_model.specs.Merges.{merge_opening, step_merge};
 ghost use Rattle.cat_model.specs.Plan as plans;
 ghost use Rattle.cat_merge.specs.Planned.{planned};
 ghost use Rattle.cat_model.specs.declared.command.Command.TheVariants as commands;
+ghost use Rattle.cat_state.specs.Keeping.{IsHeldAt};
 ghost use Rattle.cat_decisions.specs.Decisions.{Decides};
 ghost use Rattle.cat_decisions.specs.Drafts.{AreKnown, ArePlans, IsMergeDraft};
-ghost use Rattle.cat_decisions.specs.Expiring.{fails_expired};
 
 use crate::decision::Decision;
 use crate::differing::changed_since;
@@ -49,7 +49,6 @@ fn plan_from(
     let changed = changed_since(alloc, catalogue, source, ancestor, &before, &merged)?;
     let target = catalogue.map_at(head)?;
     catalogue.map_is_well_formed(head);
-    catalogue.contents_are_held();
     let made = plan_merge(alloc, &before, &merged, &target, modes, changed);
     // By calls, once, so that the proof has no maps at the ways out below.
     drop(before);
@@ -113,10 +112,11 @@ pub fn draft_merge(
     })
 }
 
-/// What the draft of a merge comes to at a moment.
+/// What the draft of a merge that was opened at a place comes to at a moment.
 pub fn settle_merge(
     alloc: Global,
     catalogue: &Catalogue,
+    opened: u32,
     moment: Moment,
     merge: &Merge,
     branch: &Reference,
@@ -124,13 +124,13 @@ pub fn settle_merge(
     draft: Draft,
 ) -> Result<Decision, Failure>
     requires opened { merge_opening sha256 catalogue.now merge.now ≡ Ok (branch.now, source.now) }
+    requires held { IsHeldAt catalogue.now branch.now.head }
     requires drafted { IsMergeDraft catalogue.now merge.now branch.now source.now draft }
     ensures decides { (number : ℕ)
         → Decides number catalogue.now (commands.Merge merge.now)
-        (step_merge sha256 catalogue.now merge.now catalogue.now.place moment) result }
-    ensures there { IfErr result (λ failure. fails_expired failure ≡ false) }
+        (step_merge sha256 catalogue.now merge.now opened moment) result }
 {
     let _ = merge;
     let _ = source;
-    settle(alloc, catalogue, moment, branch, draft)
+    settle(alloc, catalogue, opened, moment, branch, draft)
 }

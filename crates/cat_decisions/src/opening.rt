@@ -1,4 +1,5 @@
-//! The branches that calls are on, and what is tested before their drafts are opened.
+//! The branches that calls are on, and what is tested before their drafts are opened. What is visible
+//! at a branch's head is held.
 
 ghost use Rattle.std.specs.Prelude.{IfOk, IsTrue};
 ghost use Rattle.sha2.specs.Sha256.{sha256};
@@ -7,6 +8,7 @@ ghost use Rattle.cat_model.specs.Merges.{merge_opening};
 ghost use Rattle.cat_model.specs.State.{is_known};
 ghost use Rattle.cat_model.specs.Transplants.{transplant_opening};
 ghost use Rattle.cat_state.specs.Giving.{SaysAs};
+ghost use Rattle.cat_state.specs.Keeping.{IsHeldAt};
 ghost use Rattle.cat_decisions.specs.Drafts.{AreKnown};
 
 use cat_model::command::{CommitRequest, Merge, Transplant};
@@ -24,6 +26,7 @@ pub fn open_commit<'a>(
     ensures opened { SaysAs (λ o. (o.0.now, o.1)) result
         (commit_opening sha256 catalogue.now request.now) }
     ensures known { IfOk result (λ o. AreKnown catalogue.now o.0.now.head o.1) }
+    ensures held { IfOk result (λ o. IsHeldAt catalogue.now o.0.now.head) }
 {
     let branch = catalogue.named(&request.branch)?;
     if branch.kind != Kind::Branch {
@@ -42,6 +45,7 @@ pub fn open_merge<'a>(
     ensures opened { SaysAs (λ o. (o.0.now, o.1)) result
         (merge_opening sha256 catalogue.now merge.now) }
     ensures known { IfOk result (λ o. AreKnown catalogue.now o.0.now.head o.1) }
+    ensures held { IfOk result (λ o. IsHeldAt catalogue.now o.0.now.head) }
 {
     let branch = catalogue.named(&merge.branch)?;
     let from = catalogue.named(&merge.from)?;
@@ -62,6 +66,7 @@ pub fn open_transplant<'a>(
     ensures opened { SaysAs (λ r. r.now) result
         (transplant_opening sha256 catalogue.now transplant.now) }
     ensures known { IfOk result (λ r. IsTrue (is_known sha256 catalogue.now r.now.head)) }
+    ensures held { IfOk result (λ r. IsHeldAt catalogue.now r.now.head) }
 {
     let branch = catalogue.named(&transplant.branch)?;
     let from = catalogue.named(&transplant.from)?;

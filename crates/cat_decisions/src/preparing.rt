@@ -5,9 +5,9 @@ ghost use Rattle.std.specs.List.{list_all};
 ghost use Rattle.sha2.specs.Sha256.{sha256};
 ghost use Rattle.cat_model.specs.Commits.{request_commit};
 ghost use Rattle.cat_model.specs.Distinct.{are_distinct};
-ghost use Rattle.cat_model.specs.State.{commit_hash, is_known};
+ghost use Rattle.cat_model.specs.State.{commit_hash};
 ghost use Rattle.cat_state.specs.Adding.{AreHashesOf, IsRecordOf, with_both};
-ghost use Rattle.cat_state.specs.Changing.{AreNewTo, with_additions};
+ghost use Rattle.cat_state.specs.Changing.{AreNewTo, MayBeHead, with_additions};
 ghost use Rattle.cat_state.specs.Giving.{GivesAs};
 ghost use Rattle.cat_state.specs.Keeping.{MayBeAdded, is_held};
 ghost use Rattle.cat_decisions.specs.Putting.{IsMapAfter};
@@ -114,8 +114,7 @@ pub(crate) fn additions(
         ≡ commit_hash sha256
         (request_commit catalogue.now head.now moment request.now given.now.ops)) }
     ensures new { IfOk result (λ a. AreNewTo catalogue.now a.1) }
-    ensures known { IfOk result
-        (λ a. IsTrue (is_known sha256 (with_additions catalogue.now a.1) a.0)) }
+    ensures head { IfOk result (λ a. MayBeHead (with_additions catalogue.now a.1) a.0) }
 {
     let ops = given.ops.as_slice();
     let kept = kept_commit(alloc, catalogue, moment, request, head, ops, map)?;

@@ -1,6 +1,6 @@
 //! Calls that make, move and remove references. They open no draft, and add no contents or commits.
 
-ghost use Rattle.std.specs.Prelude.{ℕ, ◌≡◌, ◌<◌, Ok, IfErr, false};
+ghost use Rattle.std.specs.Prelude.{ℕ, ◌≡◌, ◌<◌, Ok, false};
 ghost use Rattle.sha2.specs.Sha256.{sha256};
 ghost use Rattle.cat_model.specs.declared.command.Command.{Command as CommandValue};
 ghost use Rattle.cat_model.specs.declared.command.Command.TheVariants as commands;
@@ -9,7 +9,6 @@ ghost use Rattle.cat_model.specs.Moves.{step_assign, step_create, step_delete, w
 ghost use Rattle.cat_model.specs.Step.{Turn, head_left, logged_command, opens_draft, step};
 ghost use Rattle.cat_state.specs.Changing.{MayBecome, changed_references};
 ghost use Rattle.cat_decisions.specs.Decisions.{Decides};
-ghost use Rattle.cat_decisions.specs.Expiring.{fails_expired};
 
 use crate::decision::{Decision, Making};
 use crate::logged::{logged_assign, logged_create, logged_delete};
@@ -105,9 +104,7 @@ pub fn decide_reference(
     ensures decides { (turn : Turn)
         → Decides turn.draft catalogue.now command.now
         (step sha256 catalogue.now command.now turn) result }
-    ensures there { IfErr result (λ failure. fails_expired failure ≡ false) }
 {
-    catalogue.contents_are_held();
     match command {
         Command::Create(create) => decide_create(alloc, catalogue, create),
         Command::Assign(assign) => decide_assign(alloc, catalogue, assign),

@@ -1,14 +1,15 @@
 //! References that calls make, move or remove, by the rules' tests in turn.
 
-ghost use Rattle.std.specs.Prelude.{◌≡◌, ◌<◌, ◌∷◌, [], None, IfOk, IsTrue, OnOk};
+ghost use Rattle.std.specs.Prelude.{◌≡◌, ◌<◌, ◌∷◌, [], None, IfOk, OnOk};
 ghost use Rattle.std.specs.Option.{option_copied};
 ghost use Rattle.sha2.specs.Sha256.{sha256};
 ghost use Rattle.cat_model.specs.Moves.{needs_head, needs_other_than_default, step_assign, step_create, step_delete, with_references};
 ghost use Rattle.cat_model.specs.Moves as moves;
 ghost use Rattle.cat_model.specs.Refusing as refusing;
-ghost use Rattle.cat_model.specs.State.{is_known, moved_reference, reference_of, with_reference, without_reference};
+ghost use Rattle.cat_model.specs.State.{moved_reference, reference_of, with_reference, without_reference};
 ghost use Rattle.cat_model.specs.declared.conflict.ConflictKind.TheVariants.{UnexpectedHash};
 ghost use Rattle.cat_model.specs.declared.reply.Reply.TheVariants as replies;
+ghost use Rattle.cat_state.specs.Changing.{MayBeHead};
 ghost use Rattle.cat_state.specs.Giving.{Gives, GivesAs};
 
 use crate::decision::at_head;
@@ -115,7 +116,7 @@ pub(crate) fn created(
         )) result (step_create sha256 catalogue.now create.now) }
     ensures place { OnOk result (catalogue.now.place < 4294967295) }
     ensures absent { IfOk result (λ r. reference_of catalogue.now.references r.name ≡ None) }
-    ensures known { IfOk result (λ r. IsTrue (is_known sha256 catalogue.now r.head)) }
+    ensures head { IfOk result (λ r. MayBeHead catalogue.now r.head) }
 {
     let source = catalogue.perhaps_named(&create.source.name)?;
     needs_source_kind(create.source_kind, source)?;
@@ -144,7 +145,7 @@ pub(crate) fn assigned(
           replies.Reference r,
         )) result (step_assign sha256 catalogue.now assign.now) }
     ensures place { OnOk result (catalogue.now.place < 4294967295) }
-    ensures known { IfOk result (λ r. IsTrue (is_known sha256 catalogue.now r.head)) }
+    ensures head { IfOk result (λ r. MayBeHead catalogue.now r.head) }
 {
     let reference = catalogue.named(&assign.name)?;
     let source = catalogue.perhaps_named(&assign.source.name)?;

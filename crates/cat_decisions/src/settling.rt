@@ -1,13 +1,11 @@
 //! What plans upon a branch come to.
 
-ghost use Rattle.std.specs.List.{list_all};
 ghost use Rattle.std.specs.Prelude.{◌≡◌, [], IfErr, IfOk, IsTrue, true, false};
 ghost use Rattle.sha2.specs.Sha256.{sha256};
-ghost use Rattle.cat_model.specs.Merges.{entries_set, needs_set_contents, step_applied, step_planned, step_unless_conflicts, with_planned};
+ghost use Rattle.cat_model.specs.Merges.{all_set, step_applied, step_planned, step_unless_conflicts, with_planned};
 ghost use Rattle.cat_state.specs.Giving.{Fails, Gives};
-ghost use Rattle.cat_state.specs.Keeping.{has_contents};
-ghost use Rattle.cat_decisions.specs.Drafts.{AreDrafted, all_conflicts_in, all_details_in, all_planned, changing, plans_for, plans_of};
-ghost use Rattle.cat_decisions.specs.Expiring.{fails_expired};
+ghost use Rattle.cat_state.specs.Keeping.{IsHeldAt, has_contents};
+ghost use Rattle.cat_decisions.specs.Drafts.{AreDrafted, all_conflicts_in, all_details_in, all_planned, changing, plans_for};
 ghost use Rattle.cat_decisions.specs.Settling.{AreAdded, HasRoom, Settles, decision_of, making_of, reply_at, told_or_refused};
 
 use crate::changing::with_changes;
@@ -31,18 +29,6 @@ use cat_state::catalogue::Catalogue;
 use cat_state::change::{Change, ReferenceChange};
 use cat_state::failure::Failure;
 use std::alloc::Global;
-
-/// What plans set is held. This fails for want of memory alone.
-fn needs_contents(alloc: Global, catalogue: &Catalogue, planned: &[Planned]) -> Result<(), Failure>
-    requires held { IsTrue
-        (list_all (λ p. has_contents catalogue.now.present (entries_set p.ops))
-        (plans_of planned.now)) }
-    ensures test { Gives result
-        (needs_set_contents catalogue.now (all_planned planned.now) catalogue.now.place) }
-    ensures there { IfErr result (λ failure. fails_expired failure ≡ false) }
-{
-    catalogue.needs_set_contents(alloc, planned, catalogue.place())
-}
 
 /// The reply that leaves a branch as it is.
 fn unmoved(
@@ -157,6 +143,9 @@ fn added(
     planned: Vec<Planned>,
 ) -> Result<Option<(Hash, Additions)>, Failure>
     requires drafted { AreDrafted catalogue.now head.now planned.items }
+    requires held { IsHeldAt catalogue.now head.now }
+    requires set { IsTrue
+        (has_contents catalogue.now.present (all_set (all_planned planned.items))) }
     requires room { HasRoom catalogue.now planned.items }
     requires conflicts { all_conflicts_in planned.items ≡ [] }
     ensures added { IfOk result (AreAdded moment catalogue.now head.now (changing planned.items)) }
@@ -164,7 +153,6 @@ fn added(
         (λ failure. Fails failure
         (with_planned sha256 moment catalogue.now head.now
         (all_planned (changing planned.items)))) }
-    ensures there { IfErr result (λ failure. fails_expired failure ≡ false) }
 {
     let made = with_changes(alloc, planned)?;
     if made.len() == 0 {
@@ -179,21 +167,22 @@ fn added(
 fn apply(
     alloc: Global,
     catalogue: &Catalogue,
+    opened: u32,
     moment: Moment,
     branch: &Reference,
     draft: Draft,
     details: Seq<Detail>,
 ) -> Result<Decision, Failure>
     requires drafted { AreDrafted catalogue.now branch.now.head draft.planned.items }
+    requires held { IsHeldAt catalogue.now branch.now.head }
     requires room { HasRoom catalogue.now draft.planned.items }
     requires conflicts { all_conflicts_in draft.planned.items ≡ [] }
     requires details { details ≡ all_details_in draft.planned.items }
     ensures step { Settles catalogue.now draft.command
         (step_applied sha256 catalogue.now
-        (plans_for draft branch.now catalogue.now.place moment)) result }
-    ensures there { IfErr result (λ failure. fails_expired failure ≡ false) }
+        (plans_for draft branch.now opened moment)) result }
 {
-    if let Err(failure) = needs_contents(alloc, catalogue, draft.planned.as_slice()) {
+    if let Err(failure) = catalogue.needs_set_contents(alloc, draft.planned.as_slice(), opened) {
         drop(draft);
         return Err(failure);
     }
@@ -238,6 +227,7 @@ fn clash(
 fn by_conflicts(
     alloc: Global,
     catalogue: &Catalogue,
+    opened: u32,
     moment: Moment,
     branch: &Reference,
     draft: Draft,
@@ -245,17 +235,17 @@ fn by_conflicts(
     conflicts: Seq<Conflict>,
 ) -> Result<Decision, Failure>
     requires drafted { AreDrafted catalogue.now branch.now.head draft.planned.items }
+    requires held { IsHeldAt catalogue.now branch.now.head }
     requires room { HasRoom catalogue.now draft.planned.items }
     requires details { details ≡ all_details_in draft.planned.items }
     requires conflicts { conflicts ≡ all_conflicts_in draft.planned.items }
     ensures step { Settles catalogue.now draft.command
         (step_unless_conflicts sha256 catalogue.now
-        (plans_for draft branch.now catalogue.now.place moment)
+        (plans_for draft branch.now opened moment)
         (all_conflicts_in draft.planned.items)) result }
-    ensures there { IfErr result (λ failure. fails_expired failure ≡ false) }
 {
     if conflicts.len() == 0 {
-        return apply(alloc, catalogue, moment, branch, draft, details);
+        return apply(alloc, catalogue, opened, moment, branch, draft, details);
     }
     let told = clash(branch, &draft, details, conflicts);
     // By a call, so that the proof doesn't take the draft apart at each way out.
@@ -278,21 +268,24 @@ fn found(alloc: Global, planned: &[Planned]) -> Result<(Seq<Detail>, Seq<Conflic
 fn unless_conflicts(
     alloc: Global,
     catalogue: &Catalogue,
+    opened: u32,
     moment: Moment,
     branch: &Reference,
     draft: Draft,
 ) -> Result<Decision, Failure>
     requires drafted { AreDrafted catalogue.now branch.now.head draft.planned.items }
+    requires held { IsHeldAt catalogue.now branch.now.head }
     requires room { HasRoom catalogue.now draft.planned.items }
     ensures step { Settles catalogue.now draft.command
         (step_unless_conflicts sha256 catalogue.now
-        (plans_for draft branch.now catalogue.now.place moment)
+        (plans_for draft branch.now opened moment)
         (all_conflicts_in draft.planned.items)) result }
-    ensures there { IfErr result (λ failure. fails_expired failure ≡ false) }
 {
     match found(alloc, draft.planned.as_slice()) {
         Ok((details, conflicts)) => {
-            by_conflicts(alloc, catalogue, moment, branch, draft, details, conflicts)
+            by_conflicts(
+                alloc, catalogue, opened, moment, branch, draft, details, conflicts,
+            )
         }
         Err(fault) => {
             // By a call, so that the proof doesn't take the draft apart here.
@@ -302,23 +295,25 @@ fn unless_conflicts(
     }
 }
 
-/// What a draft comes to at a moment: conflicts refuse, or are the reply; else there are commits of
-/// the plans that change something. No content that they set is gone.
+/// What a draft that was opened at a place comes to at a moment: conflicts refuse, or are the reply;
+/// contents that plans set and that are gone refuse; else there are commits of the plans that change
+/// something.
 pub(crate) fn settle(
     alloc: Global,
     catalogue: &Catalogue,
+    opened: u32,
     moment: Moment,
     branch: &Reference,
     draft: Draft,
 ) -> Result<Decision, Failure>
     requires drafted { AreDrafted catalogue.now branch.now.head draft.planned.items }
+    requires held { IsHeldAt catalogue.now branch.now.head }
     ensures step { Settles catalogue.now draft.command
         (step_planned sha256 catalogue.now
-        (plans_for draft branch.now catalogue.now.place moment)) result }
-    ensures there { IfErr result (λ failure. fails_expired failure ≡ false) }
+        (plans_for draft branch.now opened moment)) result }
 {
     match needs_room(catalogue, branch, draft.planned.as_slice()) {
-        Ok(()) => unless_conflicts(alloc, catalogue, moment, branch, draft),
+        Ok(()) => unless_conflicts(alloc, catalogue, opened, moment, branch, draft),
         Err(failure) => {
             drop(draft);
             Err(failure)

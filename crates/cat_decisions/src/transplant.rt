@@ -1,15 +1,15 @@
 //! Commits of a reference applied to a branch.
 
-ghost use Rattle.std.specs.Prelude.{ℕ, ◌≡◌, ◌++◌, ◌∷◌, [], Ok, IfErr, IfOk, IsTrue, OnOk, map, false};
+ghost use Rattle.std.specs.Prelude.{ℕ, ◌≡◌, ◌++◌, ◌∷◌, [], Ok, IfOk, IsTrue, OnOk, map};
 ghost use Rattle.sha2.specs.Sha256.{sha256};
 ghost use Rattle.cat_model.specs.Chain.{entries};
 ghost use Rattle.cat_model.specs.State.{is_known};
 ghost use Rattle.cat_model.specs.Transplants.{change_made, commits_at, plan_each, step_transplant, transplant_opening};
 ghost use Rattle.cat_merge.specs.Planned.{AreTouched, planned, step_of};
 ghost use Rattle.cat_model.specs.declared.command.Command.TheVariants as commands;
+ghost use Rattle.cat_state.specs.Keeping.{IsHeldAt};
 ghost use Rattle.cat_decisions.specs.Decisions.{Decides};
-ghost use Rattle.cat_decisions.specs.Drafts.{ArePlans, IsTransplantDraft, meta_of, paired, steps_are_held};
-ghost use Rattle.cat_decisions.specs.Expiring.{fails_expired};
+ghost use Rattle.cat_decisions.specs.Drafts.{ArePlans, IsTransplantDraft, meta_of, paired};
 
 use crate::decision::Decision;
 use crate::drafts::{Asked, Draft};
@@ -120,7 +120,6 @@ fn plan_onto(
     head: &Hash,
 ) -> Result<Vec<Plan>, NoMemory>
     requires touched { AreTouched steps.now }
-    requires held { IsTrue (steps_are_held catalogue.now.present steps.now) }
     ensures exact { IfOk result
         (λ plans. map planned plans.items
         ≡ plan_each modes.now (entries catalogue.now.commits head.now) (map step_of steps.now)) }
@@ -128,7 +127,6 @@ fn plan_onto(
 {
     let target = catalogue.map_at(head)?;
     catalogue.map_is_well_formed(head);
-    catalogue.contents_are_held();
     let plans = plan_transplant(alloc, steps, &target, modes)?;
     Ok(plans)
 }
@@ -145,7 +143,6 @@ pub fn draft_transplant(
         (λ draft. IsTransplantDraft catalogue.now transplant.now branch.now draft) }
 {
     let hashes = transplant.hashes.as_slice();
-    catalogue.contents_are_held();
     let steps = steps(alloc, catalogue, hashes)?;
     let plans = plan_onto(
         alloc,
@@ -167,22 +164,23 @@ pub fn draft_transplant(
     })
 }
 
-/// What the draft of a transplant comes to at a moment.
+/// What the draft of a transplant that was opened at a place comes to at a moment.
 pub fn settle_transplant(
     alloc: Global,
     catalogue: &Catalogue,
+    opened: u32,
     moment: Moment,
     transplant: &Transplant,
     branch: &Reference,
     draft: Draft,
 ) -> Result<Decision, Failure>
     requires opened { transplant_opening sha256 catalogue.now transplant.now ≡ Ok branch.now }
+    requires held { IsHeldAt catalogue.now branch.now.head }
     requires drafted { IsTransplantDraft catalogue.now transplant.now branch.now draft }
     ensures decides { (number : ℕ)
         → Decides number catalogue.now (commands.Transplant transplant.now)
-        (step_transplant sha256 catalogue.now transplant.now catalogue.now.place moment) result }
-    ensures there { IfErr result (λ failure. fails_expired failure ≡ false) }
+        (step_transplant sha256 catalogue.now transplant.now opened moment) result }
 {
     let _ = transplant;
-    settle(alloc, catalogue, moment, branch, draft)
+    settle(alloc, catalogue, opened, moment, branch, draft)
 }

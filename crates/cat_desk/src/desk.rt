@@ -63,9 +63,14 @@ impl<V: Logged> Model for Desk<V> {
 
     ghost Value = { DeskId };
 
-    ghost view = { λ d. record { table = d.table.shared.table_id; opened = V.opened d.table.shared.key; begun = V.log d.table.shared.key } };
+    ghost view = { λ d. record {
+      table = d.table.shared.table_id;
+      opened = V.opened d.table.shared.key;
+      begun = V.log d.table.shared.key;
+    } };
 
-    ghost invariant = { λ d. (d.table.shared.table_id.words ≡ 67) × (d.table.shared.table_id.slots ≡ 1) };
+    ghost invariant = { λ d. (d.table.shared.table_id.words ≡ 67)
+        × (d.table.shared.table_id.slots ≡ 1) };
 }
 
 impl<V: Logged> Desk<V> {
@@ -73,9 +78,15 @@ impl<V: Logged> Desk<V> {
     pub fn new(alloc: Global, value: V) -> Result<(Desk<V>, Pass), (V, NoMemory)>
         requires legal { V.legal (V.opened value) (V.log value) }
         requires closed { V.left_open value ≡ nothing_open }
-        ensures desk { IfOk result (λ t. (t.0.opened ≡ V.opened value) × (t.0.begun ≡ V.log value) × IsFree t.0 t.1) }
-        ensures pass { IfOk result (λ t. (seen t.1 ≡ V.log value) × (known t.1 ≡ length (V.log value)) × (mark_of t.1 ≡ V.mark value) × (left_by t.1 ≡ nothing_open)) }
-        ensures number { IfOk result (λ t. (number_of t.1 ≡ 1) × (spare_of t.1 ≡ 4294967294) × (stands_for t.1 ≡ 1)) }
+        ensures desk { IfOk result
+            (λ t. (t.0.opened ≡ V.opened value) × (t.0.begun ≡ V.log value) × IsFree t.0 t.1) }
+        ensures pass { IfOk result
+            (λ t. (seen t.1 ≡ V.log value)
+            × (known t.1 ≡ length (V.log value))
+            × (mark_of t.1 ≡ V.mark value)
+            × (left_by t.1 ≡ nothing_open)) }
+        ensures number { IfOk result
+            (λ t. (number_of t.1 ≡ 1) × (spare_of t.1 ≡ 4294967294) × (stands_for t.1 ≡ 1)) }
         ensures refused { IfErr result (λ e. e.0 ≡ value) }
     {
         let count = value.count() as u64;
@@ -108,15 +119,26 @@ impl<V: Logged> Desk<V> {
     /// seen, and what follows is of other callers. It waits for as long as others have their turns.
     pub fn enter<R: Wait>(&self, rt: &R, pass: &mut Pass) -> Held<V>
         requires { IsFree self.now pass.old }
-        ensures turn { IsTurn self.now pass.new result × (number_of pass.new ≡ number_of pass.old) × (spare_of pass.new ≡ spare_of pass.old) × (held_for result ≡ stands_for pass.old) }
-        ensures follows { Follows (number_of pass.old) (seen pass.old) (V.log result.value) × (known pass.old ≤ length (V.log result.value)) }
-        ensures found { found self.now result ≡ snapshot V.opened V.log V.mark V.left_open result.value }
-        ensures still { Acts V.legal (number_of pass.old) (found self.now result) (snapshot V.opened V.log V.mark V.left_open result.value) }
-        ensures legal { (V.opened result.value ≡ self.now.opened) × V.legal self.now.opened (V.log result.value) }
-        ensures mark { Linked (number_of pass.old) (mark_of pass.old) (V.mark result.value) × (turn_of pass.old ≤ found_turn result) }
-        ensures same { found_turn result ≡ turn_of pass.old → V.mark result.value ≡ mark_of pass.old }
-        ensures own { StaysOpen (left_by pass.old) (open_of (number_of pass.old) (V.left_open result.value)) }
-        ensures alone { stands_for pass.old + spare_of pass.old ≡ 4294967295 → (V.log result.value ≡ seen pass.old) × (V.mark result.value ≡ mark_of pass.old) }
+        ensures turn { IsTurn self.now pass.new result
+            × (number_of pass.new ≡ number_of pass.old)
+            × (spare_of pass.new ≡ spare_of pass.old)
+            × (held_for result ≡ stands_for pass.old) }
+        ensures follows { Follows (number_of pass.old) (seen pass.old) (V.log result.value)
+            × (known pass.old ≤ length (V.log result.value)) }
+        ensures found { found self.now result
+            ≡ snapshot V.opened V.log V.mark V.left_open result.value }
+        ensures still { Acts V.legal (number_of pass.old) (found self.now result)
+            (snapshot V.opened V.log V.mark V.left_open result.value) }
+        ensures legal { (V.opened result.value ≡ self.now.opened)
+            × V.legal self.now.opened (V.log result.value) }
+        ensures mark { Linked (number_of pass.old) (mark_of pass.old) (V.mark result.value)
+            × (turn_of pass.old ≤ found_turn result) }
+        ensures same { found_turn result ≡ turn_of pass.old
+            → V.mark result.value ≡ mark_of pass.old }
+        ensures own { StaysOpen (left_by pass.old)
+            (open_of (number_of pass.old) (V.left_open result.value)) }
+        ensures alone { stands_for pass.old + spare_of pass.old ≡ 4294967295
+            → (V.log result.value ≡ seen pass.old) × (V.mark result.value ≡ mark_of pass.old) }
     {
         let badge = mem::replace(&mut pass.badge, Badge::blank());
         let mut seat = badge.into_seat::<Option<V>>();
@@ -132,11 +154,17 @@ impl<V: Logged> Desk<V> {
     /// Gives the value back, with the entries that the caller added, and passes the turn on.
     pub fn leave(&self, held: Held<V>, pass: &mut Pass)
         requires turn { IsTurn self.now pass.old held }
-        requires acts { Acts V.legal (number_of pass.old) (found self.now held) (snapshot V.opened V.log V.mark V.left_open held.value) }
-        ensures free { IsFree self.now pass.new × (number_of pass.new ≡ number_of pass.old) × (spare_of pass.new ≡ spare_of pass.old) × (stands_for pass.new ≡ held_for held) }
-        ensures seen { (seen pass.new ≡ V.log held.value) × (known pass.new ≡ length (V.log held.value)) }
+        requires acts { Acts V.legal (number_of pass.old) (found self.now held)
+            (snapshot V.opened V.log V.mark V.left_open held.value) }
+        ensures free { IsFree self.now pass.new
+            × (number_of pass.new ≡ number_of pass.old)
+            × (spare_of pass.new ≡ spare_of pass.old)
+            × (stands_for pass.new ≡ held_for held) }
+        ensures seen { (seen pass.new ≡ V.log held.value)
+            × (known pass.new ≡ length (V.log held.value)) }
         ensures legal { V.legal self.now.opened (seen pass.new) }
-        ensures mark { (mark_of pass.new ≡ V.mark held.value) × (turn_of pass.new ≡ found_turn held + 1) }
+        ensures mark { (mark_of pass.new ≡ V.mark held.value)
+            × (turn_of pass.new ≡ found_turn held + 1) }
         ensures left { left_by pass.new ≡ open_of (number_of pass.old) (V.left_open held.value) }
     {
         let Held {
@@ -165,10 +193,21 @@ impl<V: Logged> Desk<V> {
         requires spare { 0 < spare_of pass.old }
         ensures succeeds { IsOk result }
         ensures refused { IfErr result (λ _. pass.new ≡ pass.old) }
-        ensures kept { IfOk result (λ _. IsFree self.now pass.new × Remembers pass.old pass.new × (left_by pass.new ≡ left_by pass.old)) }
-        ensures count { IfOk result (λ _. (number_of pass.new ≡ number_of pass.old) × (spare_of pass.new + 1 ≡ spare_of pass.old) × (stands_for pass.new ≡ stands_for pass.old)) }
-        ensures other { IfOk result (λ p. IsFree self.now p × Remembers pass.old p × (left_by p ≡ nothing_open)) }
-        ensures number { IfOk result (λ p. (number_of p + spare_of pass.old ≡ 4294967296) × (spare_of p ≡ 0) × (stands_for p ≡ 1) × Follows (number_of p) self.now.begun (seen p)) }
+        ensures kept { IfOk result
+            (λ _. IsFree self.now pass.new
+            × Remembers pass.old pass.new
+            × (left_by pass.new ≡ left_by pass.old)) }
+        ensures count { IfOk result
+            (λ _. (number_of pass.new ≡ number_of pass.old)
+            × (spare_of pass.new + 1 ≡ spare_of pass.old)
+            × (stands_for pass.new ≡ stands_for pass.old)) }
+        ensures other { IfOk result
+            (λ p. IsFree self.now p × Remembers pass.old p × (left_by p ≡ nothing_open)) }
+        ensures number { IfOk result
+            (λ p. (number_of p + spare_of pass.old ≡ 4294967296)
+            × (spare_of p ≡ 0)
+            × (stands_for p ≡ 1)
+            × Follows (number_of p) self.now.begun (seen p)) }
     {
         let badge = mem::replace(&mut pass.badge, Badge::blank());
         let mut seat = badge.into_seat::<Option<V>>();
@@ -190,12 +229,17 @@ impl<V: Logged> Desk<V> {
     pub fn join(&self, pass: &mut Pass, other: Pass)
         requires free { IsFree self.now pass.old × IsFree self.now other }
         ensures free { IsFree self.now pass.new × (number_of pass.new ≡ number_of pass.old) }
-        ensures seen { (seen pass.new ≡ longer (seen pass.old) (seen other)) × (known pass.new ≡ max (known pass.old) (known other)) }
-        ensures whole { BeginsWith (seen pass.old) (seen pass.new) × BeginsWith (seen other) (seen pass.new) }
+        ensures seen { (seen pass.new ≡ longer (seen pass.old) (seen other))
+            × (known pass.new ≡ max (known pass.old) (known other)) }
+        ensures whole { BeginsWith (seen pass.old) (seen pass.new)
+            × BeginsWith (seen other) (seen pass.new) }
         ensures follows { Follows (number_of pass.old) (seen pass.old) (seen pass.new) }
-        ensures mark { (mark_of pass.new ≡ later_mark (turn_of pass.old) (turn_of other) (mark_of pass.old) (mark_of other)) × (turn_of pass.new ≡ max (turn_of pass.old) (turn_of other)) }
+        ensures mark { (mark_of pass.new
+            ≡ later_mark (turn_of pass.old) (turn_of other) (mark_of pass.old) (mark_of other))
+            × (turn_of pass.new ≡ max (turn_of pass.old) (turn_of other)) }
         ensures left { left_by pass.new ≡ left_by pass.old }
-        ensures sum { (stands_for pass.new ≡ stands_for pass.old + stands_for other) × (spare_of pass.new ≡ max (spare_of pass.old) (spare_of other)) }
+        ensures sum { (stands_for pass.new ≡ stands_for pass.old + stands_for other)
+            × (spare_of pass.new ≡ max (spare_of pass.old) (spare_of other)) }
     {
         let badge = mem::replace(&mut pass.badge, Badge::blank());
         let mut seat = badge.into_seat::<Option<V>>();
@@ -218,9 +262,12 @@ impl<V: Logged> Desk<V> {
         requires free { IsFree self pass }
         requires all { stands_for pass + spare_of pass ≡ 4294967295 }
         ensures succeeds { IsOk result }
-        ensures log { IfOk result (λ value. (V.log value ≡ seen pass) × (V.mark value ≡ mark_of pass)) }
-        ensures legal { IfOk result (λ value. (V.opened value ≡ self.opened) × V.legal self.opened (V.log value)) }
-        ensures own { IfOk result (λ value. StaysOpen (left_by pass) (open_of (number_of pass) (V.left_open value))) }
+        ensures log { IfOk result
+            (λ value. (V.log value ≡ seen pass) × (V.mark value ≡ mark_of pass)) }
+        ensures legal { IfOk result
+            (λ value. (V.opened value ≡ self.opened) × V.legal self.opened (V.log value)) }
+        ensures own { IfOk result
+            (λ value. StaysOpen (left_by pass) (open_of (number_of pass) (V.left_open value))) }
         ensures refused { IfErr result (λ e. (e.0 ≡ self) × (e.1 ≡ pass)) }
     {
         let Desk { table } = self;
@@ -254,8 +301,13 @@ impl<V: Logged> Desk<V> {
 
     /// Waits until the ticket is served.
     fn wait<R: Wait>(&self, rt: &R, seat: &mut Seat<Option<V>, View>, ticket: u64)
-        requires { (seat.old.table_id ≡ self.now.table) × (seat.old.me.0.stage ≡ Waiting) × (ticket ≡ seat.old.me.0.ticket % 18446744073709551616) }
-        ensures { (seat.new.table_id ≡ seat.old.table_id) × (seat.new.me.0 ≡ at_stage seat.old.me.0 Called) × (seat.old.me.0.ticket ≡ ticket) × (seat.new.me.1 ≡ seat.old.me.1) }
+        requires { (seat.old.table_id ≡ self.now.table)
+            × (seat.old.me.0.stage ≡ Waiting)
+            × (ticket ≡ seat.old.me.0.ticket % 18446744073709551616) }
+        ensures { (seat.new.table_id ≡ seat.old.table_id)
+            × (seat.new.me.0 ≡ at_stage seat.old.me.0 Called)
+            × (seat.old.me.0.ticket ≡ ticket)
+            × (seat.new.me.1 ≡ seat.old.me.1) }
     {
         let bell = bell_of(ticket);
         for _ in rt.forever() {
@@ -273,9 +325,17 @@ impl<V: Logged> Desk<V> {
 
     /// Takes the value out of its slot.
     fn take(&self, mut seat: Seat<Option<V>, View>, ticket: u64) -> Held<V>
-        requires { (seat.table_id ≡ self.now.table) × (seat.me.0.stage ≡ Called) × (seat.me.1 ≡ []) }
-        ensures kept { (result.ticket ≡ ticket) × (result.seat.table_id ≡ seat.table_id) × (result.seat.me.0 ≡ finding seat.me.0 (V.log result.value) (V.mark result.value) (V.left_open result.value) result.seat.me.0.turn) × (result.seat.me.1 ≡ (0, None) ∷ []) }
-        ensures found { Found V.log V.opened V.legal V.mark V.left_open seat.me (result.seat.me.0, (0, Some result.value) ∷ []) result.value }
+        requires { (seat.table_id ≡ self.now.table)
+            × (seat.me.0.stage ≡ Called)
+            × (seat.me.1 ≡ []) }
+        ensures kept { (result.ticket ≡ ticket)
+            × (result.seat.table_id ≡ seat.table_id)
+            × (result.seat.me.0
+            ≡ finding seat.me.0 (V.log result.value) (V.mark result.value)
+            (V.left_open result.value) result.seat.me.0.turn)
+            × (result.seat.me.1 ≡ (0, None) ∷ []) }
+        ensures found { Found V.log V.opened V.legal V.mark V.left_open seat.me
+            (result.seat.me.0, (0, Some result.value) ∷ []) result.value }
     {
         self.table.shared.load::<Take>(&mut seat, COUNT);
         match self.table.shared.exchange(&mut seat, 0, None) {
@@ -302,7 +362,10 @@ impl Pass {
         requires { IsFree desk.now self.old }
         ensures free { Keeps desk.now self.old self.new }
         ensures met { (known self.new ≡ result) × (known self.old ≤ result) }
-        ensures kept { (seen self.new ≡ seen self.old) × (mark_of self.new ≡ mark_of self.old) × (turn_of self.new ≡ turn_of self.old) × (left_by self.new ≡ left_by self.old) }
+        ensures kept { (seen self.new ≡ seen self.old)
+            × (mark_of self.new ≡ mark_of self.old)
+            × (turn_of self.new ≡ turn_of self.old)
+            × (left_by self.new ≡ left_by self.old) }
     {
         let badge = mem::replace(&mut self.badge, Badge::blank());
         let mut seat = badge.into_seat::<Option<V>>();

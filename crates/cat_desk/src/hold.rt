@@ -28,7 +28,9 @@ impl<'a, R, V: Logged> Hold<'a, R, V> {
     pub fn new(rt: &'a R, desk: &'a Desk<V>, pass: Pass, entries: u32, turns: u32) -> Hold<'a, R, V>
         requires { IsFree desk.now pass }
         ensures of { (own_desk result ≡ desk.now) × (own_pass result ≡ pass) }
-        ensures bounds { (awaits result ≡ entries) × (looks_in result ≡ turns) × IsFalse (was_late result) }
+        ensures bounds { (awaits result ≡ entries)
+            × (looks_in result ≡ turns)
+            × IsFalse (was_late result) }
     {
         Hold {
             rt,
@@ -70,9 +72,15 @@ impl<'a, R: Wait, V: Logged> Gate for Hold<'a, R, V> {
         requires ready { IsFree (own_desk self.old) (own_pass self.old) }
         ensures ready { IsFree (own_desk self.new) (own_pass self.new) }
         ensures desks { own_desk self.new ≡ own_desk self.old }
-        ensures bounds { (awaits self.new ≡ awaits self.old) × (looks_in self.new ≡ looks_in self.old) }
-        ensures held { IsFalse (was_late self.new) → IsFalse (was_late self.old) × (awaits self.new ≤ length (seen (own_pass self.new))) }
-        ensures late { IsTrue (was_late self.new) → IsTrue (was_late self.old) ⊎ (looks_in self.new ≡ 0) ⊎ (length (seen (own_pass self.new)) < awaits self.new) }
+        ensures bounds { (awaits self.new ≡ awaits self.old)
+            × (looks_in self.new ≡ looks_in self.old) }
+        ensures held { IsFalse (was_late self.new)
+            → IsFalse (was_late self.old)
+            × (awaits self.new ≤ length (seen (own_pass self.new))) }
+        ensures late { IsTrue (was_late self.new)
+            → IsTrue (was_late self.old)
+            ⊎ (looks_in self.new ≡ 0)
+            ⊎ (length (seen (own_pass self.new)) < awaits self.new) }
     {
         for _ in 0..self.turns {
             if count(self.rt, self.desk, &mut self.pass) >= self.entries {

@@ -3,7 +3,7 @@ use Rattle.std.proofs.Common.{◌≡◌, ℕ, Option, Result, Ok, Err, refl, sub
 use Rattle.sha2.specs.Sha256.{sha256}
 use Rattle.cat_model.specs.declared.command.Command.{Command}
 use Rattle.cat_model.specs.declared.refusal.Refusal.{Refusal}
-use Rattle.cat_model.specs.declared.refusal.Refusal.TheVariants.{Down, Expired, Fault, NoMemory, RetriesSpent}
+use Rattle.cat_model.specs.declared.refusal.Refusal.TheVariants.{Down, Fault, NoMemory, RetriesSpent}
 use Rattle.cat_model.specs.declared.refusal.Refused.{Refused}
 use Rattle.cat_model.specs.declared.reply.Told.{Told}
 use Rattle.cat_model.specs.Calls.{Called}
@@ -18,7 +18,6 @@ by_cause n called before after f f' place NoMemory other kept up p = absurd (oth
 by_cause n called before after f f' place Fault other kept up p = absurd (kept refl)
 by_cause n called before after f f' place (Down count) other kept up p = absurd (up count refl)
 by_cause n called before after f f' place (RetriesSpent pairs) other kept up p = absurd p
-by_cause n called before after f f' place (Expired keys opened) other kept up p = absurd p
 by_cause n called before after f f' place why other kept up p = p.0.book
 
 refused_book : (n : ℕ) (called : Called) (before after : Book) (f f' : Option FailedAppend) (refused : Refused) → (refused.why ≡ NoMemory → ⊥) → (refused.why ≡ Fault → ⊥) → ((count : ℕ) → refused.why ≡ Down count → ⊥)

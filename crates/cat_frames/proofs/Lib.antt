@@ -1,5 +1,6 @@
 pub mod Untold
 pub mod Logged
+pub mod Patterns
 pub mod Again
 pub mod Rows
 pub mod Walked

@@ -4,14 +4,19 @@ use lib.Utf8.{encode}
 use Rattle.std.specs.Str.{chars, is_utf8}
 use Rattle.cat_codes.specs.declared.fault.FieldFault.{FieldFault}
 use Rattle.cat_codes.specs.declared.fault.FieldFault.TheVariants.{Short, NotUtf8, Range}
-use Rattle.cat_codes.specs.Code.{u8_spelling, u8_at, u16_spelling, u16_at, u32_spelling, u32_at, u64_spelling, u64_at, flag_at, items_at, pairs_at, list, ascending, whole}
+use Rattle.cat_codes.specs.Code.{u8_spelling, u8_at, u16_spelling, u16_at, u32_spelling, u32_at, u64_spelling, u64_at, flag_at, items_at, pairs_at, keys_at, list, ascending, ascending_keys, whole}
 use Rattle.cat_codes.specs.Texts.{text_code, short_text_code}
 use Rattle.cat_names.specs.declared.hash.Hash.{Hash}
 use Rattle.cat_names.specs.Fields.{hash_code, element_code, key_code, is_element, is_count, is_path}
 use Rattle.cat_names.specs.RefNames.{ref_name_code, is_reference_name}
 use Rattle.cat_model.specs.declared.command.Command.{Command}
 use Rattle.cat_model.specs.declared.command.Command.TheVariants as commands
+use Rattle.cat_model.specs.declared.cutoff.Cutoff.TheVariants as cutoffs
+use Rattle.cat_model.specs.declared.cutoff.Pattern.TheVariants as patterns
+use Rattle.cat_model.specs.declared.log_entry.Action.TheVariants as actions
 use Rattle.cat_model.specs.declared.log_entry.LogEntry.{LogEntry}
+use Rattle.cat_model.specs.declared.sweep.Sweep.{Sweep}
+use Rattle.cat_model.specs.Cutoffs.{pattern_of}
 use Rattle.cat_model.specs.declared.commit.Meta.{Meta}
 use Rattle.cat_model.specs.declared.merging.Modes.{Modes}
 use Rattle.cat_model.specs.declared.merging.Behaviour.TheVariants.{Normal, Force, Drop}
@@ -19,6 +24,7 @@ use Rattle.cat_model.specs.declared.reference.Kind.TheVariants.{Branch, Tag}
 use Rattle.cat_model.specs.Formats.{moment_code, meta_code}
 use Rattle.cat_frames.specs.Sources.{pointer_code, reference_code, behaviour_code, modes_code}
 use Rattle.cat_frames.specs.Commands.{create_code, assign_code, delete_code, merge_code, transplant_code}
+use Rattle.cat_frames.specs.Sweeps.{cutoff_code, pattern_code, resolved_code, sweep_code}
 use Rattle.cat_frames.specs.Entries.{log_entry_code, is_logged}
 
 -- a digest that no case asks
@@ -38,7 +44,7 @@ abbrev hash : ℕ → Hash
 hash b = record { bytes = replicate 32 b }
 
 abbrev entry : ℕ → ℕ → Command → Option Hash → LogEntry
-entry place draft command head = record { place = place; caller = 0; draft = draft; moment = 1000000; command = command; head = head }
+entry place draft command head = record { place = place; caller = 0; draft = draft; moment = 1000000; action = actions.Call command; head = head }
 
 abbrev spelled : LogEntry → List ℕ
 spelled e = (log_entry_code none).spell e
@@ -128,17 +134,17 @@ transplants : (spelled transplant ≡ transplant_bytes)
 unfolding encode chars is_utf8 u8_spelling u8_at u16_spelling u16_at u32_spelling u32_at u64_spelling u64_at flag_at items_at pairs_at list ascending whole text_code short_text_code hash_code element_code key_code is_element is_count is_path ref_name_code is_reference_name moment_code meta_code pointer_code reference_code behaviour_code modes_code create_code assign_code delete_code merge_code transplant_code log_entry_code is_logged
 transplants = (refl, refl, refl)
 
--- a kind from 1 to 6, before all else
+-- a kind from 1 to 7, before all else
 kinds : (read [] ≡ Err Short)
     × (read (hexed (codes "00")) ≡ Err Range)
     × (read (hexed (codes "01")) ≡ Err Short)
-    × (read (hexed (codes "06")) ≡ Err Short)
-    × (read (hexed (codes "07")) ≡ Err Range)
+    × (read (hexed (codes "07")) ≡ Err Short)
+    × (read (hexed (codes "08")) ≡ Err Range)
     × (read (hexed (codes "ff00000001")) ≡ Err Range)
 unfolding encode chars is_utf8 u8_spelling u8_at u16_spelling u16_at u32_spelling u32_at u64_spelling u64_at flag_at items_at pairs_at list ascending whole text_code short_text_code hash_code element_code key_code is_element is_count is_path ref_name_code is_reference_name moment_code meta_code pointer_code reference_code behaviour_code modes_code create_code assign_code delete_code merge_code transplant_code log_entry_code is_logged
 kinds = (refl, refl, refl, refl, refl, refl)
 
--- no draft for creates, assigns and deletes, and one for all others
+-- no draft for creates, assigns, deletes and sweeps, and one for all others
 drafts : (read (hexed (codes "01000000010000000000000001")) ≡ Err Range)
     × (read (hexed (codes "02000000010000000000000001")) ≡ Err Range)
     × (read (hexed (codes "03000000010000000000000001")) ≡ Err Range)
@@ -147,8 +153,10 @@ drafts : (read (hexed (codes "01000000010000000000000001")) ≡ Err Range)
     × (read (hexed (codes "06000000010000000000000000")) ≡ Err Range)
     × (read (hexed (codes "05000000010000000000000001")) ≡ Err Short)
     × (read (hexed (codes "06000000010100000000000000")) ≡ Err Short)
+    × (read (hexed (codes "07000000010000000000000001")) ≡ Err Range)
+    × (read (hexed (codes "07000000010000000000000000")) ≡ Err Short)
 unfolding encode chars is_utf8 u8_spelling u8_at u16_spelling u16_at u32_spelling u32_at u64_spelling u64_at flag_at items_at pairs_at list ascending whole text_code short_text_code hash_code element_code key_code is_element is_count is_path ref_name_code is_reference_name moment_code meta_code pointer_code reference_code behaviour_code modes_code create_code assign_code delete_code merge_code transplant_code log_entry_code is_logged
-drafts = (refl, refl, refl, refl, refl, refl, refl, refl)
+drafts = (refl, refl, refl, refl, refl, refl, refl, refl, refl, refl)
 
 -- the last moment is that of the year 9999
 moments : (read (hexed (codes "01000000010000000000000000038443f70183fa3f")) ≡ Err Short)
@@ -193,3 +201,88 @@ not_logged : (is_logged none (record create { draft = 1 }) ≡ false)
     × (is_logged none (record merge { caller = 7 }) ≡ true)
 unfolding encode chars is_utf8 u8_spelling u8_at u16_spelling u16_at u32_spelling u32_at u64_spelling u64_at flag_at items_at pairs_at list ascending whole text_code short_text_code hash_code element_code key_code is_element is_count is_path ref_name_code is_reference_name moment_code meta_code pointer_code reference_code behaviour_code modes_code create_code assign_code delete_code merge_code transplant_code log_entry_code is_logged
 not_logged = (refl, refl, refl, refl, refl)
+
+-- ---- sweeps
+
+-- what the cases of sweeps compute
+unfoldable formats : Unit {0}
+unfolding encode chars is_utf8 u8_spelling u8_at u16_spelling u16_at u32_spelling u32_at u64_spelling u64_at items_at keys_at list ascending_keys whole text_code hash_code is_reference_name moment_code pattern_of cutoff_code pattern_code resolved_code sweep_code log_entry_code is_logged
+formats = tt
+
+-- a sweep that was opened at the place 3
+abbrev swept : Sweep → LogEntry
+swept sweep = record { place = 4; caller = 0; draft = 0; moment = 1000000; action = actions.Sweep sweep; head = None }
+
+abbrev sweep_front : List ℕ
+sweep_front = hexed (codes "0700000004000000000000000000000000000f424000000003")
+
+-- the head alone of each reference, while no draft named anything
+abbrev heads : Sweep
+heads = record { opened = 3; policy = record { default = cutoffs.Commits 1; cutoffs = [] }; commits = []; contents = [] }
+
+abbrev heads_bytes : List ℕ
+heads_bytes = sweep_front ++ hexed (codes "0100000001000000000000000000000000")
+
+-- two commits of main, those of what begins with dev/ since a moment, and all others
+abbrev chosen : Sweep
+chosen = record {
+  opened = 3;
+  policy = record { default = cutoffs.All; cutoffs = (patterns.Name (codes "main"), cutoffs.Commits 2) ∷ (patterns.Front (codes "dev/"), cutoffs.Since 1000000) ∷ [] };
+  commits = hash 1 ∷ hash 2 ∷ [];
+  contents = hash 3 ∷ [];
+}
+
+abbrev chosen_bytes : List ℕ
+chosen_bytes = sweep_front ++ hexed (codes "0000000002000000046d61696e0100000002") ++ hexed (codes "000000056465762f2a0200000000000f424000000002")
+    ++ replicate 32 1 ++ replicate 32 2 ++ hexed (codes "00000001") ++ replicate 32 3
+
+sweeps_heads : (spelled (swept heads) ≡ heads_bytes)
+    × (read heads_bytes ≡ Ok (swept heads))
+    × (is_logged none (swept heads) ≡ true)
+unfolding formats
+sweeps_heads = (refl, refl, refl)
+
+sweeps_chosen : (spelled (swept chosen) ≡ chosen_bytes)
+    × (read chosen_bytes ≡ Ok (swept chosen))
+    × (is_logged none (swept chosen) ≡ true)
+unfolding formats
+sweeps_chosen = (refl, refl, refl)
+
+-- a cutoff is one of three, and a count isn't 0
+cutoffs_are_few : (read (sweep_front ++ hexed (codes "0100000000")) ≡ Err Range)
+    × (read (sweep_front ++ hexed (codes "0100000001")) ≡ Err Short)
+    × (read (sweep_front ++ hexed (codes "03")) ≡ Err Range)
+    × (read (sweep_front ++ hexed (codes "02038443f70183fa3f")) ≡ Err Short)
+    × (read (sweep_front ++ hexed (codes "02038443f70183fa40")) ≡ Err Range)
+unfolding formats
+cutoffs_are_few = (refl, refl, refl, refl, refl)
+
+-- a pattern is a name, or a front and one star at its end: here a*b, **, * and a*
+patterns_are_texts : (read (sweep_front ++ hexed (codes "000000000100000003612a62")) ≡ Err Range)
+    × (read (sweep_front ++ hexed (codes "0000000001000000022a2a")) ≡ Err Range)
+    × (read (sweep_front ++ hexed (codes "0000000001000000012a")) ≡ Err Short)
+    × (read (sweep_front ++ hexed (codes "000000000100000002612a")) ≡ Err Short)
+    × (read (sweep_front ++ hexed (codes "000000000100000001ff")) ≡ Err NotUtf8)
+unfolding formats
+patterns_are_texts = (refl, refl, refl, refl, refl)
+
+-- hashes ascend and are distinct
+hashes_rise : (read (sweep_front ++ hexed (codes "000000000000000002") ++ replicate 32 2 ++ replicate 32 1) ≡ Err Range)
+    × (read (sweep_front ++ hexed (codes "000000000000000002") ++ replicate 32 2 ++ replicate 32 2) ≡ Err Range)
+    × (read (sweep_front ++ hexed (codes "00000000000000000000000002") ++ replicate 32 2 ++ replicate 32 2) ≡ Err Range)
+unfolding formats
+hashes_rise = (refl, refl, refl)
+
+-- a sweep leaves no head
+sweeps_end : read (heads_bytes ++ replicate 32 0) ≡ Err Range
+unfolding formats
+sweeps_end = refl
+
+-- what has no spelling
+not_swept : (is_logged none (record (swept heads) { draft = 1 }) ≡ false)
+    × (is_logged none (record (swept heads) { head = Some (hash 1) }) ≡ false)
+    × (is_logged none (swept (record heads { policy = record { default = cutoffs.Commits 0; cutoffs = [] } })) ≡ false)
+    × (is_logged none (swept (record heads { commits = hash 2 ∷ hash 1 ∷ [] })) ≡ false)
+    × (is_logged none (swept (record heads { contents = hash 2 ∷ hash 2 ∷ [] })) ≡ false)
+unfolding formats
+not_swept = (refl, refl, refl, refl, refl)

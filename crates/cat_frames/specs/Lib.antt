@@ -6,6 +6,8 @@ pub mod RequestLaws
 pub mod Walks
 pub mod Commands
 pub mod CommandLaws
+pub mod Sweeps
+pub mod SweepLaws
 pub mod Entries
 pub mod EntryLaws
 pub mod Payload

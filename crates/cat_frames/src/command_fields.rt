@@ -216,8 +216,11 @@ pub(crate) fn write_command(
     command: &Command,
 ) -> Result<(), NoMemory>
     requires { IsTrue (command_is_logged sha256 draft command.now) }
-    ensures spelled { OnOk result (out.new ≡ out.old ++ (command_code sha256 draft (command_number command.now)).spell command.now) }
-    ensures fits { OnOk result ((command_code sha256 draft (command_number command.now)).Fits command.now) }
+    ensures spelled { OnOk result
+        (out.new
+        ≡ out.old ++ (command_code sha256 draft (command_number command.now)).spell command.now) }
+    ensures fits { OnOk result
+        ((command_code sha256 draft (command_number command.now)).Fits command.now) }
 {
     match command {
         Command::Create(create) => write_create(out, create),

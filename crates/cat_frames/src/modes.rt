@@ -90,8 +90,11 @@ fn read_keys(
 }
 
 fn write_keys(out: &mut Writer, keys: &[(ContentKey, Behaviour)]) -> Result<(), NoMemory>
-    ensures spelled { OnOk result (out.new ≡ out.old ++ flat_map (λ x. (key_code).spell x.0 ++ (behaviour_code).spell x.1) keys.now) }
-    ensures fits { OnOk result (AllByRecursion (λ x. (key_code).Fits x.0 × (behaviour_code).Fits x.1) keys.now) }
+    ensures spelled { OnOk result
+        (out.new
+        ≡ out.old ++ flat_map (λ x. (key_code).spell x.0 ++ (behaviour_code).spell x.1) keys.now) }
+    ensures fits { OnOk result
+        (AllByRecursion (λ x. (key_code).Fits x.0 × (behaviour_code).Fits x.1) keys.now) }
 {
     for (key, behaviour) in keys {
         key.write(out)?;

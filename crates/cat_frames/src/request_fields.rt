@@ -130,8 +130,11 @@ fn write_put(
     fresh: bool,
     content: &Content,
 ) -> Result<(), NoMemory>
-    ensures spelled { OnOk result ((id : ContentId) → out.new ≡ out.old ++ (change_code id).spell (put fresh content.now)) }
-    ensures fits { OnOk result ((id : ContentId) → IsTrue (has_its_id id (fresh, content.now)) → (change_code id).Fits (put fresh content.now)) }
+    ensures spelled { OnOk result
+        ((id : ContentId) → out.new ≡ out.old ++ (change_code id).spell (put fresh content.now)) }
+    ensures fits { OnOk result
+        ((id : ContentId) → IsTrue (has_its_id id (fresh, content.now))
+        → (change_code id).Fits (put fresh content.now)) }
 {
     out.u8(1)?;
     out.flag(fresh)?;
@@ -142,8 +145,12 @@ fn write_put(
 #[tactic(auto, unfolding(crate::specs::Requests::op_code, crate::specs::Requests::change_code))]
 fn write_op(alloc: Global, out: &mut Writer, op: &Op, left: &[Content]) -> Result<(), NoMemory>
     requires { IsTrue (is_whole (op.now, content_for op.now left.now)) }
-    ensures spelled { OnOk result ((id : ContentId) → out.new ≡ out.old ++ (op_code sha256 id).spell (op.now, content_for op.now left.now)) }
-    ensures fits { OnOk result ((id : ContentId) → IsTrue (is_logged sha256 id (op.now, content_for op.now left.now)) → (op_code sha256 id).Fits (op.now, content_for op.now left.now)) }
+    ensures spelled { OnOk result
+        ((id : ContentId)
+        → out.new ≡ out.old ++ (op_code sha256 id).spell (op.now, content_for op.now left.now)) }
+    ensures fits { OnOk result
+        ((id : ContentId) → IsTrue (is_logged sha256 id (op.now, content_for op.now left.now))
+        → (op_code sha256 id).Fits (op.now, content_for op.now left.now)) }
 {
     match op {
         Op::Put { key, fresh, .. } => {
@@ -170,8 +177,17 @@ fn write_ops(
     contents: &[Content],
 ) -> Result<(), NoMemory>
     requires { IsTrue (list_all is_whole (with_their_contents ops.now contents.now)) }
-    ensures spelled { OnOk result ((draft : ℕ) → out.new ≡ out.old ++ placed_spelling (λ index. op_code sha256 (fresh_id draft index)) 0 (with_their_contents ops.now contents.now)) }
-    ensures fits { OnOk result ((draft : ℕ) → IsTrue (are_logged sha256 draft 0 (with_their_contents ops.now contents.now)) → PlacedFit (λ index. op_code sha256 (fresh_id draft index)) 0 (with_their_contents ops.now contents.now)) }
+    ensures spelled { OnOk result
+        ((draft : ℕ)
+        → out.new
+        ≡ out.old
+        ++ placed_spelling (λ index. op_code sha256 (fresh_id draft index)) 0
+        (with_their_contents ops.now contents.now)) }
+    ensures fits { OnOk result
+        ((draft : ℕ)
+        → IsTrue (are_logged sha256 draft 0 (with_their_contents ops.now contents.now))
+        → PlacedFit (λ index. op_code sha256 (fresh_id draft index)) 0
+        (with_their_contents ops.now contents.now)) }
 {
     let mut left = contents;
     for op in ops {
@@ -189,8 +205,14 @@ fn write_asked(
     contents: &Seq<Content>,
 ) -> Result<(), NoMemory>
     requires { IsTrue (list_all is_whole (with_their_contents ops.now contents.now)) }
-    ensures spelled { OnOk result ((draft : ℕ) → out.new ≡ out.old ++ (ops_code sha256 draft).spell (with_their_contents ops.now contents.now)) }
-    ensures fits { OnOk result ((draft : ℕ) → IsTrue (are_logged sha256 draft 0 (with_their_contents ops.now contents.now)) → (ops_code sha256 draft).Fits (with_their_contents ops.now contents.now)) }
+    ensures spelled { OnOk result
+        ((draft : ℕ)
+        → out.new
+        ≡ out.old ++ (ops_code sha256 draft).spell (with_their_contents ops.now contents.now)) }
+    ensures fits { OnOk result
+        ((draft : ℕ)
+        → IsTrue (are_logged sha256 draft 0 (with_their_contents ops.now contents.now))
+        → (ops_code sha256 draft).Fits (with_their_contents ops.now contents.now)) }
 {
     ops.known();
     out.u32(ops.len() as u32)?;
@@ -206,7 +228,8 @@ pub(crate) fn write_request(
     request: &CommitRequest,
 ) -> Result<(), NoMemory>
     requires { IsTrue (request_is_logged sha256 draft request.now) }
-    ensures spelled { OnOk result (out.new ≡ out.old ++ (request_code sha256 draft).spell request.now) }
+    ensures spelled { OnOk result
+        (out.new ≡ out.old ++ (request_code sha256 draft).spell request.now) }
     ensures fits { OnOk result ((request_code sha256 draft).Fits request.now) }
 {
     request.branch.write(out)?;
@@ -217,5 +240,7 @@ pub(crate) fn write_request(
 
 /// A request that is well made is logged as one that has a spelling.
 pub fn given_requests_are_logged()
-    ensures { (draft : ℕ) (request : CommitRequest) → IsTrue (have_contents sha256 request.ops request.contents) → IsTrue (request_is_logged sha256 draft (given_request sha256 draft request)) }
+    ensures { (draft : ℕ) (request : CommitRequest)
+        → IsTrue (have_contents sha256 request.ops request.contents)
+        → IsTrue (request_is_logged sha256 draft (given_request sha256 draft request)) }
 {}

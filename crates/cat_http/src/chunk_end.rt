@@ -34,8 +34,10 @@ pub fn read_chunk_end<S: Source>(
     ensures later { S.faults source.old ≤ S.faults source.new }
     ensures stays { result ≢ EndRead.Fault → S.faults source.new ≡ S.faults source.old }
     ensures front { take end.old bytes.new ≡ take end.old bytes.old }
-    ensures waits { at + 2 ≤ end.old → (source.new ≡ source.old) × (end.new ≡ end.old) × (bytes.new ≡ bytes.old) }
-    ensures stream { KeepsStream (S.left source.old) (S.left source.new) (take end.old bytes.old) (take end.new bytes.new) }
+    ensures waits { at + 2 ≤ end.old
+        → (source.new ≡ source.old) × (end.new ≡ end.old) × (bytes.new ≡ bytes.old) }
+    ensures stream { KeepsStream (S.left source.old) (S.left source.new) (take end.old bytes.old)
+        (take end.new bytes.new) }
 {
     match read_until(source, bytes, end, (at + 2).min(limit + 1)) {
         Filled::More => end_in(&bytes[..*end], at, limit),

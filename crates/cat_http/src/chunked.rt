@@ -34,7 +34,8 @@ pub fn read_chunks<S: Source>(
     ensures ends { IfWhole result (λ kept at. (start + kept ≤ at) × (at ≤ end.new)) }
     ensures front { take start bytes.new ≡ take start bytes.old }
     ensures waits { HoldsChunks (slice_range bytes.old start end.old) → source.new ≡ source.old }
-    ensures answer { AnswerOf result (S.left source.old) (S.left source.new) (slice_range bytes.old start end.old) bytes.new start end.new }
+    ensures answer { AnswerOf result (S.left source.old) (S.left source.new)
+        (slice_range bytes.old start end.old) bytes.new start end.new }
     ensures fault { result ≡ ChunkedRead.Fault → Rose (S.faults source.old) (S.faults source.new) }
     ensures later { S.faults source.old ≤ S.faults source.new }
     ensures stays { result ≢ ChunkedRead.Fault → S.faults source.new ≡ S.faults source.old }

@@ -43,7 +43,8 @@ pub fn has_field(bytes: &[u8], headers: &[HeaderSpan], name: &[u8]) -> bool
 /// The value of the first field with the name, in any case.
 pub fn first_value<'b>(bytes: &'b [u8], headers: &[HeaderSpan], name: &[u8]) -> Option<&'b [u8]>
     requires { All (IsHeaderWithin (length bytes.now)) headers.now }
-    ensures { option_copied result ≡ first_value name.now (map (header_bytes bytes.now) headers.now) }
+    ensures { option_copied result
+        ≡ first_value name.now (map (header_bytes bytes.now) headers.now) }
 {
     for header in headers {
         if is_named(bytes, header, name) {

@@ -26,7 +26,8 @@ pub fn fill<S: Source>(source: &mut S, bytes: &mut [u8], end: &mut usize) -> Fil
     ensures stays { result ≢ Filled.Fault → S.faults source.new ≡ S.faults source.old }
     ensures cut { result ≡ Filled.Fault → end.new ≡ end.old }
     ensures front { take end.old bytes.new ≡ take end.old bytes.old }
-    ensures stream { KeepsStream (S.left source.old) (S.left source.new) (take end.old bytes.old) (take end.new bytes.new) }
+    ensures stream { KeepsStream (S.left source.old) (S.left source.new) (take end.old bytes.old)
+        (take end.new bytes.new) }
 {
     match source.read(&mut bytes[*end..]) {
         Ok(0) => Filled::End,
@@ -56,8 +57,10 @@ pub fn read_until<S: Source>(
     ensures stays { result ≢ Filled.Fault → S.faults source.new ≡ S.faults source.old }
     ensures cut { result ≡ Filled.Fault → end.new < need }
     ensures front { take end.old bytes.new ≡ take end.old bytes.old }
-    ensures waits { need ≤ end.old → (source.new ≡ source.old) × (end.new ≡ end.old) × (bytes.new ≡ bytes.old) }
-    ensures stream { KeepsStream (S.left source.old) (S.left source.new) (take end.old bytes.old) (take end.new bytes.new) }
+    ensures waits { need ≤ end.old
+        → (source.new ≡ source.old) × (end.new ≡ end.old) × (bytes.new ≡ bytes.old) }
+    ensures stream { KeepsStream (S.left source.old) (S.left source.new) (take end.old bytes.old)
+        (take end.new bytes.new) }
 {
     'reads: while *end < need {
         match fill(source, bytes, end) {
@@ -85,9 +88,11 @@ pub fn fill_line<S: Source>(
     ensures fault { result ≡ Filled.Fault → Rose (S.faults source.old) (S.faults source.new) }
     ensures later { S.faults source.old ≤ S.faults source.new }
     ensures stays { result ≢ Filled.Fault → S.faults source.new ≡ S.faults source.old }
-    ensures cut { result ≡ Filled.Fault → (end.new ≤ limit) × (has_line_feed (slice_range bytes.new end.old end.new) ≡ false) }
+    ensures cut { result ≡ Filled.Fault
+        → (end.new ≤ limit) × (has_line_feed (slice_range bytes.new end.old end.new) ≡ false) }
     ensures front { take end.old bytes.new ≡ take end.old bytes.old }
-    ensures stream { KeepsStream (S.left source.old) (S.left source.new) (take end.old bytes.old) (take end.new bytes.new) }
+    ensures stream { KeepsStream (S.left source.old) (S.left source.new) (take end.old bytes.old)
+        (take end.new bytes.new) }
 {
     let first = *end;
     'reads: loop {

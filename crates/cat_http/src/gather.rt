@@ -66,7 +66,8 @@ impl Gathered {
     pub(crate) fn put_text_line<K: Sink>(&mut self, sink: &mut K, name: &[u8], text: Option<&str>)
         ensures { (start : Option (List ℕ)) (from : ℕ) (all : List ℕ)
             → Gathers start (K.held sink.old) from (K.faults sink.old) self.old all
-            → Gathers start (K.held sink.new) from (K.faults sink.new) self.new (all ++ text_line name.now (option_map (λ t. t.now) text.entry)) }
+            → Gathers start (K.held sink.new) from (K.faults sink.new) self.new
+            (all ++ text_line name.now (option_map (λ t. t.now) text.entry)) }
     {
         if let Some(text) = text {
             self.put(sink, name);
@@ -84,7 +85,8 @@ impl Gathered {
     )
         ensures { (start : Option (List ℕ)) (from : ℕ) (all : List ℕ)
             → Gathers start (K.held sink.old) from (K.faults sink.old) self.old all
-            → Gathers start (K.held sink.new) from (K.faults sink.new) self.new (all ++ number_line name.now number) }
+            → Gathers start (K.held sink.new) from (K.faults sink.new) self.new
+            (all ++ number_line name.now number) }
     {
         if let Some(number) = number {
             let mut digits = itoa::Buffer::new();

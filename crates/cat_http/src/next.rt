@@ -39,7 +39,8 @@ pub fn read_next<S: Source>(
     requires slots { length headers.old ≡ 64 }
     ensures within { end.new ≤ length bytes.new }
     ensures fits { OutcomeFits result bytes.new headers.new end.new }
-    ensures is { OutcomeOf result (S.left source.old) (S.left source.new) (take end.old bytes.old) bytes.new headers.new end.new }
+    ensures is { OutcomeOf result (S.left source.old) (S.left source.new) (take end.old bytes.old)
+        bytes.new headers.new end.new }
     ensures ends { result ≡ Outcome.End → IsAtEnd (S.left source.new) }
     ensures fault { result ≡ Outcome.Fault → Rose (S.faults source.old) (S.faults source.new) }
     ensures later { S.faults source.old ≤ S.faults source.new }
@@ -70,7 +71,8 @@ fn read_body<S: Source>(
     requires found { FoundHead (take end.old bytes.old) headers.now head }
     ensures within { end.new ≤ length bytes.new }
     ensures fits { OutcomeFits result bytes.new headers.now end.new }
-    ensures is { OutcomeOf result (S.left source.old) (S.left source.new) (take end.old bytes.old) bytes.new headers.now end.new }
+    ensures is { OutcomeOf result (S.left source.old) (S.left source.new) (take end.old bytes.old)
+        bytes.new headers.now end.new }
     ensures goes_on { result ≢ Outcome.End }
     ensures fault { result ≡ Outcome.Fault → Rose (S.faults source.old) (S.faults source.new) }
     ensures later { S.faults source.old ≤ S.faults source.new }

@@ -58,7 +58,15 @@ fn phrase(status: StatusCode) -> &'static [u8]
 impl Response {
     /// The reply that tells of want of memory, which takes none.
     pub fn no_memory(close: bool, head_only: bool) -> Response
-        ensures { result ≡ record { status = 507; allow = None; place = None; close = close; head_only = head_only; body = Body.NoMemory } }
+        ensures { result
+            ≡ record {
+              status = 507;
+              allow = None;
+              place = None;
+              close = close;
+              head_only = head_only;
+              body = Body.NoMemory;
+            } }
     {
         Response {
             status: StatusCode::INSUFFICIENT_STORAGE,
@@ -114,7 +122,8 @@ impl Response {
 /// Writes the reply, or a front of it where the sink fails. It takes no memory. A small reply is one
 /// write and a large one two, where the sink takes all that it is handed.
 pub fn write_reply<K: Sink>(sink: &mut K, reply: &Response) -> Result<(), WriteFault>
-    ensures { Wrote (K.held sink.old) (K.held sink.new) (K.faults sink.old) (K.faults sink.new) result (render reply.now) }
+    ensures { Wrote (K.held sink.old) (K.held sink.new) (K.faults sink.old) (K.faults sink.new)
+        result (render reply.now) }
 {
     let mut digits = itoa::Buffer::new();
     let mut gathered = Gathered::new();

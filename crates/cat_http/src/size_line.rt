@@ -37,8 +37,10 @@ pub fn read_size_line<S: Source>(
     ensures later { S.faults source.old ≤ S.faults source.new }
     ensures stays { result ≢ SizeRead.Fault → S.faults source.new ≡ S.faults source.old }
     ensures front { take end.old bytes.new ≡ take end.old bytes.old }
-    ensures waits { HoldsLine (slice_range bytes.old at end.old) → (source.new ≡ source.old) × (end.new ≡ end.old) × (bytes.new ≡ bytes.old) }
-    ensures stream { KeepsStream (S.left source.old) (S.left source.new) (take end.old bytes.old) (take end.new bytes.new) }
+    ensures waits { HoldsLine (slice_range bytes.old at end.old)
+        → (source.new ≡ source.old) × (end.new ≡ end.old) × (bytes.new ≡ bytes.old) }
+    ensures stream { KeepsStream (S.left source.old) (S.left source.new) (take end.old bytes.old)
+        (take end.new bytes.new) }
 {
     'reads: loop {
         let seen = (*end).min(limit);

@@ -220,7 +220,8 @@ impl Listener for MemoryListener {
         ensures faults { faults_in self.new ≡ faults_in self.old }
         ensures stands { Stands (λ _. true) heard_by self.old self.new }
         ensures waiting { waiting_in self.new ≡ waiting_in self.old }
-        ensures returned { TakesBack true (out_of self.old) (returned_to self.old) (returned_to self.new) (input, output) }
+        ensures returned { TakesBack true (out_of self.old) (returned_to self.old)
+            (returned_to self.new) (input, output) }
         ensures out { out_of self.new ≡ out_of self.old - 1 }
         ensures others { TwinsStay rejoined_to twins_of self.old self.new }
         ensures plan { plan_of self.new ≡ plan_of self.old }
@@ -238,7 +239,8 @@ impl Listener for MemoryListener {
         ensures faults { faults_in self.new ≡ raised_by (faults_in twin) (faults_in self.old) }
         ensures stands { Stands (λ _. true) heard_by self.old self.new }
         ensures own { OwnStay waiting_in returned_to out_of self.old self.new }
-        ensures rejoined { TakesBack true (twins_of self.old) (rejoined_to self.old) (rejoined_to self.new) (returned_to twin) }
+        ensures rejoined { TakesBack true (twins_of self.old) (rejoined_to self.old)
+            (rejoined_to self.new) (returned_to twin) }
         ensures twins { twins_of self.new ≡ twins_of self.old - 1 }
         ensures plan { plan_of self.new ≡ plan_of self.old }
         ensures lists { lists_in self.new ≡ lists_in self.old }

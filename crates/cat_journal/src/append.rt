@@ -13,9 +13,11 @@ use cat_io::{Disk, Failed};
 pub(crate) fn persist<D: Disk>(disk: &mut D, at: u64, bytes: &[u8]) -> Result<(), Failed>
     ensures past { 2 ^ 64 ≤ at + length bytes.now → IsErr result }
     ensures part { Told (D.told disk.old) (D.told disk.new) (Torn at (length bytes.now)) }
-    ensures written { OnOk result (Told (D.told disk.old) (D.told disk.new) (λ old new. new ≡ put at bytes.now old)) }
+    ensures written { OnOk result
+        (Told (D.told disk.old) (D.told disk.new) (λ old new. new ≡ put at bytes.now old)) }
     ensures durable { OnOk result (Only (D.told disk.new) (D.may_leave disk.new)) }
-    ensures any_moment { LeavesOnly D.moment D.left_since disk.old disk.new (λ c. (d : List ℕ) × D.may_leave disk.old d × Torn at (length bytes.now) d c) }
+    ensures any_moment { LeavesOnly D.moment D.left_since disk.old disk.new
+        (λ c. (d : List ℕ) × D.may_leave disk.old d × Torn at (length bytes.now) d c) }
     ensures cause { HasCause (D.faults disk.old) (D.faults disk.new) result }
 {
     disk.write_at(at, bytes)?;
@@ -37,8 +39,10 @@ pub(crate) fn append_frame<D: Disk>(
     requires short { length payload.now < 2 ^ 32 }
     requires spelled { bytes.now ≡ frame payload.now ++ 0 ∷ [] }
     ensures stays { Told (D.told disk.old) (D.told disk.new) (λ old new. ⊤) }
-    ensures added { OnOk result (Told (D.told disk.old) (D.told disk.new)
-        (λ old new. (payloads new ≡ payloads old ++ payload.now ∷ []) × IsAtRest (payloads new) (gate + 5 + length payload.now) new)) }
+    ensures added { OnOk result
+        (Told (D.told disk.old) (D.told disk.new)
+        (λ old new. (payloads new ≡ payloads old ++ payload.now ∷ [])
+        × IsAtRest (payloads new) (gate + 5 + length payload.now) new)) }
     ensures durable { OnOk result (Only (D.told disk.new) (D.may_leave disk.new)) }
     ensures fits { OnOk result (gate + 6 + length payload.now < 2 ^ 64) }
     ensures any_moment { LeavesOnly D.moment D.left_since disk.old disk.new

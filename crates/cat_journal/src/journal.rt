@@ -57,22 +57,33 @@ impl<D: Disk + Send> Journal<D> {
     /// an empty disk may have any bytes, up to the 17 of a new journal. Nothing is written to a disk
     /// that has bytes. Once the journal is open, a crash leaves just what its disk reads.
     pub fn open(alloc: Global, mut disk: D) -> Result<Journal<D>, (D, OpenFault)>
-        ensures payloads { IfOk result (λ j. Told (D.told disk) (⟦<Journal<D> as Keeper>⟧.told j) (λ bytes ps. recovered bytes ≡ Ok ps)) }
-        ensures holds { IfOk result (λ j. Told (D.told (journal_disk j)) (⟦<Journal<D> as Keeper>⟧.told j) (λ bytes ps. recovered bytes ≡ Ok ps)) }
-        ensures fault { IfErr result (λ e. Told (D.told disk) (D.told e.0) (λ before after. IsFaultOf before e.1)) }
+        ensures payloads { IfOk result
+            (λ j. Told (D.told disk) (⟦<Journal<D> as Keeper>⟧.told j)
+            (λ bytes ps. recovered bytes ≡ Ok ps)) }
+        ensures holds { IfOk result
+            (λ j. Told (D.told (journal_disk j)) (⟦<Journal<D> as Keeper>⟧.told j)
+            (λ bytes ps. recovered bytes ≡ Ok ps)) }
+        ensures fault { IfErr result
+            (λ e. Told (D.told disk) (D.told e.0) (λ before after. IsFaultOf before e.1)) }
         ensures up { IfOk result (λ j. ⟦<Journal<D> as Keeper>⟧.down j ≡ None) }
-        ensures new { IfOk result (λ j. Told (D.told disk) (D.told (journal_disk j)) (λ before after. before ≡ [] → after ≡ new_journal)) }
-        ensures empty { IfErr result (λ e. Told (D.told disk) (D.told e.0) (λ before after. before ≡ [] → length after ≤ 17)) }
+        ensures new { IfOk result
+            (λ j. Told (D.told disk) (D.told (journal_disk j))
+            (λ before after. before ≡ [] → after ≡ new_journal)) }
+        ensures empty { IfErr result
+            (λ e. Told (D.told disk) (D.told e.0)
+            (λ before after. before ≡ [] → length after ≤ 17)) }
         ensures unwritten { IfSome (D.told disk) (λ bytes. 0 < length bytes → MatchResult result
             (λ j. OnlyReads D.told D.may_leave D.moment D.left_since disk (journal_disk j))
             (λ e. OnlyReads D.told D.may_leave D.moment D.left_since disk e.0)) }
         ensures images { IfSome (D.told disk) (λ bytes. MatchResult result
             (λ j. OpensOnly D.may_leave D.moment D.left_since disk (journal_disk j) bytes)
             (λ e. OpensOnly D.may_leave D.moment D.left_since disk e.0 bytes)) }
-        ensures durable { IfOk result (λ j. Only (D.told (journal_disk j)) (D.may_leave (journal_disk j))) }
+        ensures durable { IfOk result
+            (λ j. Only (D.told (journal_disk j)) (D.may_leave (journal_disk j))) }
         ensures cause { MatchResult result
             (λ j. D.faults disk ≤ ⟦<Journal<D> as Keeper>⟧.faults j)
-            (λ e. (D.faults disk ≤ D.faults e.0) × (e.1 ≡ OpenFault.Fault → Rose (D.faults disk) (D.faults e.0))) }
+            (λ e. (D.faults disk ≤ D.faults e.0)
+            × (e.1 ≡ OpenFault.Fault → Rose (D.faults disk) (D.faults e.0))) }
         ensures stays { MatchResult result
             (λ j. ⟦<Journal<D> as Keeper>⟧.faults j ≡ D.faults disk)
             (λ e. e.1 ≢ OpenFault.Fault → D.faults e.0 ≡ D.faults disk) }
@@ -96,10 +107,17 @@ impl<D: Disk + Send> Journal<D> {
         ensures disk { result ≡ journal_disk self }
         ensures faults { D.faults result ≡ ⟦<Journal<D> as Keeper>⟧.faults self }
         ensures headed { IfSome (D.told result) (λ bytes. 16 < length bytes) }
-        ensures payloads { ⟦<Journal<D> as Keeper>⟧.down self ≡ None → Told (⟦<Journal<D> as Keeper>⟧.told self) (D.told result) (λ ps bytes. recovered bytes ≡ Ok ps) }
-        ensures durable { ⟦<Journal<D> as Keeper>⟧.down self ≡ None → Only (D.told result) (D.may_leave result) }
-        ensures in_flight { (p : List ℕ) → ⟦<Journal<D> as Keeper>⟧.in_flight self ≡ Some p → Told (⟦<Journal<D> as Keeper>⟧.told self) (D.told result) (λ ps bytes. WithOrWithout ps p (outcome bytes)) }
-        ensures torn { (p : List ℕ) → ⟦<Journal<D> as Keeper>⟧.in_flight self ≡ Some p → IfSome (⟦<Journal<D> as Keeper>⟧.told self) (λ ps. (c : List ℕ) → D.may_leave result c → WithOrWithout ps p (outcome c)) }
+        ensures payloads { ⟦<Journal<D> as Keeper>⟧.down self ≡ None
+            → Told (⟦<Journal<D> as Keeper>⟧.told self) (D.told result)
+            (λ ps bytes. recovered bytes ≡ Ok ps) }
+        ensures durable { ⟦<Journal<D> as Keeper>⟧.down self ≡ None
+            → Only (D.told result) (D.may_leave result) }
+        ensures in_flight { (p : List ℕ) → ⟦<Journal<D> as Keeper>⟧.in_flight self ≡ Some p
+            → Told (⟦<Journal<D> as Keeper>⟧.told self) (D.told result)
+            (λ ps bytes. WithOrWithout ps p (outcome bytes)) }
+        ensures torn { (p : List ℕ) → ⟦<Journal<D> as Keeper>⟧.in_flight self ≡ Some p
+            → IfSome (⟦<Journal<D> as Keeper>⟧.told self)
+            (λ ps. (c : List ℕ) → D.may_leave result c → WithOrWithout ps p (outcome c)) }
     {
         let Journal {
             disk,
@@ -124,7 +142,9 @@ impl<D: Disk + Send> Keeper for Journal<D> {
 
     ghost kept = { λ j. length j.gates.items };
 
-    ghost spare = { λ j. if nat_lt (vec_len j.gates) (vec_capacity j.gates) then vec_capacity j.frame - 5 else 0 };
+    ghost spare = { λ j. if nat_lt (vec_len j.gates) (vec_capacity j.gates)
+        then vec_capacity j.frame - 5
+        else 0 };
 
     ghost down = { λ j. j.down };
 
@@ -150,17 +170,22 @@ impl<D: Disk + Send> Keeper for Journal<D> {
 
     ghost bytes_count_now = { λ j t b le now. D.counts_now j.disk t b le now };
 
-    ghost safe = { λ j ps r up told now. safe_images (D.told j.disk) (length j.gates.items) j.end (D.may_leave j.disk) (j.safe up) ps told r now };
+    ghost safe = { λ j ps r up told now. safe_images (D.told j.disk) (length j.gates.items) j.end
+        (D.may_leave j.disk) (j.safe up) ps told r now };
 
-    ghost kept_as_image = { λ j ps up told. kept_image (D.told j.disk) (length j.gates.items) j.end (D.may_leave j.disk) (λ c is. D.reads_as_image j.disk c is) (j.safe up) ps told };
+    ghost kept_as_image = { λ j ps up told. kept_image (D.told j.disk) (length j.gates.items)
+        j.end (D.may_leave j.disk) (λ c is. D.reads_as_image j.disk c is) (j.safe up) ps told };
 
-    ghost unsafe_leaves = { λ j ps p r told flies now. torn_images (D.told j.disk) j.gates.items j.end (payload_of j.frame.items) (D.may_leave j.disk) j.down j.held j.torn ps p told flies r now };
+    ghost unsafe_leaves = { λ j ps p r told flies now. torn_images (D.told j.disk) j.gates.items
+        j.end (payload_of j.frame.items) (D.may_leave j.disk) j.down j.held j.torn ps p told flies
+        r now };
 
     ghost waits = { λ j up. none_flies (payload_of j.frame.items) j.down up };
 
     ghost flies = { λ j c down. one_flies (payload_of j.frame.items) j.down c down };
 
-    ghost counted = { λ j ps told. counted_payloads (D.told j.disk) j.gates.items j.end j.held ps told };
+    ghost counted = { λ j ps told. counted_payloads (D.told j.disk) j.gates.items j.end j.held ps
+        told };
 
     fn count(&self) -> u32 {
         self.gates.len() as u32

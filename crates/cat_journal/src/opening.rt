@@ -18,7 +18,9 @@ const NEW: [u8; 17] = *b"NESSIECJ\0\0\0\x01\0\0\0\0\0";
 /// What the first 16 bytes say, whatever stands behind them.
 fn check_head(head: &[u8]) -> Result<(), OpenFault>
     ensures cause { (count : ℕ) → HasOpenCause count count result }
-    ensures found { length head.now ≡ 16 → (rest : List ℕ) → 0 < length rest → MatchResult result (λ _. head.now ≡ header) (IsFaultOf (head.now ++ rest)) }
+    ensures found { length head.now ≡ 16
+        → (rest : List ℕ) → 0 < length rest
+        → MatchResult result (λ _. head.now ≡ header) (IsFaultOf (head.now ++ rest)) }
 {
     if head.len() < 16 {
         return Err(OpenFault::Damaged(0));
@@ -39,7 +41,8 @@ fn check_head(head: &[u8]) -> Result<(), OpenFault>
 fn check_header<D: Disk>(disk: &mut D, len: u64) -> Result<(), OpenFault>
     requires some { 0 < len }
     requires len { IfSome (D.told disk.old) (λ bytes. len ≡ length bytes) }
-    ensures found { IfSome (D.told disk.old) (λ bytes. MatchResult result (λ _. take 16 bytes ≡ header) (IsFaultOf bytes)) }
+    ensures found { IfSome (D.told disk.old)
+        (λ bytes. MatchResult result (λ _. take 16 bytes ≡ header) (IsFaultOf bytes)) }
     ensures more { OnOk result (16 < len) }
     ensures reads { OnlyReads D.told D.may_leave D.moment D.left_since disk.old disk.new }
     ensures cause { HasOpenCause (D.faults disk.old) (D.faults disk.new) result }
@@ -58,10 +61,17 @@ fn check_header<D: Disk>(disk: &mut D, len: u64) -> Result<(), OpenFault>
 fn create<D: Disk>(alloc: Global, disk: &mut D) -> Result<(Vec<u64>, u64), OpenFault>
     requires empty { IfSome (D.told disk.old) (λ bytes. bytes ≡ []) }
     requires durable { Only (D.told disk.old) (D.may_leave disk.old) }
-    ensures found { Told (D.told disk.old) (D.told disk.new) (λ before after. MatchResult result (λ x. IsOpened before after x.0.items x.1) (IsFaultOf before)) }
-    ensures new { OnOk result (Told (D.told disk.old) (D.told disk.new) (λ before after. before ≡ [] → after ≡ new_journal)) }
-    ensures empty { IsErr result → Told (D.told disk.old) (D.told disk.new) (λ before after. before ≡ [] → length after ≤ 17) }
-    ensures images { IfSome (D.told disk.old) (λ _. LeavesOnly D.moment D.left_since disk.old disk.new (λ c. length c ≤ 17)) }
+    ensures found { Told (D.told disk.old) (D.told disk.new)
+        (λ before after. MatchResult result (λ x. IsOpened before after x.0.items x.1)
+        (IsFaultOf before)) }
+    ensures new { OnOk result
+        (Told (D.told disk.old) (D.told disk.new)
+        (λ before after. before ≡ [] → after ≡ new_journal)) }
+    ensures empty { IsErr result
+        → Told (D.told disk.old) (D.told disk.new)
+        (λ before after. before ≡ [] → length after ≤ 17) }
+    ensures images { IfSome (D.told disk.old)
+        (λ _. LeavesOnly D.moment D.left_since disk.old disk.new (λ c. length c ≤ 17)) }
     ensures durable { OnOk result (Only (D.told disk.new) (D.may_leave disk.new)) }
     ensures fits { IfOk result (λ x. (x.1 + 1 < 2 ^ 64) × (length x.0.items ≤ max_entries)) }
     ensures cause { HasOpenCause (D.faults disk.old) (D.faults disk.new) result }
@@ -74,12 +84,21 @@ fn create<D: Disk>(alloc: Global, disk: &mut D) -> Result<(Vec<u64>, u64), OpenF
 
 /// The gates of the file's payloads, and the closed gate behind them.
 pub(crate) fn load<D: Disk>(alloc: Global, disk: &mut D) -> Result<(Vec<u64>, u64), OpenFault>
-    ensures found { Told (D.told disk.old) (D.told disk.new) (λ before after. MatchResult result (λ x. IsOpened before after x.0.items x.1) (IsFaultOf before)) }
-    ensures new { OnOk result (Told (D.told disk.old) (D.told disk.new) (λ before after. before ≡ [] → after ≡ new_journal)) }
-    ensures empty { IsErr result → Told (D.told disk.old) (D.told disk.new) (λ before after. before ≡ [] → length after ≤ 17) }
+    ensures found { Told (D.told disk.old) (D.told disk.new)
+        (λ before after. MatchResult result (λ x. IsOpened before after x.0.items x.1)
+        (IsFaultOf before)) }
+    ensures new { OnOk result
+        (Told (D.told disk.old) (D.told disk.new)
+        (λ before after. before ≡ [] → after ≡ new_journal)) }
+    ensures empty { IsErr result
+        → Told (D.told disk.old) (D.told disk.new)
+        (λ before after. before ≡ [] → length after ≤ 17) }
     ensures durable { OnOk result (Only (D.told disk.new) (D.may_leave disk.new)) }
-    ensures images { IfSome (D.told disk.old) (OpensOnly D.may_leave D.moment D.left_since disk.old disk.new) }
-    ensures unwritten { IfSome (D.told disk.old) (λ bytes. 0 < length bytes → OnlyReads D.told D.may_leave D.moment D.left_since disk.old disk.new) }
+    ensures images { IfSome (D.told disk.old)
+        (OpensOnly D.may_leave D.moment D.left_since disk.old disk.new) }
+    ensures unwritten { IfSome (D.told disk.old)
+        (λ bytes. 0 < length bytes
+        → OnlyReads D.told D.may_leave D.moment D.left_since disk.old disk.new) }
     ensures fits { IfOk result (λ x. (x.1 + 1 < 2 ^ 64) × (length x.0.items ≤ max_entries)) }
     ensures cause { HasOpenCause (D.faults disk.old) (D.faults disk.new) result }
 {

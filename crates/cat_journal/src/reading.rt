@@ -24,8 +24,11 @@ pub(crate) fn number_of(bytes: &[u8]) -> u32
 
 /// A gate's byte, and the number in the four bytes behind it.
 pub(crate) fn read_gate<D: Disk>(disk: &mut D, at: u64) -> Result<(u8, u32), Failed>
-    ensures gate { IfOk result (λ g. IfSome (D.told disk.old) (λ bytes. at < length bytes → g.0 ≡ get_or bytes at 0)) }
-    ensures size { IfOk result (λ g. IfSome (D.told disk.old) (λ bytes. at + 5 ≤ length bytes → to_be_bytes w32 g.1 ≡ take 4 (drop (at + 1) bytes))) }
+    ensures gate { IfOk result
+        (λ g. IfSome (D.told disk.old) (λ bytes. at < length bytes → g.0 ≡ get_or bytes at 0)) }
+    ensures size { IfOk result
+        (λ g. IfSome (D.told disk.old)
+        (λ bytes. at + 5 ≤ length bytes → to_be_bytes w32 g.1 ≡ take 4 (drop (at + 1) bytes))) }
     ensures reads { OnlyReads D.told D.may_leave D.moment D.left_since disk.old disk.new }
     ensures cause { HasCause (D.faults disk.old) (D.faults disk.new) result }
 {
@@ -41,7 +44,8 @@ pub(crate) fn read_into<D: Disk>(
     count: u32,
     buffer: &mut Vec<u8>,
 ) -> Result<(), KeepFault>
-    ensures value { OnOk result (IfSome (D.told disk.old) (λ bytes. buffer.new.items ≡ take count (drop at bytes))) }
+    ensures value { OnOk result
+        (IfSome (D.told disk.old) (λ bytes. buffer.new.items ≡ take count (drop at bytes))) }
     ensures never_down { (c : ℕ) → IsErrOf result (KeepFault.Down c) → ⊥ }
     ensures reads { OnlyReads D.told D.may_leave D.moment D.left_since disk.old disk.new }
     ensures cause { HasKeepCause (D.faults disk.old) (D.faults disk.new) result }
@@ -65,8 +69,10 @@ fn frame_at<D: Disk>(
 ) -> Result<Option<u32>, OpenFault>
     requires inside { at < len }
     requires len { IfSome (D.told disk.old) (λ bytes. len ≡ length bytes) }
-    ensures found { IfSome (D.told disk.old) (λ bytes.
-        MatchResult result (λ o. MatchOption o (get_or bytes at 0 ≢ 1) (λ n. IsFrameAt at n bytes)) (IsDamageAt at bytes)) }
+    ensures found { IfSome (D.told disk.old)
+        (λ bytes. MatchResult result
+        (λ o. MatchOption o (get_or bytes at 0 ≢ 1) (λ n. IsFrameAt at n bytes))
+        (IsDamageAt at bytes)) }
     ensures next { IfOk result (λ o. IfSome o (λ n. at + 5 + n < len)) }
     ensures reads { OnlyReads D.told D.may_leave D.moment D.left_since disk.old disk.new }
     ensures cause { HasOpenCause (D.faults disk.old) (D.faults disk.new) result }
@@ -109,8 +115,10 @@ pub(crate) fn read_frames<D: Disk>(
     requires more { 16 < len }
     requires len { IfSome (D.told disk.old) (λ bytes. len ≡ length bytes) }
     requires header { IfSome (D.told disk.old) (λ bytes. take 16 bytes ≡ header) }
-    ensures found { IfSome (D.told disk.old) (λ bytes.
-        MatchResult result (λ x. IsHeld (payloads bytes) x.0.items x.1 bytes × IsAtRest (payloads bytes) x.1 bytes) (IsFaultOf bytes)) }
+    ensures found { IfSome (D.told disk.old)
+        (λ bytes. MatchResult result
+        (λ x. IsHeld (payloads bytes) x.0.items x.1 bytes × IsAtRest (payloads bytes) x.1 bytes)
+        (IsFaultOf bytes)) }
     ensures fits { IfOk result (λ x. (x.1 < len) × (length x.0.items ≤ max_entries)) }
     ensures reads { OnlyReads D.told D.may_leave D.moment D.left_since disk.old disk.new }
     ensures cause { HasOpenCause (D.faults disk.old) (D.faults disk.new) result }

@@ -71,7 +71,8 @@ impl Object {
         name: &str,
         value: &Option<F::Of>,
     ) -> Result<Object, NoMemory>
-        ensures { IfOk result (λ o. held o ≡ held self +?> (name.now, option_map F.writes value.now)) }
+        ensures { IfOk result
+            (λ o. held o ≡ held self +?> (name.now, option_map F.writes value.now)) }
     {
         match value {
             Some(value) => self.with::<F>(name, value),

@@ -58,7 +58,8 @@ pub trait Keeper: Send {
     /// The payload at place `i`, from 0.
     fn entry(&mut self, alloc: Global, i: u32) -> Result<Bytes, KeepFault>
         requires { i < kept self.old }
-        ensures value { IfOk result (λ bytes. IfSome (told self.old) (λ ps. bytes ≡ get_or ps i [])) }
+        ensures value { IfOk result
+            (λ bytes. IfSome (told self.old) (λ ps. bytes ≡ get_or ps i [])) }
         ensures never_down { (c : ℕ) → IsErrOf result (KeepFault.Down c) → ⊥ }
         ensures told { Told (told self.old) (told self.new) (λ old new. new ≡ old) }
         ensures kept { kept self.new ≡ kept self.old }
@@ -89,42 +90,69 @@ pub trait Keeper: Send {
         requires reading { has_reading bytes.now ≡ true }
         requires short { length bytes.now < 2 ^ 32 }
         requires few { kept self.old < 4294967295 }
-        ensures added { OnOk result (Told (told self.old) (told self.new) (λ old new. new ≡ old ++ bytes.now ∷ [])) }
+        ensures added { OnOk result
+            (Told (told self.old) (told self.new) (λ old new. new ≡ old ++ bytes.now ∷ [])) }
         ensures kept { OnOk result (kept self.new ≡ kept self.old + 1) }
         ensures up { OnOk result (down self.new ≡ None) }
-        ensures not_added { OnErr result (Told (told self.old) (told self.new) (λ old new. new ≡ old)) }
+        ensures not_added { OnErr result
+            (Told (told self.old) (told self.new) (λ old new. new ≡ old)) }
         ensures not_kept { OnErr result (kept self.new ≡ kept self.old) }
-        ensures failed { IsErrOf result KeepFault.Fault → (down self.old ≡ None) × (down self.new ≡ Some (faults self.new)) × (in_flight self.new ≡ Some bytes.now) }
+        ensures failed { IsErrOf result KeepFault.Fault
+            → (down self.old ≡ None)
+            × (down self.new ≡ Some (faults self.new))
+            × (in_flight self.new ≡ Some bytes.now) }
         ensures is_down { (c : ℕ) → IsErrOf result (KeepFault.Down c) ↔ (down self.old ≡ Some c) }
-        ensures stays_down { (c : ℕ) → down self.old ≡ Some c → (down self.new ≡ Some c) × (in_flight self.new ≡ in_flight self.old) }
-        ensures idle { (c : ℕ) → down self.old ≡ Some c → LeavesOnly moment left_since self.old self.new (may_leave self.old) }
+        ensures stays_down { (c : ℕ) → down self.old ≡ Some c
+            → (down self.new ≡ Some c) × (in_flight self.new ≡ in_flight self.old) }
+        ensures idle { (c : ℕ) → down self.old ≡ Some c
+            → LeavesOnly moment left_since self.old self.new (may_leave self.old) }
         ensures cause { HasKeepCause (faults self.old) (faults self.new) result }
         ensures no_memory_taken { IsErrOf result KeepFault.NoMemory → ⊥ }
-        ensures any_moment { down self.old ≡ None → LeavesOnly moment left_since self.old self.new (λ c. IfSome (told self.old) (λ ps. WithOrWithout ps bytes.now c)) }
-        ensures images { down self.old ≡ None → LeavesOnly moment bytes_since self.old self.new (λ b. IfSome (told self.old) (λ ps. WithOrWithout ps bytes.now (stands_for b))) }
-        ensures same_images { (c : ℕ) → down self.old ≡ Some c → LeavesOnly moment bytes_since self.old self.new (bytes_left self.old) };
+        ensures any_moment { down self.old ≡ None
+            → LeavesOnly moment left_since self.old self.new
+            (λ c. IfSome (told self.old) (λ ps. WithOrWithout ps bytes.now c)) }
+        ensures images { down self.old ≡ None
+            → LeavesOnly moment bytes_since self.old self.new
+            (λ b. IfSome (told self.old) (λ ps. WithOrWithout ps bytes.now (stands_for b))) }
+        ensures same_images { (c : ℕ) → down self.old ≡ Some c
+            → LeavesOnly moment bytes_since self.old self.new (bytes_left self.old) };
 
     /// How many calls failed.
     fn fault_count(&self) -> u64
         ensures { result ≡ faults self.now };
 
     // now is one of the moments since an earlier one
-    ghost counts_now: { (k : Self) (t : ℕ) (c : Option (List (List ℕ))) → t ≤ moment k → may_leave k c → left_since k t c };
+    ghost counts_now: { (k : Self) (t : ℕ) (c : Option (List (List ℕ))) → t ≤ moment k
+        → may_leave k c
+        → left_since k t c };
 
     // and since now there is no other
-    ghost only_now: { (k : Self) (c : Option (List (List ℕ))) → left_since k (moment k) c → may_leave k c };
+    ghost only_now: { (k : Self) (c : Option (List (List ℕ))) → left_since k (moment k) c
+        → may_leave k c };
 
     // now is one of the moments since an earlier one
-    ghost bytes_count_now: { (k : Self) (t : ℕ) (b : List ℕ) → t ≤ moment k → bytes_left k b → bytes_since k t b };
+    ghost bytes_count_now: { (k : Self) (t : ℕ) (b : List ℕ) → t ≤ moment k
+        → bytes_left k b
+        → bytes_since k t b };
 
     // until an append has failed, a crash between two calls leaves just the payloads, and these are
     // one of the images
-    ghost safe: { (k : Self) (ps : List (List ℕ)) (c : Option (List (List ℕ))) → down k ≡ None → told k ≡ Some ps → may_leave k c → c ≡ Some ps };
+    ghost safe: { (k : Self) (ps : List (List ℕ)) (c : Option (List (List ℕ))) → down k ≡ None
+        → told k ≡ Some ps
+        → may_leave k c
+        → c ≡ Some ps };
 
-    ghost kept_as_image: { (k : Self) (ps : List (List ℕ)) → down k ≡ None → told k ≡ Some ps → may_leave k (Some ps) };
+    ghost kept_as_image: { (k : Self) (ps : List (List ℕ)) → down k ≡ None
+        → told k ≡ Some ps
+        → may_leave k (Some ps) };
 
     // after that, it leaves these with or without that append's
-    ghost unsafe_leaves: { (k : Self) (ps : List (List ℕ)) (p : List ℕ) (c : Option (List (List ℕ))) → told k ≡ Some ps → in_flight k ≡ Some p → may_leave k c → WithOrWithout ps p c };
+    ghost unsafe_leaves: { (k : Self) (ps : List (List ℕ)) (p : List ℕ)
+        (c : Option (List (List ℕ)))
+        → told k ≡ Some ps
+        → in_flight k ≡ Some p
+        → may_leave k c
+        → WithOrWithout ps p c };
 
     // a payload is in flight exactly while the keeper is down
     ghost waits: { (k : Self) → down k ≡ None → in_flight k ≡ None };

@@ -135,11 +135,13 @@ impl Keeper for MemKeeper {
         ensures down { keeper_down self.new ≡ keeper_down self.old }
         ensures in_flight { keeper_in_flight self.new ≡ keeper_in_flight self.old }
         ensures crash { Within (keeper_images self.old) (keeper_images self.new) }
-        ensures time { LeavesOnly keeper_moment keeper_left self.old self.new (keeper_images self.old) }
+        ensures time { LeavesOnly keeper_moment keeper_left self.old self.new
+            (keeper_images self.old) }
         ensures images { LeavesOnly keeper_moment (λ _. never_known) self.old self.new none_known }
         ensures cause { HasKeepCause (keeper_faults self.old) (keeper_faults self.new) result }
         ensures fails { IsErrOf result KeepFault.Fault ↔ (next_fails self.old ≡ true) }
-        ensures counts { keeper_faults self.new ≡ raised_if (next_fails self.old) (keeper_faults self.old) }
+        ensures counts { keeper_faults self.new
+            ≡ raised_if (next_fails self.old) (keeper_faults self.old) }
         ensures calls { keeper_calls self.new ≡ keeper_next self.old }
         ensures failing { keeper_failing self.new ≡ keeper_failing self.old }
     {
@@ -164,7 +166,8 @@ impl Keeper for MemKeeper {
         ensures in_flight { keeper_in_flight self.new ≡ keeper_in_flight self.old }
         ensures faults { keeper_faults self.new ≡ keeper_faults self.old }
         ensures crash { Within (keeper_images self.old) (keeper_images self.new) }
-        ensures time { LeavesOnly keeper_moment keeper_left self.old self.new (keeper_images self.old) }
+        ensures time { LeavesOnly keeper_moment keeper_left self.old self.new
+            (keeper_images self.old) }
         ensures images { LeavesOnly keeper_moment (λ _. never_known) self.old self.new none_known }
         ensures calls { keeper_calls self.new ≡ keeper_calls self.old }
         ensures failing { keeper_failing self.new ≡ keeper_failing self.old }
@@ -180,23 +183,42 @@ impl Keeper for MemKeeper {
         requires reading { has_reading bytes.now ≡ true }
         requires short { length bytes.now < 2 ^ 32 }
         requires few { length (keeper_payloads self.old) < 4294967295 }
-        ensures added { OnOk result (keeper_payloads self.new ≡ keeper_payloads self.old ++ bytes.now ∷ []) }
-        ensures kept { OnOk result (length (keeper_payloads self.new) ≡ length (keeper_payloads self.old) + 1) }
+        ensures added { OnOk result
+            (keeper_payloads self.new ≡ keeper_payloads self.old ++ bytes.now ∷ []) }
+        ensures kept { OnOk result
+            (length (keeper_payloads self.new) ≡ length (keeper_payloads self.old) + 1) }
         ensures up { OnOk result (keeper_down self.new ≡ None) }
         ensures not_added { OnErr result (keeper_payloads self.new ≡ keeper_payloads self.old) }
-        ensures not_kept { OnErr result (length (keeper_payloads self.new) ≡ length (keeper_payloads self.old)) }
-        ensures failed { IsErrOf result KeepFault.Fault → (keeper_down self.old ≡ None) × (keeper_down self.new ≡ Some (keeper_faults self.new)) × (keeper_in_flight self.new ≡ Some bytes.now) }
-        ensures is_down { (c : ℕ) → IsErrOf result (KeepFault.Down c) ↔ (keeper_down self.old ≡ Some c) }
-        ensures stays_down { (c : ℕ) → keeper_down self.old ≡ Some c → (keeper_down self.new ≡ Some c) × (keeper_in_flight self.new ≡ keeper_in_flight self.old) }
-        ensures idle { (c : ℕ) → keeper_down self.old ≡ Some c → LeavesOnly keeper_moment keeper_left self.old self.new (keeper_images self.old) }
+        ensures not_kept { OnErr result
+            (length (keeper_payloads self.new) ≡ length (keeper_payloads self.old)) }
+        ensures failed { IsErrOf result KeepFault.Fault
+            → (keeper_down self.old ≡ None)
+            × (keeper_down self.new ≡ Some (keeper_faults self.new))
+            × (keeper_in_flight self.new ≡ Some bytes.now) }
+        ensures is_down { (c : ℕ)
+            → IsErrOf result (KeepFault.Down c) ↔ (keeper_down self.old ≡ Some c) }
+        ensures stays_down { (c : ℕ) → keeper_down self.old ≡ Some c
+            → (keeper_down self.new ≡ Some c)
+            × (keeper_in_flight self.new ≡ keeper_in_flight self.old) }
+        ensures idle { (c : ℕ) → keeper_down self.old ≡ Some c
+            → LeavesOnly keeper_moment keeper_left self.old self.new (keeper_images self.old) }
         ensures cause { HasKeepCause (keeper_faults self.old) (keeper_faults self.new) result }
         ensures no_memory_taken { IsErrOf result KeepFault.NoMemory → ⊥ }
-        ensures any_moment { keeper_down self.old ≡ None → LeavesOnly keeper_moment keeper_left self.old self.new (WithOrWithout (keeper_payloads self.old) bytes.now) }
-        ensures images { keeper_down self.old ≡ None → LeavesOnly keeper_moment (λ _. never_known) self.old self.new (λ b. WithOrWithout (keeper_payloads self.old) bytes.now None) }
-        ensures same_images { (c : ℕ) → keeper_down self.old ≡ Some c → LeavesOnly keeper_moment (λ _. never_known) self.old self.new none_known }
-        ensures fails { keeper_down self.old ≡ None → IsErrOf result KeepFault.Fault ↔ (next_fails self.old ≡ true) }
-        ensures counts { keeper_down self.old ≡ None → keeper_faults self.new ≡ raised_if (next_fails self.old) (keeper_faults self.old) }
-        ensures stands { (c : ℕ) → keeper_down self.old ≡ Some c → (keeper_calls self.new ≡ keeper_calls self.old) × (keeper_faults self.new ≡ keeper_faults self.old) }
+        ensures any_moment { keeper_down self.old ≡ None
+            → LeavesOnly keeper_moment keeper_left self.old self.new
+            (WithOrWithout (keeper_payloads self.old) bytes.now) }
+        ensures images { keeper_down self.old ≡ None
+            → LeavesOnly keeper_moment (λ _. never_known) self.old self.new
+            (λ b. WithOrWithout (keeper_payloads self.old) bytes.now None) }
+        ensures same_images { (c : ℕ) → keeper_down self.old ≡ Some c
+            → LeavesOnly keeper_moment (λ _. never_known) self.old self.new none_known }
+        ensures fails { keeper_down self.old ≡ None
+            → IsErrOf result KeepFault.Fault ↔ (next_fails self.old ≡ true) }
+        ensures counts { keeper_down self.old ≡ None
+            → keeper_faults self.new ≡ raised_if (next_fails self.old) (keeper_faults self.old) }
+        ensures stands { (c : ℕ) → keeper_down self.old ≡ Some c
+            → (keeper_calls self.new ≡ keeper_calls self.old)
+            × (keeper_faults self.new ≡ keeper_faults self.old) }
         ensures calls { keeper_down self.old ≡ None → keeper_calls self.new ≡ keeper_next self.old }
         ensures failing { keeper_failing self.new ≡ keeper_failing self.old }
     {

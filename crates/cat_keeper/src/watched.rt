@@ -49,13 +49,15 @@ impl<B: Since + Send, K: Keeper> Model for Watched<B, K> {
 
     ghost view = { λ w. w.keeper };
 
-    ghost invariant = { λ w. IsWatched K.told K.in_flight K.moment K.stands_for K.bytes_since B.since B.least B.before w.keeper };
+    ghost invariant = { λ w. IsWatched K.told K.in_flight K.moment K.stands_for K.bytes_since
+        B.since B.least B.before w.keeper };
 }
 
 impl<B: Since + Send, K: Keeper> Watched<B, K> {
     /// Watches a keeper from its first call on.
     pub fn new(keeper: K) -> Watched<B, K>
-        requires { IsWatched K.told K.in_flight K.moment K.stands_for K.bytes_since B.since B.least B.before keeper }
+        requires { IsWatched K.told K.in_flight K.moment K.stands_for K.bytes_since B.since
+            B.least B.before keeper }
         ensures { result ≡ keeper }
     {
         Watched {
@@ -67,7 +69,8 @@ impl<B: Since + Send, K: Keeper> Watched<B, K> {
     /// The keeper.
     pub fn into_inner(self) -> K
         ensures keeper { result ≡ self }
-        ensures watched { IsWatched K.told K.in_flight K.moment K.stands_for K.bytes_since B.since B.least B.before self }
+        ensures watched { IsWatched K.told K.in_flight K.moment K.stands_for K.bytes_since B.since
+            B.least B.before self }
     {
         let Watched { keeper, since: _ } = self;
         keeper

@@ -1,5 +1,6 @@
 -- What is marked, and what roots keep live.
-use Rattle.std.specs.Prelude.{◌≡◌, ℕ, List, [], ◌∷◌, ◌++◌, Option, Some, None, Bool, false, ◌||◌, IsTrue, if◌then◌else◌}
+use Rattle.std.specs.Prelude.{◌≡◌, ℕ, List, [], ◌∷◌, ◌++◌, Option, Some, None, Bool, false, ◌||◌, IsTrue, if◌then◌else◌, Result, IfOk, length, get_or, ◌<◌, ◌≤◌, ◌*◌}
+use Rattle.std.specs.Fork.{slice_chunk}
 use Rattle.std.specs.List.{flat_map, list_any}
 use Rattle.cat_names.specs.Fields.{Key}
 use Rattle.cat_names.specs.declared.hash.Hash.{Hash}
@@ -71,6 +72,15 @@ abbrev pub if_kept : Cutoff → ℕ → Option Commit → Option Commit
 if_kept cutoff index None = None
 if_kept cutoff index (Some c) = if keeps cutoff index c.time then Some c else None
 
+-- what is live from each of the heads
+abbrev pub live_from_all : Commits → List (Hash × Cutoff) → List Hash
+live_from_all commits heads = flat_map (λ head. live_from commits head.1 head.0) heads
+
 -- what roots keep live: what is live from each of their heads, and their hashes
 abbrev pub live_of : Commits → Roots → List Hash
-live_of commits roots = flat_map (λ head. live_from commits head.1 head.0) roots.heads ++ roots.hashes
+live_of commits roots = live_from_all commits roots.heads ++ roots.hashes
+
+-- each of the sets that are there has what is live from the heads of the chunk of its number, and all heads are in these chunks
+pub record AreShares {E : Type 0} (commits : Commits) (heads : List (Hash × Cutoff)) (size : ℕ) (sets : List (Result (List Hash) E)) : Type 0 where
+  pub each : (k : ℕ) (d : Result (List Hash) E) → k < length sets → IfOk (get_or sets k d) (λ set. AddsAll [] set (live_from_all commits (slice_chunk heads size k)))
+  pub all : length heads ≤ length sets * size

@@ -1,12 +1,14 @@
 //! The hashes of the contents that are visible at the commits that cutoffs keep. A set of marks
 //! tells of each hash whether it is in it, and marking a head adds what is live from it and
 //! nothing else. That costs the map at the oldest kept commit and one look-up for each change of
-//! the kept commits after it.
+//! the kept commits after it. Many heads are shared out among workers, and what is marked is what
+//! one of them would mark.
 #![tactic(auto)]
 
 mod chains;
 mod marks;
 mod roots;
+mod sharing;
 
 pub use marks::Marks;
 pub use roots::Roots;

@@ -1,15 +1,18 @@
 //! Sets of hashes.
 
-ghost use Rattle.std.specs.Prelude.{◌≡◌, [], ◌∷◌, false, OnOk, OnErr, length};
-ghost use Rattle.std.specs.List.{IsDistinct, flat_map};
+ghost use Rattle.std.specs.Prelude.{◌≡◌, ◌≤◌, ◌<◌, ◌&&◌, [], ◌∷◌, false, IfOk, OnOk, OnErr, is_some, length, not};
+ghost use Rattle.std.specs.List.{IsDistinct};
 ghost use Rattle.cat_names.specs.declared.hash.Hash.{Hash};
+ghost use Rattle.cat_model.specs.Base.{is_among};
 ghost use Rattle.cat_model.specs.Cutoffs.{live_from};
 ghost use Rattle.cat_model.specs.Same.{same_hash};
 ghost use Rattle.cat_keymap.specs.MapsAt.{map_at};
-ghost use Rattle.cat_mark.specs.Marks.{AddsAll, AddsSome, HaveMaps, at_key, at_keys, found_map, hashes, is_marked, live_of};
+ghost use Rattle.cat_tables.specs.Tables.{value_of};
+ghost use Rattle.cat_mark.specs.Marks.{AddsAll, AddsSome, AreShares, HaveMaps, at_key, at_keys, found_map, hashes, is_marked, live_from_all, live_of};
 
 use crate::chains::kept_parent;
 use crate::roots::Roots;
+use crate::sharing::sets_of;
 use cat_codes::fault::NoMemory;
 use cat_graph::graph::Graph;
 use cat_keymap::key_map::KeyMap;
@@ -19,9 +22,11 @@ use cat_model::cutoff::Cutoff;
 use cat_model::entry::Entry;
 use cat_names::hash::Hash;
 use cat_names::key::ContentKey;
+use cat_tables::table::Table;
 use std::alloc::Global;
 use std::collections::HashSet;
 use std::marker::Model;
+use std::thread::Threads;
 
 /// A set of hashes. Contracts ask it by `is_marked`, and never by the order of its list.
 #[derive(Drop)]
@@ -61,6 +66,26 @@ impl Marks {
         ensures once { IsDistinct same_hash self.now }
     {
         self.set.len()
+    }
+
+    /// The hashes of a table that aren't marked, by one walk.
+    pub fn unmarked<V: Drop>(
+        &self,
+        alloc: Global,
+        contents: &Table<V>,
+    ) -> Result<Vec<Hash>, NoMemory>
+        ensures { IfOk result
+            (λ hashes. (hash : Hash) → is_among hashes.items hash
+            ≡ (is_some (value_of contents.now hash) && not (is_marked self.now hash))) }
+    {
+        let mut out = Vec::new(alloc);
+        let mut rest = contents.hashes();
+        while let Some(hash) = rest.next() {
+            if !self.has(hash) {
+                out.push(*hash)?;
+            }
+        }
+        Ok(out)
     }
 
     /// Marks a hash. Want of memory changes nothing, and comes only where the hash isn't marked.
@@ -191,29 +216,99 @@ impl Marks {
     /// Marks what roots keep live: what is visible at the commits that are kept of the chain of
     /// each head, and the hashes themselves. Where memory runs out, a part of that may have been
     /// marked, and something of it is not.
-    pub fn mark_all(&mut self, graph: &Graph, maps: &Maps, roots: &Roots) -> Result<(), NoMemory>
-        requires { HaveMaps graph.now maps.now }
+    ///
+    /// The heads are shared out among so many workers, each in a thread of its own where one can be
+    /// made, with a set of its own. What a worker finds no memory for is marked here after it, so
+    /// that want of memory for these sets alone is no failure. One worker has neither.
+    pub fn mark_all<R: Threads + Sync>(
+        &mut self,
+        rt: &R,
+        alloc: Global,
+        graph: &Graph,
+        maps: &Maps,
+        roots: &Roots,
+        workers: u32,
+    ) -> Result<(), NoMemory>
+        requires maps { HaveMaps graph.now maps.now }
+        requires some { 1 ≤ workers }
+        requires few { workers ≤ 64 }
         ensures ok { OnOk result (AddsAll self.old self.new (live_of graph.now roots.now)) }
         ensures err { OnErr result (AddsSome self.old self.new (live_of graph.now roots.now)) }
     {
-        self.mark_heads(graph, maps, roots.heads.as_slice())?;
+        let heads = roots.heads.as_slice();
+        self.mark_shares(rt, alloc, graph, maps, heads, workers as usize)?;
         self.add_all(roots.hashes.as_slice())
     }
 
+    /// Marks what is live from each of the heads, by so many workers.
+    fn mark_shares<R: Threads + Sync>(
+        &mut self,
+        rt: &R,
+        alloc: Global,
+        graph: &Graph,
+        maps: &Maps,
+        heads: &[(Hash, Cutoff)],
+        workers: usize,
+    ) -> Result<(), NoMemory>
+        requires maps { HaveMaps graph.now maps.now }
+        requires some { 0 < workers }
+        ensures ok { OnOk result (AddsAll self.old self.new (live_from_all graph.now heads.now)) }
+        ensures err { OnErr result (AddsSome self.old self.new (live_from_all graph.now heads.now)) }
+    {
+        let size = heads.len().div_ceil(workers).max(1);
+        if size >= heads.len() {
+            return self.mark_heads(graph, maps, heads);
+        }
+        match sets_of(rt, alloc, graph, maps, heads, size) {
+            Ok(sets) => self.add_sets(graph, maps, heads, size, sets.as_slice()),
+            Err(_) => self.mark_heads(graph, maps, heads),
+        }
+    }
+
+    /// Adds the sets of shares. Where one is missing, what is live from the heads is marked here.
+    fn add_sets(
+        &mut self,
+        graph: &Graph,
+        maps: &Maps,
+        heads: &[(Hash, Cutoff)],
+        size: usize,
+        sets: &[Result<Marks, NoMemory>],
+    ) -> Result<(), NoMemory>
+        requires maps { HaveMaps graph.now maps.now }
+        requires shares { AreShares graph.now heads.now size sets.now }
+        ensures ok { OnOk result (AddsAll self.old self.new (live_from_all graph.now heads.now)) }
+        ensures err { OnErr result (AddsSome self.old self.new (live_from_all graph.now heads.now)) }
+    {
+        for set in sets {
+            match set {
+                Ok(set) => self.add_set(set)?,
+                Err(_) => return self.mark_heads(graph, maps, heads),
+            }
+        }
+        Ok(())
+    }
+
+    /// Marks what another set has.
+    fn add_set(&mut self, other: &Marks) -> Result<(), NoMemory>
+        ensures ok { OnOk result (AddsAll self.old self.new other.now) }
+        ensures err { OnErr result (AddsSome self.old self.new other.now) }
+    {
+        for hash in &other.set {
+            self.add(*hash)?;
+        }
+        Ok(())
+    }
+
     /// Marks what is live from each of the heads.
-    fn mark_heads(
+    pub(crate) fn mark_heads(
         &mut self,
         graph: &Graph,
         maps: &Maps,
         heads: &[(Hash, Cutoff)],
     ) -> Result<(), NoMemory>
         requires { HaveMaps graph.now maps.now }
-        ensures ok { OnOk result
-            (AddsAll self.old self.new
-            (flat_map (λ head. live_from graph.now head.1 head.0) heads.now)) }
-        ensures err { OnErr result
-            (AddsSome self.old self.new
-            (flat_map (λ head. live_from graph.now head.1 head.0) heads.now)) }
+        ensures ok { OnOk result (AddsAll self.old self.new (live_from_all graph.now heads.now)) }
+        ensures err { OnErr result (AddsSome self.old self.new (live_from_all graph.now heads.now)) }
     {
         for (head, cutoff) in heads {
             self.mark_root(graph, maps, head, cutoff)?;

@@ -14,3 +14,4 @@ pub mod MergeWords
 pub mod Merging
 pub mod Transplanting
 pub mod Again
+pub mod Sweeping

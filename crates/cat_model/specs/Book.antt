@@ -12,19 +12,20 @@ use Rattle.cat_model.specs.State.{Digest, State, first_state}
 use Rattle.cat_model.specs.Answer.{answer}
 use Rattle.cat_model.specs.Calls.{Called, Occasion, attempt, call, told_at}
 
--- the state, the last draft number, and the entries that led to the state, the newest first
+-- the state, the last draft number, the entries that led to the state, the newest first, and the state that these started from
 pub record Book : Type 0 where
   pub state : State
   pub draft : ℕ
   pub log : List LogEntry
+  pub base : State
 
 -- the book of an empty catalogue
 abbrev pub first_book : Digest → Limits → Book
-first_book digest limits = record { state = first_state digest limits; draft = 0; log = [] }
+first_book digest limits = record { state = first_state digest limits; draft = 0; log = []; base = first_state digest limits }
 
 -- a book after what a call brought
 abbrev pub after_call : Book → Called → Book
-after_call book c = record { state = c.state; draft = c.draft; log = c.logged ++ book.log }
+after_call book c = record book { state = c.state; draft = c.draft; log = c.logged ++ book.log }
 
 -- an attempt at a command on a book
 abbrev pub attempt_on : Digest → Book → Occasion → Command → Called

@@ -2,6 +2,7 @@
 use Rattle.std.specs.Prelude.{ℕ, ◌+◌, max, List, [], ◌∷◌, Option, Some, None, Result, Ok, Err, Bool, true, false, nat_lt, if◌then◌else◌}
 use Rattle.cat_model.specs.declared.command.Command.{Command}
 use Rattle.cat_model.specs.declared.limits.Quantity.TheVariants.{Drafts}
+use Rattle.cat_model.specs.declared.log_entry.Action.TheVariants as actions
 use Rattle.cat_model.specs.declared.log_entry.LogEntry.{LogEntry}
 use Rattle.cat_model.specs.declared.refusal.Refusal.{Refusal}
 use Rattle.cat_model.specs.declared.refusal.Refusal.TheVariants.{Limit}
@@ -35,7 +36,7 @@ entry_made digest caller after command turn reply = record {
   caller = caller;
   draft = turn.draft;
   moment = turn.moment;
-  command = logged_command digest turn.draft command;
+  action = actions.Call (logged_command digest turn.draft command);
   head = head_left command reply;
 }
 
@@ -54,29 +55,39 @@ stepped digest caller state draft command turn (Ok (after, reply)) =
 
 -- ---- attempts
 
--- who makes a call, when, and the number of its draft where it is given, 0 for a call that opens none; else the next is taken
+-- a draft that was opened: its number, 0 for a call that opens none, and the place at which it began
+pub record Begun : Type 0 where
+  pub number : ℕ
+  pub place : ℕ
+
+-- who makes a call, when, and its draft where it is given; else the next is opened
 pub record Occasion : Type 0 where
   pub caller : ℕ
   pub moment : ℕ
-  pub draft : Option ℕ
+  pub draft : Option Begun
 
--- in a draft of this number
-abbrev pub in_draft : ℕ → ℕ → ℕ → Occasion
-in_draft caller moment number = record { caller = caller; moment = moment; draft = Some number }
+-- in a draft of this number, which began at this place
+abbrev pub in_draft : ℕ → ℕ → ℕ → ℕ → Occasion
+in_draft caller moment number place = record { caller = caller; moment = moment; draft = Some (record { number = number; place = place }) }
 
 -- in the next draft
 abbrev pub in_next : ℕ → ℕ → Occasion
 in_next caller moment = record { caller = caller; moment = moment; draft = None }
 
 -- the number of its draft, by whether it opens one
-abbrev pub number_on : ℕ → Option ℕ → Bool → ℕ
-number_on last (Some draft) opens = draft
+abbrev pub number_on : ℕ → Option Begun → Bool → ℕ
+number_on last (Some draft) opens = draft.number
 number_on last None true = last + 1
 number_on last None false = 0
 
+-- the place at which it began: its draft's, or the state's
+abbrev pub began_on : State → Option Begun → ℕ
+began_on state (Some draft) = draft.place
+began_on state None = state.place
+
 -- when it is made, on a state and the last draft number
 abbrev pub turn_on : State → ℕ → Occasion → Bool → Turn
-turn_on state last o opens = record { draft = number_on last o.draft opens; opened = state.place; moment = o.moment }
+turn_on state last o opens = record { draft = number_on last o.draft opens; opened = began_on state o.draft; moment = o.moment }
 
 -- a draft number is left, where one is needed
 abbrev pub needs_draft : State → ℕ → Bool → Tested
@@ -84,7 +95,7 @@ needs_draft state last false = Ok tt
 needs_draft state last true = needs (nat_lt last state.limits.drafts) (Limit Drafts state.limits.drafts)
 
 -- the tests before its draft; that a number is left is tested where the next is taken
-abbrev pub tests_on : Digest → State → ℕ → Option ℕ → Command → Tested
+abbrev pub tests_on : Digest → State → ℕ → Option Begun → Command → Tested
 tests_on digest state last (Some draft) command = opening digest state command
 tests_on digest state last None command = opening digest state command >>= λ _. needs_draft state last (opens_draft command)
 

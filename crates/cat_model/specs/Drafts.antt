@@ -1,6 +1,7 @@
 -- Open drafts and the open sweep: what is kept beside the log until it is closed.
 use Rattle.std.specs.Prelude.{◌≡◌, ◌≢◌, ℕ, List, [], ◌∷◌, cond, nat_eq, ◌⊎◌, Option, Some, None}
 use Rattle.cat_names.specs.declared.hash.Hash.{Hash}
+use Rattle.cat_model.specs.declared.cutoff.Resolved.{Resolved}
 
 -- commits and contents that are to stay
 pub record Names : Type 0 where
@@ -18,9 +19,10 @@ pub record OpenDraft : Type 0 where
   pub opening : Opening
   pub names : Names
 
--- the sweep that is open, with the names of each draft that was open since. Its caller was given the roots that the log's first `drained` entries made, and the names `given`
+-- the sweep that is open, with what it keeps of each chain and the names of each draft that was open since. Its caller was given the roots that the log's first `drained` entries made, and the names `given`
 pub record OpenSweep : Type 0 where
   pub opening : Opening
+  pub policy : Resolved
   pub names : Names
   pub drained : ℕ
   pub given : Names

@@ -1,4 +1,4 @@
--- States that grew: nothing was taken away.
+-- States that grew.
 use Rattle.std.specs.Prelude.{◌≡◌, List, ◌++◌}
 use Rattle.cat_model.specs.State.{State}
 
@@ -6,7 +6,6 @@ use Rattle.cat_model.specs.State.{State}
 abbrev pub Adds : {A : Type 0} → List A → List A → Type 0
 Adds {A} older list = (front : List A) × (list ≡ front ++ older)
 
--- each commit and each content of the one state is in the other, below those that were added
+-- each commit of the one state is in the other, below those that were added; contents may have been removed
 pub record IsLater (a b : State) : Type 0 where
   pub commits : Adds a.commits b.commits
-  pub present : Adds a.present b.present

@@ -36,6 +36,8 @@ pub mod Turns
 pub mod TurnLaws
 pub mod Later
 pub mod Naming
+pub mod Sweeps
+pub mod Past
 pub mod Walks
 pub mod Fronts
 pub mod Cutoffs

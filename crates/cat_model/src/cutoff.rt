@@ -101,7 +101,8 @@ fn is_front(alloc: Global, text: &str) -> Result<bool, AllocError>
 
 /// A text is a front exactly where some name begins with it.
 pub fn fronts_begin_names()
-    ensures { (text : List ℕ) → IsTrue (is_front text) ↔ ((rest : List ℕ) × IsTrue (is_reference_name (text ++ rest))) }
+    ensures { (text : List ℕ)
+        → IsTrue (is_front text) ↔ ((rest : List ℕ) × IsTrue (is_reference_name (text ++ rest))) }
 {}
 
 impl Front {

@@ -21,4 +21,5 @@ pub mod op;
 pub mod reference;
 pub mod refusal;
 pub mod reply;
+pub mod sweep;
 pub mod wanted;

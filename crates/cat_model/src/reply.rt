@@ -100,6 +100,17 @@ pub struct Merged {
     pub was_successful: bool,
 }
 
+/// What a sweep did.
+#[derive(Drop)]
+pub struct Swept {
+    /// How many contents there are then.
+    pub kept: u64,
+    /// The place at which it was opened.
+    pub opened: u32,
+    /// How many contents it removed.
+    pub removed: u64,
+}
+
 /// What a call answers.
 #[derive(Drop)]
 pub enum Reply {
@@ -114,6 +125,7 @@ pub enum Reply {
     Reference(Reference),
     Committed(Committed),
     Merged(Merged),
+    Swept(Swept),
 }
 
 /// A reply, at the place of its entry, or of the state that was read.

@@ -145,7 +145,10 @@ fn take_up<'a, K: Ord + Drop, V: Drop>(
     change: &Change<K, V>,
 ) -> Result<&'a [Pair<K, V>], AllocError>
     requires { IsMap K.cmp left.now }
-    ensures { IfOk result (λ rest. (rest.now ≡ Places.above K.cmp left.now change.now.0) × (out.new.items ≡ out.old.items ++ (Places.below K.cmp left.now change.now.0 ++ present change.now))) }
+    ensures { IfOk result
+        (λ rest. (rest.now ≡ Places.above K.cmp left.now change.now.0)
+        × (out.new.items
+        ≡ out.old.items ++ (Places.below K.cmp left.now change.now.0 ++ present change.now))) }
 {
     let key = change.key();
     let (at, _) = place(left, key);
@@ -178,7 +181,9 @@ fn blocks<K: Drop, V: Drop>(
     alloc: Global,
     pairs: Vec<Pair<K, V>>,
 ) -> Result<Vec<Arc<Block<K, V>>>, AllocError>
-    ensures { IfOk result (λ v. Cuts (λ b. b.pairs.items) (λ b. length b.pairs.items) 16 pairs.items (length pairs.items) (values v.items)) }
+    ensures { IfOk result
+        (λ v. Cuts (λ b. b.pairs.items) (λ b. length b.pairs.items) 16 pairs.items
+        (length pairs.items) (values v.items)) }
 {
     let mut out = Vec::new(alloc);
     let mut rest = pairs;
@@ -213,7 +218,9 @@ fn copied_blocks<K: Drop, V: Drop>(
     alloc: Global,
     pairs: Vec<Pair<K, V>>,
 ) -> Result<Made<Block<K, V>>, AllocError>
-    ensures cut { IfOk result (λ made. Cuts (λ b. b.pairs.items) (λ b. length b.pairs.items) 16 pairs.items (length pairs.items) (values made.pieces.items)) }
+    ensures cut { IfOk result
+        (λ made. Cuts (λ b. b.pairs.items) (λ b. length b.pairs.items) 16 pairs.items
+        (length pairs.items) (values made.pieces.items)) }
     ensures copied { IfOk result (λ made. made.copied ≡ length pairs.items) }
 {
     let copied = pairs.len() as u64;

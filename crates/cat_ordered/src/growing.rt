@@ -26,15 +26,20 @@ pub(crate) fn share_all<P: Drop>(out: &mut Vec<Arc<P>>, pieces: &[Arc<P>]) -> Re
 
 /// Whether both have the fewest parts that pieces with neighbours have, or more.
 fn are_large<K: Ord, V, P: Piece<K, V>>(a: &Arc<P>, b: &Arc<P>) -> bool
-    ensures large { result ≡ true → (16 ≤ P.size (arc_value a.now)) × (16 ≤ P.size (arc_value b.now)) }
-    ensures small { result ≡ false → 16 ≤ P.size (arc_value a.now) → 16 ≤ P.size (arc_value b.now) → ⊥ }
+    ensures large { result ≡ true
+        → (16 ≤ P.size (arc_value a.now)) × (16 ≤ P.size (arc_value b.now)) }
+    ensures small { result ≡ false
+        → 16 ≤ P.size (arc_value a.now)
+        → 16 ≤ P.size (arc_value b.now)
+        → ⊥ }
 {
     a.parts() >= LEAST && b.parts() >= LEAST
 }
 
 /// Adds an owner of the piece.
 fn push_owner<P: Drop>(out: &mut Vec<Arc<P>>, piece: &Arc<P>) -> Result<(), AllocError>
-    ensures { OnOk result (values out.new.items ≡ values out.old.items ++ arc_value piece.now ∷ []) }
+    ensures { OnOk result
+        (values out.new.items ≡ values out.old.items ++ arc_value piece.now ∷ []) }
 {
     out.push(Arc::try_clone(piece)?)?;
     Ok(())
@@ -49,8 +54,11 @@ fn append_after<K: Ord, V, P: Piece<K, V>>(
     next: &Arc<P>,
 ) -> Result<u64, AllocError>
     requires fine { AreFine P.entries P.size P.least (values out.old.items ++ arc_value last ∷ []) }
-    requires piece { IsPiece (P.entries (arc_value next.now)) (P.size (arc_value next.now)) P.least }
-    ensures { IfOk result (λ copied. Appends P.entries P.size P.least (values out.old.items ++ arc_value last ∷ []) (arc_value next.now) (values out.new.items) copied) }
+    requires piece { IsPiece (P.entries (arc_value next.now)) (P.size (arc_value next.now))
+        P.least }
+    ensures { IfOk result
+        (λ copied. Appends P.entries P.size P.least (values out.old.items ++ arc_value last ∷ [])
+        (arc_value next.now) (values out.new.items) copied) }
 {
     if are_large::<K, V, P>(&last, next) {
         out.push(last)?;
@@ -70,8 +78,11 @@ fn append<K: Ord, V, P: Piece<K, V>>(
     next: &Arc<P>,
 ) -> Result<u64, AllocError>
     requires fine { AreFine P.entries P.size P.least (values out.old.items) }
-    requires piece { IsPiece (P.entries (arc_value next.now)) (P.size (arc_value next.now)) P.least }
-    ensures { IfOk result (λ copied. Appends P.entries P.size P.least (values out.old.items) (arc_value next.now) (values out.new.items) copied) }
+    requires piece { IsPiece (P.entries (arc_value next.now)) (P.size (arc_value next.now))
+        P.least }
+    ensures { IfOk result
+        (λ copied. Appends P.entries P.size P.least (values out.old.items) (arc_value next.now)
+        (values out.new.items) copied) }
 {
     match out.pop() {
         None => {
@@ -93,7 +104,9 @@ pub(crate) fn append_all<K: Ord, V, P: Piece<K, V>>(
 ) -> Result<u64, AllocError>
     requires fine { AreFine P.entries P.size P.least (values out.old.items) }
     requires pieces { AreFine P.entries P.size P.least (values pieces.now) }
-    ensures { IfOk result (λ copied. AppendsAll P.entries P.size P.least (values out.old.items) (values pieces.now) (values out.new.items) copied) }
+    ensures { IfOk result
+        (λ copied. AppendsAll P.entries P.size P.least (values out.old.items) (values pieces.now)
+        (values out.new.items) copied) }
 {
     let mut copied = 0u64;
     for piece in pieces {
@@ -154,11 +167,20 @@ fn add<K: Ord, V, P: Piece<K, V>>(
     changes: &[Change<K, V>],
 ) -> Result<u64, AllocError>
     requires fine { AreFine P.entries P.size P.least (values out.old.items) }
-    requires piece { IsPiece (P.entries (arc_value piece.now)) (P.size (arc_value piece.now)) P.least }
+    requires piece { IsPiece (P.entries (arc_value piece.now)) (P.size (arc_value piece.now))
+        P.least }
     requires map { IsMap K.cmp (P.entries (arc_value piece.now)) }
     requires ascend { IsTrue (ascends K.cmp None changes.now) }
-    ensures made { OnOk result (Makes P.entries P.size P.least (flat_map P.entries (values out.old.items) ++ after_changes K.cmp changes.now (P.entries (arc_value piece.now))) (values out.new.items)) }
-    ensures spent { IfOk result (λ copied. (0 < length changes.now) ⊎ (16 ≤ P.size (arc_value piece.now)) → copied + debt P.entries P.size P.least (values out.new.items) ≤ debt P.entries P.size P.least (values out.old.items) + (P.rate + 128) * length changes.now) }
+    ensures made { OnOk result
+        (Makes P.entries P.size P.least
+        (flat_map P.entries (values out.old.items)
+        ++ after_changes K.cmp changes.now (P.entries (arc_value piece.now)))
+        (values out.new.items)) }
+    ensures spent { IfOk result
+        (λ copied. (0 < length changes.now) ⊎ (16 ≤ P.size (arc_value piece.now))
+        → copied + debt P.entries P.size P.least (values out.new.items)
+        ≤ debt P.entries P.size P.least (values out.old.items)
+        + (P.rate + 128) * length changes.now) }
 {
     if changes.is_empty() {
         let copied = append::<K, V, P>(alloc, out, piece)?;
@@ -179,7 +201,10 @@ pub(crate) fn changed<K: Ord, V, P: Piece<K, V>>(
     requires map { IsMap K.cmp (flat_map P.entries (values pieces.now)) }
     requires ascend { IsTrue (ascends K.cmp None changes.now) }
     requires some { 0 < length changes.now }
-    ensures made { IfOk result (λ made. Makes P.entries P.size P.least (after_changes K.cmp changes.now (flat_map P.entries (values pieces.now))) (values made.pieces.items)) }
+    ensures made { IfOk result
+        (λ made. Makes P.entries P.size P.least
+        (after_changes K.cmp changes.now (flat_map P.entries (values pieces.now)))
+        (values made.pieces.items)) }
     ensures few { IfOk result (λ made. made.copied ≤ (P.rate + 128) * length changes.now) }
 {
     if pieces.is_empty() {

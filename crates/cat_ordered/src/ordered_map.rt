@@ -35,7 +35,8 @@ impl<K: Ord + Drop, V: Drop> Model for OrderedMap<K, V> {
 
     ghost view = { λ m. flat_map (λ r. r.entries) (values m.root.items) };
 
-    ghost invariant = { λ m. IsOrdered K.cmp (λ r. r.entries) (λ r. r.size) (16 * (16 * 16)) (values m.root.items) m.len };
+    ghost invariant = { λ m. IsOrdered K.cmp (λ r. r.entries) (λ r. r.size) (16 * (16 * 16))
+        (values m.root.items) m.len };
 }
 
 impl<K: Ord + Drop, V: Drop> Clone for OrderedMap<K, V> {
@@ -88,7 +89,8 @@ impl<K: Ord + Drop, V: Drop> OrderedMap<K, V> {
     /// The value of a key, and with how many keys it was compared: at most `2 * log2(n + 1)` for a
     /// map of n keys.
     pub fn get_counted<Q: Seek<K>>(&self, key: &Q) -> (Option<&V>, u32)
-        ensures value { option_map (λ v. v.now) result.0 ≡ value_of K.cmp self.now (Q.sought key.now) }
+        ensures value { option_map (λ v. v.now) result.0
+            ≡ value_of K.cmp self.now (Q.sought key.now) }
         ensures cost { 2 ^ result.1 ≤ (length self.now + 1) ^ 2 }
     {
         pieces::found(self.root.as_slice(), key)
@@ -181,7 +183,8 @@ impl<K: Ord + Drop, V: Drop> OrderedMap<K, V> {
 
     /// The first pair whose key isn't below this one.
     pub fn first_at_or_after(&self, key: &K) -> Option<&Pair<K, V>>
-        ensures { option_map (λ pair. pair.now) result ≡ first_of (from_key K.cmp self.now key.now) }
+        ensures { option_map (λ pair. pair.now) result
+            ≡ first_of (from_key K.cmp self.now key.now) }
     {
         self.walk_from(key).peek()
     }

@@ -62,8 +62,10 @@ pub(crate) trait Piece<K: Ord, V>: Drop {
     /// The value of a key, and how many keys it was compared with.
     fn get<Q: Seek<K>>(&self, key: &Q) -> (Option<&V>, u32)
         requires { IsMap K.cmp (entries self.now) }
-        ensures value { option_map (λ v. v.now) result.0 ≡ value_of K.cmp (entries self.now) (Q.sought key.now) }
-        ensures cost { 2 ^ result.1 ≤ (length (entries self.now) + 1) * (length (entries self.now) + 1) }
+        ensures value { option_map (λ v. v.now) result.0
+            ≡ value_of K.cmp (entries self.now) (Q.sought key.now) }
+        ensures cost { 2 ^ result.1
+            ≤ (length (entries self.now) + 1) * (length (entries self.now) + 1) }
         ensures most { 0 < size self.now → size self.now ≤ 64 → 2 ^ result.1 ≤ least * least };
 
     /// How many keys are below this one.
@@ -83,13 +85,16 @@ pub(crate) trait Piece<K: Ord, V>: Drop {
         requires ascend { IsTrue (ascends K.cmp None changes.now) }
         requires some { 0 < length changes.now }
         requires fits { size self.now ≤ 64 }
-        ensures made { IfOk result (λ made. Makes entries size least (after_changes K.cmp changes.now (entries self.now)) (values made.pieces.items)) }
+        ensures made { IfOk result
+            (λ made. Makes entries size least (after_changes K.cmp changes.now (entries self.now))
+            (values made.pieces.items)) }
         ensures few { IfOk result (λ made. made.copied ≤ rate * length changes.now) };
 
     /// One or two pieces in place of this one and its neighbour.
     fn joined(&self, alloc: Global, next: &Self) -> Result<Made<Self>, AllocError>
         requires left { size self.now ≤ 64 }
         requires right { size next.now ≤ 64 }
-        ensures made { IfOk result (λ made. Joins entries size least self.now next.now (values made.pieces.items)) }
+        ensures made { IfOk result
+            (λ made. Joins entries size least self.now next.now (values made.pieces.items)) }
         ensures few { IfOk result (λ made. made.copied ≤ 128) };
 }

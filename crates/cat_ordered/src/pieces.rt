@@ -29,8 +29,13 @@ fn seat<K: Ord, V, P: Piece<K, V>, Q: Seek<K>>(pieces: &[Arc<P>], key: &Q) -> (u
     requires some { 0 < length pieces.now }
     requires fine { AreFine P.entries P.size P.least (values pieces.now) }
     ensures within { result.0 < length pieces.now }
-    ensures before { (result.0 ≡ 0) ⊎ (Maps.begins_by K.cmp (flat_map P.entries (drop result.0 (values pieces.now))) (Q.sought key.now) ≡ true) }
-    ensures after { Maps.begins_by K.cmp (flat_map P.entries (drop (result.0 + 1) (values pieces.now))) (Q.sought key.now) ≡ false }
+    ensures before { (result.0 ≡ 0)
+        ⊎ (Maps.begins_by K.cmp (flat_map P.entries (drop result.0 (values pieces.now)))
+        (Q.sought key.now)
+        ≡ true) }
+    ensures after { Maps.begins_by K.cmp
+        (flat_map P.entries (drop (result.0 + 1) (values pieces.now))) (Q.sought key.now)
+        ≡ false }
     ensures cost { 2 ^ result.1 < 2 * length pieces.now }
 {
     let mut low = 0;
@@ -55,9 +60,14 @@ pub(crate) fn found<'a, K: Ord, V, P: Piece<K, V>, Q: Seek<K>>(
 ) -> (Option<&'a V>, u32)
     requires fine { AreFine P.entries P.size P.least (values pieces.now) }
     requires map { IsMap K.cmp (flat_map P.entries (values pieces.now)) }
-    ensures value { option_map (λ v. v.now) result.0 ≡ value_of K.cmp (flat_map P.entries (values pieces.now)) (Q.sought key.now) }
-    ensures cost { 2 ^ result.1 ≤ (length (flat_map P.entries (values pieces.now)) + 1) * (length (flat_map P.entries (values pieces.now)) + 1) }
-    ensures most { 0 < length pieces.now → length pieces.now ≤ 64 → 2 ^ result.1 ≤ 16 * P.least * (16 * P.least) }
+    ensures value { option_map (λ v. v.now) result.0
+        ≡ value_of K.cmp (flat_map P.entries (values pieces.now)) (Q.sought key.now) }
+    ensures cost { 2 ^ result.1
+        ≤ (length (flat_map P.entries (values pieces.now)) + 1) *
+        (length (flat_map P.entries (values pieces.now)) + 1) }
+    ensures most { 0 < length pieces.now
+        → length pieces.now ≤ 64
+        → 2 ^ result.1 ≤ 16 * P.least * (16 * P.least) }
 {
     if pieces.is_empty() {
         return (None, 0);
@@ -76,7 +86,8 @@ fn len_of<K: Ord, V, P: Piece<K, V>>(piece: &Arc<P>) -> usize
 
 /// How many pairs the pieces have, where a number can say it.
 pub(crate) fn total<K: Ord, V, P: Piece<K, V>>(pieces: &[Arc<P>]) -> Option<usize>
-    ensures { MatchOption result (2 ^ 64 ≤ length (flat_map P.entries (values pieces.now))) (λ n. n ≡ length (flat_map P.entries (values pieces.now))) }
+    ensures { MatchOption result (2 ^ 64 ≤ length (flat_map P.entries (values pieces.now)))
+        (λ n. n ≡ length (flat_map P.entries (values pieces.now))) }
 {
     let mut sum = 0usize;
     for piece in pieces {
@@ -120,7 +131,8 @@ pub(crate) fn rest<'a, K: Ord, V, P: Piece<K, V>>(
 ) -> &'a [Pair<K, V>]
     requires { at < length (flat_map P.entries (values pieces.now)) }
     ensures some { 0 < length result.now }
-    ensures front { result.now ≡ take (length result.now) (drop at (flat_map P.entries (values pieces.now))) }
+    ensures front { result.now
+        ≡ take (length result.now) (drop at (flat_map P.entries (values pieces.now))) }
 {
     let mut left = at;
     for piece in pieces {

@@ -30,7 +30,10 @@ impl<K: Ord, V, P: Piece<K, V>> Model for Run<K, V, P> {
 
     ghost Value = { Shape K V };
 
-    ghost view = { λ r. record { entries = flat_map P.entries (values r.pieces.items); size = length r.pieces.items } };
+    ghost view = { λ r. record {
+      entries = flat_map P.entries (values r.pieces.items);
+      size = length r.pieces.items;
+    } };
 
     ghost invariant = { λ r. IsRun P.entries P.size P.least (values r.pieces.items) r.len };
 }
@@ -38,7 +41,12 @@ impl<K: Ord, V, P: Piece<K, V>> Model for Run<K, V, P> {
 /// A run of pieces; refused where no number can say how many pairs they have.
 fn run_of<K: Ord, V, P: Piece<K, V>>(pieces: Vec<Arc<P>>) -> Result<Run<K, V, P>, AllocError>
     requires { AreFine P.entries P.size P.least (values pieces.items) }
-    ensures { IfOk result (λ r. r ≡ record { entries = flat_map P.entries (values pieces.items); size = length pieces.items }) }
+    ensures { IfOk result
+        (λ r. r
+        ≡ record {
+          entries = flat_map P.entries (values pieces.items);
+          size = length pieces.items;
+        }) }
 {
     let Some(len) = pieces::total::<K, V, P>(pieces.as_slice()) else {
         return Err(AllocError);
@@ -56,7 +64,9 @@ fn runs<K: Ord, V, P: Piece<K, V>>(
     pieces: Vec<Arc<P>>,
 ) -> Result<Vec<Arc<Run<K, V, P>>>, AllocError>
     requires { AreFine P.entries P.size P.least (values pieces.items) }
-    ensures { IfOk result (λ v. Cuts (λ r. r.entries) (λ r. r.size) (16 * P.least) (flat_map P.entries (values pieces.items)) (length pieces.items) (values v.items)) }
+    ensures { IfOk result
+        (λ v. Cuts (λ r. r.entries) (λ r. r.size) (16 * P.least)
+        (flat_map P.entries (values pieces.items)) (length pieces.items) (values v.items)) }
 {
     let mut out = Vec::new(alloc);
     let mut rest = pieces;

@@ -51,7 +51,8 @@ fn is_count(text: &str) -> bool
 // What `parse` reads of digits alone: it would take a sign too.
 fn digits(text: &str) -> Result<u32, ParseIntError>
     requires { all_ascii_digits text.now ≡ true }
-    ensures { OkIff result ((0 < length text.now) × (digits_value 10 text.now < 2 ^ 32)) (digits_value 10 text.now) }
+    ensures { OkIff result ((0 < length text.now) × (digits_value 10 text.now < 2 ^ 32))
+        (digits_value 10 text.now) }
 {
     text.parse::<u32>()
 }

@@ -30,7 +30,8 @@ fn is_number(text: &str) -> bool
 
 fn read_digits(text: &str) -> Result<u32, ParseIntError>
     requires { all_ascii_digits text.now ≡ true }
-    ensures { OkIff result ((0 < length text.now) × (digits_value 10 text.now < 2 ^ 32)) (digits_value 10 text.now) }
+    ensures { OkIff result ((0 < length text.now) × (digits_value 10 text.now < 2 ^ 32))
+        (digits_value 10 text.now) }
 {
     text.parse::<u32>()
 }

@@ -28,6 +28,7 @@ use Rattle.cat_model.specs.declared.reply.Merged.{Merged}
 use Rattle.cat_model.specs.declared.reply.ReferencesPage.{ReferencesPage}
 use Rattle.cat_model.specs.declared.reply.Reply.{Reply}
 use Rattle.cat_model.specs.declared.reply.Reply.TheVariants as replies
+use Rattle.cat_model.specs.declared.reply.Swept.{Swept}
 use Rattle.cat_pages.specs.Tokens.{token_text}
 use Rattle.cat_pages.specs.declared.token.Token.{Token}
 use Rattle.cat_pages.specs.declared.token.Token.TheVariants as tokens
@@ -92,6 +93,13 @@ merged_data m = object (no_members
     +> (codes "targetBranch", reference_data m.target)
     +> (codes "wasApplied", boolean m.was_applied)
     +> (codes "wasSuccessful", boolean m.was_successful))
+
+-- what a sweep did
+abbrev pub swept_data : Swept → Data
+swept_data s = object (no_members
+    +> (codes "kept", natural_data s.kept)
+    +> (codes "openedPlace", natural_data s.opened)
+    +> (codes "removed", natural_data s.removed))
 
 -- ---- pages: each tells whether more follows, and the token of the next one where it does
 
@@ -160,6 +168,7 @@ reply_data (replies.Reference reference) = object (no_members
     +> (codes "reference", reference_data reference))
 reply_data (replies.Committed r) = committed_data r
 reply_data (replies.Merged m) = merged_data m
+reply_data (replies.Swept s) = swept_data s
 
 -- ---- none of them has a float, so its text is a function of it
 
@@ -215,3 +224,4 @@ no_float_reply (replies.Content r) = search (floatless, no_float_content, no_flo
 no_float_reply (replies.Reference reference) = search floatless
 no_float_reply (replies.Committed r) = search (floatless, no_float_added)
 no_float_reply (replies.Merged m) = no_float_merged m
+no_float_reply (replies.Swept s) = search floatless

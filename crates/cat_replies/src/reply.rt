@@ -3,7 +3,7 @@
 ghost use Rattle.std.specs.Prelude.{◌≡◌, IfOk, string_bytes};
 ghost use Rattle.serde_json.specs.View.{view};
 ghost use Rattle.serde_json.specs.Written.{compact_text};
-ghost use Rattle.cat_replies.specs.Replies.{added_data, config_data, committed_data, reply_data, no_float_added, no_float_reply};
+ghost use Rattle.cat_replies.specs.Replies.{added_data, config_data, committed_data, reply_data, swept_data, no_float_added, no_float_reply};
 
 use crate::content::{content_reply, contents_reply};
 use crate::history::history_page;
@@ -13,7 +13,7 @@ use crate::reference::{EffectiveForm, ReferenceForm};
 use cat_codes::fault::NoMemory;
 use cat_codes::seq::Seq;
 use cat_json::write::{Object, WriteForm, to_text};
-use cat_model::reply::{Committed, Reply};
+use cat_model::reply::{Committed, Reply, Swept};
 use cat_names::hash::{ContentId, Hash};
 use cat_names::key::ContentKey;
 use serde_json::Value;
@@ -67,6 +67,18 @@ fn committed(alloc: Global, reply: &Committed) -> Result<Value, NoMemory>
     )
 }
 
+fn swept(alloc: Global, reply: &Swept) -> Result<Value, NoMemory>
+    ensures { IfOk result (λ v. view v ≡ swept_data reply.now) }
+{
+    Ok(
+        Object::new(alloc)
+            .with::<u64>("kept", &reply.kept)?
+            .with::<u32>("openedPlace", &reply.opened)?
+            .with::<u64>("removed", &reply.removed)?
+            .into_value(),
+    )
+}
+
 impl WriteForm for ReplyForm {
     type Of = Reply;
 
@@ -94,6 +106,7 @@ impl WriteForm for ReplyForm {
             ),
             Reply::Committed(reply) => committed(alloc, reply),
             Reply::Merged(reply) => merged(alloc, reply),
+            Reply::Swept(reply) => swept(alloc, reply),
         }
     }
 }

@@ -96,7 +96,8 @@ pub(crate) fn content_at(
     part: Option<&str>,
     key: Option<&str>,
 ) -> Result<Wanted, Refused>
-    ensures { Answers result (content_at (option_map (λ s. s.now) part.entry) (option_map (λ s. s.now) key.entry)) }
+    ensures { Answers result
+        (content_at (option_map (λ s. s.now) part.entry) (option_map (λ s. s.now) key.entry)) }
 {
     let at = pointer_at(alloc, part)?;
     let key = key_at(alloc, key)?;

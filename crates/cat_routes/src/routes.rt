@@ -74,8 +74,16 @@ fn next_part<'p>(parts: &mut ParamsIter<'_, '_, 'p>) -> Option<&'p str>
 #[tactic(auto, using(crate::proofs::Texts::are_texts))]
 fn two_parts<'p>(params: &Params<'_, 'p>) -> (Option<&'p str>, Option<&'p str>)
     requires { IsAscii params.now.path.now }
-    ensures first { option_map (λ s. s.now) result.0 ≡ slice_get (map (λ p. p.1) (walk params.now.pattern.now params.now.text.now params.now.path.now params.now.names.now 0 0)) 0 }
-    ensures second { option_map (λ s. s.now) result.1 ≡ slice_get (map (λ p. p.1) (walk params.now.pattern.now params.now.text.now params.now.path.now params.now.names.now 0 0)) 1 }
+    ensures first { option_map (λ s. s.now) result.0
+        ≡ slice_get
+        (map (λ p. p.1)
+        (walk params.now.pattern.now params.now.text.now params.now.path.now params.now.names.now
+        0 0)) 0 }
+    ensures second { option_map (λ s. s.now) result.1
+        ≡ slice_get
+        (map (λ p. p.1)
+        (walk params.now.pattern.now params.now.text.now params.now.path.now params.now.names.now
+        0 0)) 1 }
 {
     let mut parts = params.iter();
     let Some(first) = next_part(&mut parts) else {

@@ -32,11 +32,8 @@ after_change s book fallen = record { book = book; readings = s.readings + 1; fa
 abbrev left_so : Standing → Result Told Refused → State → ℕ → Brought
 left_so s told state draft = record { said = told; logged = []; after = record { state = state; draft = draft; readings = s.readings + 1 } }
 
-book_is : (book : Book) (state : State) (draft : ℕ) (log : List LogEntry) → book.state ≡ state → book.draft ≡ draft → book.log ≡ log → book ≡ record { state = state; draft = draft; log = log }
-book_is book state draft log p q r =
-    let one : book ≡ record { state = state; draft = book.draft; log = book.log } = ap (λ (x : State). record { state = x; draft = book.draft; log = book.log }) p in
-    let two : book ≡ record { state = state; draft = draft; log = book.log } = one ∙ ap (λ (x : ℕ). record { state = state; draft = x; log = book.log }) q in
-    two ∙ ap (λ (x : List LogEntry). record { state = state; draft = draft; log = x }) r
+book_is : (book before : Book) (state : State) (draft : ℕ) (log : List LogEntry) → book.state ≡ state → book.draft ≡ draft → book.log ≡ log → book.base ≡ before.base → book ≡ record before { state = state; draft = draft; log = log }
+book_is book before state draft log p q r s = λ i. record { state = p i; draft = q i; log = r i; base = s i }
 
 -- the call was given up for want of memory, or that is told in place of what was
 given_up_is : (s : Standing) (told : Result Told Refused) (state : State) (draft : ℕ) → told ≡ Err given_up → state ≡ s.book.state → s.book.draft ≤ draft → draft ≤ s.book.draft + 1 → IsGivenUp (session_of s) (left_so s told state draft)
@@ -81,7 +78,7 @@ called k s m command after told at w p =
       said = p.said;
       or_given_up = λ h. at_fallen k s None m _ _ at (inl (
         inr (given_up_is s (Err given_up) c.state c.draft refl (spares h).state draft.kept draft.taken),
-        record { book = p.book ∙ ap (λ (l : List LogEntry). record { state = c.state; draft = c.draft; log = l ++ s.book.log }) (spares h).logged; readings = refl },
+        record { book = p.book ∙ ap (λ (l : List LogEntry). record (s.book) { state = c.state; draft = c.draft; log = l ++ s.book.log }) (spares h).logged; readings = refl },
         refl,
       ));
     }
@@ -92,10 +89,10 @@ gives_up k s None m b s' at given went = inl (inr given, went, at)
 gives_up k s (Some f) m b s' at given went = (inr given, went, at)
 
 -- the call was given up for want of memory
-pub given_up_change : (k : Readings) (s : Standing) (m : Message) (after : Book) (place : Option ℕ)
+pub given_up_change : (k : Readings) (s : Standing) (m : Message) (after : Book) (place : Option ℕ) → after.base ≡ s.book.base
     → LeavesBook s.book after (record { place = place; why = NoMemory }) → Brings k s m (no_memory_at place) (left_so s (no_memory_at place) after.state after.draft) (after_change s after s.fallen)
-given_up_change k s m after place p =
-    let went : (told : Result Told Refused) → Went s (after_change s after s.fallen) (left_so s told after.state after.draft) = λ told. record { book = book_is after after.state after.draft s.book.log refl refl p.log; readings = refl } in
+given_up_change k s m after place base p =
+    let went : (told : Result Told Refused) → Went s (after_change s after s.fallen) (left_so s told after.state after.draft) = λ told. record { book = book_is after s.book after.state after.draft s.book.log refl refl p.log base; readings = refl } in
     record {
       comes = gives_up k s s.fallen m _ _ refl (given_up_is s (no_memory_at place) after.state after.draft (ap no_memory_at p.place) p.state p.draft_kept p.draft_taken) (went _);
       said = refl;
@@ -118,7 +115,7 @@ falls k s m command after place fallen at w is one p =
         said = ap (λ (x : Option ℕ). Err (record { place = x; why = Fault })) is;
         logged = refl;
         after_is = ap (λ (x : Result Wanted Refusal). record { state = s.book.state; draft = (request sha256 1 k (session_of s) x).after.draft; readings = s.readings + 1 }) (sym w);
-        went = record { book = book_is after s.book.state c.draft s.book.log p.state p.draft p.log; readings = refl };
+        went = record { book = book_is after s.book s.book.state c.draft s.book.log p.state p.draft p.log p.base; readings = refl };
         down = refl;
       }));
       said = refl;

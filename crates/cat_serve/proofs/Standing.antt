@@ -4,7 +4,7 @@ use Rattle.sha2.specs.Sha256.{sha256}
 use Rattle.cat_model.specs.declared.ask.Ask.{Ask}
 use Rattle.cat_model.specs.declared.command.Command.{Command}
 use Rattle.cat_model.specs.declared.refusal.Refusal.{Refusal}
-use Rattle.cat_model.specs.declared.refusal.Refusal.TheVariants.{Down, Expired, Fault, NoMemory, RetriesSpent}
+use Rattle.cat_model.specs.declared.refusal.Refusal.TheVariants.{Down, Fault, NoMemory, RetriesSpent}
 use Rattle.cat_model.specs.declared.refusal.Refused.{Refused}
 use Rattle.cat_model.specs.declared.reply.Told.{Told}
 use Rattle.cat_model.specs.declared.wanted.Wanted.{Wanted}
@@ -103,7 +103,7 @@ module _ (desk : DeskId) where
         → RefusesAlone 1 (call_on sha256 1 s.book command (k s.readings)) s.book (book_of desk q) (mark_of p).fault (mark_of q).fault (record { place = place; why = why }) why
         → BringsOn (moment ∷ []) k s m (Err (record { place = place; why = why })) q
     refused_by place NoMemory a =
-        (_, after_change s (book_of desk q) s.fallen, given_up_change k s m (book_of desk q) place a.0, stands_at s.fallen (ap seen_failed a.1 ∙ at.fault_is), refl)
+        (_, after_change s (book_of desk q) s.fallen, given_up_change k s m (book_of desk q) place (ap (λ (b : Book). b.base) at.book_is) a.0, stands_at s.fallen (ap seen_failed a.1 ∙ at.fault_is), refl)
     refused_by place Fault a =
         let fallen : Fallen = record { count = a.fault.count; entry = a.entry } in (
           _,
@@ -124,7 +124,6 @@ module _ (desk : DeskId) where
           refl,
         )
     refused_by place (RetriesSpent pairs) a = absurd a
-    refused_by place (Expired keys opened) a = absurd a
     refused_by place why a =
         (_, after_change s (book_of desk q) None, called k s m command (book_of desk q) _ (none_fell (mark_of p).fault s.fallen at.fault_is a.1) w a.0, stands_at None (ap seen_failed a.2), refl)
 

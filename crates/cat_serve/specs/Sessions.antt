@@ -66,7 +66,7 @@ session_of s = record { state = s.book.state; draft = s.book.draft; readings = s
 
 -- what a request brought on a store, which it left so
 pub record Went (before after : Standing) (b : Brought) : Type 0 where
-  pub book : after.book ≡ record { state = b.after.state; draft = b.after.draft; log = b.logged ++ before.book.log }
+  pub book : after.book ≡ record (before.book) { state = b.after.state; draft = b.after.draft; log = b.logged ++ before.book.log }
   pub readings : after.readings ≡ b.after.readings
 
 -- a request while the store is down: a change is told so, once its moment is taken, and all others are answered as ever

@@ -1,5 +1,5 @@
 -- Adding a content or a commit that is new, or that is there already.
-use Rattle.std.proofs.Common.{◌≡◌, ℕ, ◌+◌, ◌<◌, List, [], ◌∷◌, ◌++◌, Option, Some, None, Result, Ok, Bool, true, false, is_some, is_none, not, length, drop, get_or, IsTrue, refl, sym, ap, subst, ◌∙◌, arith}
+use Rattle.std.proofs.Common.{◌≡◌, ℕ, ◌+◌, ◌<◌, List, [], ◌∷◌, ◌++◌, Option, Some, None, Result, Ok, Bool, true, false, is_some, is_none, not, length, drop, get_or, refl, sym, ap, subst, ◌∙◌, arith}
 use Rattle.std.specs.Option.{option_map}
 use Rattle.std.proofs.lemmas.List.{drop_more}
 use Rattle.sha2.specs.Sha256.{sha256}
@@ -25,9 +25,8 @@ use Rattle.cat_state.specs.declared.failure.Failure.{Failure}
 use Rattle.cat_state.specs.Adding.{HasCommit, holding, keeping, with_both}
 use Rattle.cat_state.specs.Changing.{AreBeside, AreNewTo, with_additions}
 use Rattle.cat_state.specs.Giving.{GivesAs}
-use Rattle.cat_state.specs.Keeping.{MayBeAdded, has_contents}
+use Rattle.cat_state.specs.Keeping.{IsHeldAt, MayBeAdded, has_contents}
 use Rattle.cat_state.proofs.Heads.{known_more}
-use Rattle.cat_state.proofs.Held.{maps_stay, there_more}
 use Rattle.cat_state.proofs.Kept.{next_of, none_by}
 use Rattle.cat_state.proofs.Upon.{entries_at}
 
@@ -72,7 +71,6 @@ content_more state old contents hash c are absent is = record {
   linked = are.linked;
   beside = are.beside;
   distinct = rw is (both_true _ _ (ap is_none absent) are.distinct);
-  held = rw is (maps_stay (old.contents.list ++ state.present) ((hash, c) ∷ old.contents.list ++ state.present) old.maps.list (there_more (hash, c) (old.contents.list ++ state.present)) are.held);
 }
 
 -- where there is no commit there is no map beside it
@@ -84,16 +82,15 @@ map_absent older (x ∷ commits) (m ∷ maps) hash are e =
     (subst (λ (h : Hash). commit_of ((h, x.1) ∷ commits ++ older) hash ≡ None) (sym (are.0).hash) e)
 
 -- one commit more, with the map at it, under a hash that is not there
-pub commit_more : (state : State) (old new : Additions) (hash : Hash) (c : Commit) (map : Map) → AreNewTo state old → MayBeAdded (with_additions state old).commits c map → IsTrue (has_contents (with_additions state old).present map)
+pub commit_more : (state : State) (old new : Additions) (hash : Hash) (c : Commit) (map : Map) → AreNewTo state old → MayBeAdded (with_additions state old).commits c map
     → commit_of (with_additions state old).commits hash ≡ None → same_hash (no_ancestor sha256) hash ≡ false → new.commits.list ≡ (hash, c) ∷ old.commits.list → new.maps.list ≡ (hash, map) ∷ old.maps.list → new.contents ≡ old.contents → HasCommit state old new hash map
-commit_more state old new hash c map are next held absent below commits maps contents =
+commit_more state old new hash c map are next absent below commits maps contents =
     let before : Commits = old.commits.list ++ state.commits in
     record {
       additions = record {
         linked = rw commits (absent, next_of before hash c map next below, are.linked);
         beside = rw (commits, maps) (record { hash = refl; changed = next.changed; well_formed = next.well_formed }, are.beside);
         distinct = rw contents are.distinct;
-        held = rw (contents, maps) (both_true _ _ held are.held);
       };
       contents = contents;
       grows = λ other e. rw commits (known_more (hash, c) before other e);
@@ -112,6 +109,12 @@ commit_there state a hash c map are next there = record {
   changed = entries_at (with_additions state a).commits hash c are.linked there ∙ sym next.changed;
   count = omega arith;
 }
+
+-- what is visible at a commit that was added is held where the contents of its map are
+pub added_held : (state : State) (old new : Additions) (hash : Hash) (map : Map) → HasCommit state old new hash map → has_contents (with_additions state old).present map ≡ true → IsHeldAt (with_additions state new) hash
+added_held state old new hash map added there =
+    subst (λ (m : Map). has_contents (with_additions state new).present m ≡ true) (sym added.changed)
+    (subst (λ (l : Recorded Content). has_contents (l.list ++ state.present) map ≡ true) (sym added.contents) there)
 
 -- ---- in turn
 

@@ -1,22 +1,20 @@
 -- Where references point.
-use Rattle.std.proofs.Common.{◌≡◌, ℕ, List, [], ◌∷◌, Option, Some, Bool, true, false, cond, ◌||◌, IsTrue, is_some, refl, subst, ◌⊎◌, inl, inr, ⊎_elim}
+use Rattle.std.proofs.Common.{◌≡◌, ℕ, List, [], ◌∷◌, ◌++◌, Option, Some, Bool, true, false, cond, ◌||◌, IsTrue, is_some, refl, subst, ◌⊎◌, inl, inr, ⊎_elim}
 use Rattle.std.proofs.lemmas.Option.{same_Some}
+use Rattle.std.specs.List.{list_any}
 use Rattle.std.specs.Str.{bytes_eq}
 use Rattle.sha2.specs.Sha256.{sha256}
 use Rattle.cat_names.specs.declared.hash.Hash.{Hash}
-use Rattle.cat_tables.specs.ReferenceLaws.{and_true, both_true}
+use Rattle.cat_tables.specs.ReferenceLaws.{and_true}
 use Rattle.cat_tables.specs.References.{heads_pass}
 use Rattle.cat_graph.specs.GraphLaws.{same_is}
 use Rattle.cat_graph.specs.Linked.{AreLinked, is_known}
 use Rattle.cat_model.specs.declared.commit.Commit.{Commit}
-use Rattle.cat_model.specs.declared.content.Content.{Content}
-use Rattle.cat_model.specs.declared.limits.Limits.{Limits}
 use Rattle.cat_model.specs.declared.reference.Reference.{Reference}
 use Rattle.cat_model.specs.Chain.{Commits, commit_of, on_chain}
-use Rattle.cat_model.specs.Maps.{Map}
 use Rattle.cat_model.specs.Same.{same_hash}
 use Rattle.cat_model.specs.State.{no_ancestor, reference_of}
-use Rattle.cat_state.specs.Keeping.{AreKept, IsCatalogue, have_contents}
+use Rattle.cat_state.specs.HeldLaws.{all_more}
 
 -- ---- what is known
 
@@ -27,6 +25,10 @@ more_by false c found none e = e
 -- what is known stays so
 pub known_more : (x : Hash × Commit) (older : Commits) (hash : Hash) → IsTrue (is_known older hash) → IsTrue (is_known (x ∷ older) hash)
 known_more x older hash e = more_by (same_hash x.0 hash) x.1 (commit_of older hash) (same_hash (no_ancestor sha256) hash) e
+
+pub all_known : (more older : Commits) (hash : Hash) → IsTrue (is_known older hash) → IsTrue (is_known (more ++ older) hash)
+all_known [] older hash e = e
+all_known (x ∷ more) older hash e = known_more x (more ++ older) hash (all_known more older hash e)
 
 known_less : (x : Hash × Commit) (older : Commits) (hash : Hash) → same_hash x.0 hash ≡ false → IsTrue (is_known (x ∷ older) hash) → IsTrue (is_known older hash)
 known_less x older hash e known = rw e at known
@@ -53,32 +55,24 @@ chain_is_known (x ∷ older) head hash are on known =
 
 -- ---- references
 
-found_by : (b : Bool) (commits : Commits) (r : Reference) (found : Option Reference) (s : Reference) → IsTrue (is_known commits r.head) → (found ≡ Some s → IsTrue (is_known commits s.head)) → cond b (Some r) found ≡ Some s → IsTrue (is_known commits s.head)
-found_by true commits r found s known more e = subst (λ (x : Reference). IsTrue (is_known commits x.head)) (same_Some r s e) known
-found_by false commits r found s known more e = more e
+found_by : (b : Bool) (pass : Hash → Bool) (r : Reference) (found : Option Reference) (s : Reference) → pass r.head ≡ true → (found ≡ Some s → pass s.head ≡ true) → cond b (Some r) found ≡ Some s → pass s.head ≡ true
+found_by true pass r found s passes more e = subst (λ (x : Reference). pass x.head ≡ true) (same_Some r s e) passes
+found_by false pass r found s passes more e = more e
 
--- a reference that is found points at what is known
-pub named_is_known : (commits : Commits) (references : List Reference) (name : List ℕ) (s : Reference) → IsTrue (heads_pass (is_known commits) references) → reference_of references name ≡ Some s → IsTrue (is_known commits s.head)
-named_is_known commits [] name s are e = absurd cc
-named_is_known commits (r ∷ references) name s are e =
-    let both = and_true (is_known commits r.head) (heads_pass (is_known commits) references) are in
-    found_by (bytes_eq r.name name) commits r (reference_of references name) s both.0 (named_is_known commits references name s both.1) e
+-- the head of a reference that is found passes what each does
+pub named_passes : (pass : Hash → Bool) (references : List Reference) (name : List ℕ) (s : Reference) → heads_pass pass references ≡ true → reference_of references name ≡ Some s → pass s.head ≡ true
+named_passes pass [] name s are e = absurd cc
+named_passes pass (r ∷ references) name s are e =
+    let both = and_true (pass r.head) (heads_pass pass references) are in
+    found_by (bytes_eq r.name name) pass r (reference_of references name) s both.0 (named_passes pass references name s both.1) e
+
+-- a hash that a reference points at passes what each head does
+pub head_passes : (pass : Hash → Bool) (references : List Reference) (hash : Hash) → heads_pass pass references ≡ true → list_any (λ r. same_hash r.head hash) references ≡ true → pass hash ≡ true
+head_passes pass [] hash are e = absurd cc
+head_passes pass (r ∷ references) hash are e =
+    let both = and_true (pass r.head) (heads_pass pass references) are in
+    ⊎_elim (λ (same : same_hash r.head hash ≡ true). subst (λ (h : Hash). pass h ≡ true) (same_is r.head hash same) both.0) (head_passes pass references hash both.1) (either _ _ e)
 
 -- what references point at stays known
 pub heads_more : (older commits : Commits) (references : List Reference) → ((hash : Hash) → IsTrue (is_known older hash) → IsTrue (is_known commits hash)) → IsTrue (heads_pass (is_known older) references) → IsTrue (heads_pass (is_known commits) references)
-heads_more older commits [] more are = refl
-heads_more older commits (r ∷ references) more are =
-    let both = and_true (is_known older r.head) (heads_pass (is_known older) references) are in
-    both_true _ _ (more r.head both.0) (heads_more older commits references more both.1)
-
--- ---- catalogues
-
--- other references that point at what is known
-pub catalogue_with : (limits : Limits) (references others : List Reference) (commits : Commits) (maps : List (Hash × Map)) (contents : List (Hash × Content)) → IsCatalogue limits references commits maps contents → IsTrue (heads_pass (is_known commits) others) → IsCatalogue limits others commits maps contents
-catalogue_with limits references others commits maps contents is heads = record { log_bound = is.log_bound; commits_bound = is.commits_bound; kept = is.kept; heads = heads; held = is.held }
-
--- more commits, the maps at them, and contents
-pub catalogue_grown : (limits : Limits) (references : List Reference) (older commits : Commits) (maps more : List (Hash × Map)) (present contents : List (Hash × Content)) → IsCatalogue limits references older maps present → AreKept more commits
-    → ((h : Hash) → IsTrue (is_known older h) → IsTrue (is_known commits h)) → IsTrue (have_contents contents more) → IsCatalogue limits references commits more contents
-catalogue_grown limits references older commits maps more present contents is kept grows held =
-    record { log_bound = is.log_bound; commits_bound = is.commits_bound; kept = kept; heads = heads_more older commits references grows is.heads; held = held }
+heads_more older commits references more are = all_more (λ r. is_known older r.head) (λ r. is_known commits r.head) references (λ r e. more r.head e) are

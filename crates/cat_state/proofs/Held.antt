@@ -1,17 +1,17 @@
--- Contents that are there after more are added, and at the maps that are kept.
-use Rattle.std.proofs.Common.{◌≡◌, ℕ, List, [], ◌∷◌, Option, Some, None, Ok, Err, Bool, true, false, cond, if◌then◌else◌, ◌||◌, is_some, map, find, refl, sym, ap, subst}
+-- Contents that are there after more are added, or after some go.
+use Rattle.std.proofs.Common.{◌≡◌, ℕ, List, [], ◌∷◌, Option, Some, None, Ok, Err, Bool, true, false, cond, if◌then◌else◌, ◌||◌, is_some, map, find, not, refl, sym, ap, subst, ◌∙◌}
+use Rattle.std.proofs.lemmas.Bool.{false_from_ne_true}
 use Rattle.std.specs.List.{list_all, list_any}
 use Rattle.std.specs.Option.{option_map}
 use Rattle.std.specs.Str.{bytes_eq}
 use Rattle.sha2.specs.Sha256.{sha256}
 use Rattle.cat_names.specs.declared.hash.Hash.{Hash}
 use Rattle.cat_graph.specs.GraphLaws.{same_is}
-use Rattle.cat_tables.specs.ReferenceLaws.{and_true, is_same}
-use Rattle.cat_keymap.specs.MapsAt.{map_at}
+use Rattle.cat_tables.specs.ReferenceLaws.{is_same}
 use Rattle.cat_model.specs.declared.content.Content.{Content}
 use Rattle.cat_model.specs.declared.refusal.Refusal.{Refusal}
 use Rattle.cat_model.specs.declared.refusal.Refusal.TheVariants.{Collision}
-use Rattle.cat_model.specs.Chain.{Commits, entries}
+use Rattle.cat_model.specs.Base.{is_among}
 use Rattle.cat_model.specs.Contents.{content_code}
 use Rattle.cat_model.specs.Maps.{Map}
 use Rattle.cat_model.specs.Records.{added, content_bytes, with_content, with_contents}
@@ -19,9 +19,9 @@ use Rattle.cat_model.specs.Same.{same_hash}
 use Rattle.cat_model.specs.State.{State, content_at, content_hash}
 use Rattle.cat_state.specs.Adding.{AreHashesOf}
 use Rattle.cat_state.specs.GivingLaws.{passed_by}
-use Rattle.cat_state.specs.HeldLaws.{all_more}
-use Rattle.cat_state.specs.Keeping.{AreKept, found_map, has_contents, have_contents, is_held}
-use Rattle.cat_state.proofs.Kept.{map_is}
+use Rattle.cat_state.specs.HeldLaws.{all_both, all_more}
+use Rattle.cat_state.specs.Keeping.{has_contents, is_held}
+use Rattle.cat_state.specs.Sweeping.{spares, without}
 
 abbrev pub Contents : Type 0
 Contents = List (Hash × Content)
@@ -109,11 +109,9 @@ either_there : (a b : Bool) (P : Type 0) → (a ≡ true → P) → (b ≡ true 
 either_there true b P f g e = f refl
 either_there false b P f g e = g e
 
--- the contents of maps stay there
-pub maps_stay : (older newer : Contents) (maps : List (Hash × Map)) → Grows older newer → have_contents older maps ≡ true → have_contents newer maps ≡ true
-maps_stay older newer maps grows are =
-    all_more (λ m. has_contents older m.1) (λ m. has_contents newer m.1) maps
-    (λ m there. all_more (λ x. is_there older x.1.hash) (λ x. is_there newer x.1.hash) m.1 (λ x e. grows x.1.hash e) there) are
+-- the contents of a map stay there
+pub map_stays : (older newer : Contents) (map : Map) → Grows older newer → has_contents older map ≡ true → has_contents newer map ≡ true
+map_stays older newer map grows there = all_more (λ x. is_there older x.1.hash) (λ x. is_there newer x.1.hash) map (λ x e. grows x.1.hash e) there
 
 -- the contents of a map that was held are there
 pub map_there : (older newer : Contents) (hashes : List Hash) (map : Map) → AreThere older newer hashes → list_all (λ x. is_held older hashes x.1.hash) map ≡ true → has_contents newer map ≡ true
@@ -121,17 +119,33 @@ map_there older newer hashes map are held =
     all_more (λ x. is_held older hashes x.1.hash) (λ x. is_there newer x.1.hash) map
     (λ x e. either_there (is_there older x.1.hash) (list_any (λ other. same_hash other x.1.hash) hashes) (is_there newer x.1.hash ≡ true) (are.grows x.1.hash) (are.hold x.1.hash) e) held
 
-found_by : (b : Bool) (contents : Contents) (m : Map) (found : Option Map) → has_contents contents m ≡ true → has_contents contents (found_map found) ≡ true → has_contents contents (found_map (cond b (Some m) found)) ≡ true
-found_by true contents m found h g = h
-found_by false contents m found h g = g
+-- ---- contents that go
 
-found_there : (contents : Contents) (maps : List (Hash × Map)) (hash : Hash) → have_contents contents maps ≡ true → has_contents contents (found_map (map_at maps hash)) ≡ true
-found_there contents [] hash are = refl
-found_there contents (m ∷ maps) hash are =
-    let both = and_true (has_contents contents m.1) (have_contents contents maps) are in
-    found_by (same_hash m.0 hash) contents m.1 (map_at maps hash) both.0 (found_there contents maps hash both.1)
+-- what has one of the hashes has another than what has none
+others : (hashes : List Hash) (gone hash : Hash) → is_among hashes hash ≡ false → is_among hashes gone ≡ true → same_hash gone hash ≡ false
+others hashes gone hash spared among = false_from_ne_true (same_hash gone hash) (λ e.
+    let same : is_among hashes hash ≡ true = subst (λ (h : Hash). is_among hashes h ≡ true) (same_is gone hash e) among in
+    absurd cc)
 
--- the contents that are visible at each commit are there
-pub held_entries : (contents : Contents) (maps : List (Hash × Map)) (commits : Commits) (hash : Hash) → AreKept maps commits → have_contents contents maps ≡ true → has_contents contents (entries commits hash) ≡ true
-held_entries contents maps commits hash kept are =
-    subst (λ (m : Map). has_contents contents m ≡ true) (sym (map_is maps commits hash kept)) (found_there contents maps hash are)
+found_by : (b : Bool) (x : Hash × Content) (hash : Hash) (left present : Contents) → (b ≡ true → same_hash x.0 hash ≡ false) → find (λ y. same_hash y.0 hash) left ≡ find (λ y. same_hash y.0 hash) present
+    → find (λ y. same_hash y.0 hash) (cond (not b) (x ∷ left) left) ≡ find (λ y. same_hash y.0 hash) (x ∷ present)
+found_by true x hash left present other e = rw (other refl) e
+found_by false x hash left present other e = rw e refl
+
+found_stays : (hashes : List Hash) (present : Contents) (hash : Hash) → is_among hashes hash ≡ false → find (λ y. same_hash y.0 hash) (without hashes present) ≡ find (λ y. same_hash y.0 hash) present
+found_stays hashes [] hash spared = refl
+found_stays hashes (x ∷ present) hash spared = found_by (is_among hashes x.0) x hash (without hashes present) present (others hashes x.0 hash spared) (found_stays hashes present hash spared)
+
+not_true : (b : Bool) → not b ≡ true → b ≡ false
+not_true true e = absurd cc
+not_true false e = refl
+
+-- the content of a hash that isn't among them stays
+pub content_stays : (hashes : List Hash) (present : Contents) (hash : Hash) → is_among hashes hash ≡ false → content_at (without hashes present) hash ≡ content_at present hash
+content_stays hashes present hash spared = ap (option_map (λ (y : Hash × Content). y.1)) (found_stays hashes present hash spared)
+
+-- and so do those of a map that is spared
+pub spared_stays : (hashes : List Hash) (present : Contents) (map : Map) → has_contents present map ≡ true → spares hashes map ≡ true → has_contents (without hashes present) map ≡ true
+spared_stays hashes present map there spared =
+    all_both (λ x. is_there present x.1.hash) (λ x. not (is_among hashes x.1.hash)) (λ x. is_there (without hashes present) x.1.hash) map
+    (λ x e f. ap is_some (content_stays hashes present x.1.hash (not_true (is_among hashes x.1.hash) f)) ∙ e) there spared

@@ -30,7 +30,7 @@ use Rattle.cat_state.specs.HeldLaws.{all_more}
 use Rattle.cat_state.specs.Keeping.{MayBeAdded}
 use Rattle.cat_state.specs.Planning.{IsMadeUpon}
 use Rattle.cat_state.specs.KeepingLaws.{next_of_one}
-use Rattle.cat_state.proofs.Heads.{known_more}
+use Rattle.cat_state.proofs.Heads.{all_known, known_more}
 
 -- ---- the same bytes are of the same commit
 
@@ -73,6 +73,11 @@ ChangedAt commits hash c = entries commits hash ≡ after_changes c.ops (entries
 
 still : (x : Hash × Commit) (older : Commits) (hash : Hash) → AreLinked (x ∷ older) → IsTrue (is_known older hash) → entries (x ∷ older) hash ≡ entries older hash
 still x older hash are known = entries_before older x.0 x.1 hash (apart older x.0 hash are.0 (are.1).has_ancestor known)
+
+-- the map at a known hash stays the same below commits that are added
+pub entries_stay : (more older : Commits) (hash : Hash) → AreLinked (more ++ older) → IsTrue (is_known older hash) → entries (more ++ older) hash ≡ entries older hash
+entries_stay [] older hash are known = refl
+entries_stay (x ∷ more) older hash are known = still x (more ++ older) hash are (all_known more older hash known) ∙ entries_stay more older hash are.2 known
 
 newest : (x : Hash × Commit) (older : Commits) → AreLinked (x ∷ older) → ChangedAt (x ∷ older) x.0 x.1
 newest x older are = entries_new older x.0 x.1 ∙ ap (after_changes (x.1).ops) (sym (still x older (x.1).parent are (are.1).parent))

@@ -13,7 +13,7 @@ use Rattle.cat_state.specs.declared.additions.Additions.{Additions}
 use Rattle.cat_state.specs.declared.change.Change.{Change}
 use Rattle.cat_state.specs.declared.change.ReferenceChange.{ReferenceChange}
 use Rattle.cat_state.specs.declared.change.ReferenceChange.TheVariants.{Made, Moved, Removed}
-use Rattle.cat_state.specs.Keeping.{IsBeside, have_contents}
+use Rattle.cat_state.specs.Keeping.{IsBeside, IsHeldAt}
 
 -- ---- what is added
 
@@ -28,12 +28,11 @@ AreBeside older [] (m ∷ maps) = ⊥
 AreBeside older (x ∷ commits) [] = ⊥
 AreBeside older (x ∷ commits) (m ∷ maps) = IsBeside (commits ++ older) x m × AreBeside older commits maps
 
--- additions to a state: none of their hashes comes twice or is there, each commit stands above its parents with its map beside it, and each content that is visible at one is there or among them
+-- additions to a state: none of their hashes comes twice or is there, and each commit stands above its parents with its map beside it
 pub record AreNewTo (state : State) (a : Additions) : Type 0 where
   pub linked : AreLinked (a.commits.list ++ state.commits)
   pub beside : AreBeside state.commits a.commits.list a.maps.list
   pub distinct : IsTrue (are_distinct (a.contents.list ++ state.present))
-  pub held : IsTrue (have_contents (a.contents.list ++ state.present) a.maps.list)
 
 -- ---- what becomes of a reference
 
@@ -42,10 +41,15 @@ changed_references references (Made reference) = with_reference references refer
 changed_references references (Moved reference) = moved_reference references reference
 changed_references references (Removed name) = without_reference references name
 
--- it points at what is known, and one that is made has a new name
+-- a head is known, and each content that is visible there is held
+pub record MayBeHead (state : State) (head : Hash) : Type 0 where
+  pub known : IsTrue (is_known sha256 state head)
+  pub held : IsHeldAt state head
+
+-- it points where a head may be, and one that is made has a new name
 abbrev pub MayBecome : State → ReferenceChange → Type 0
-MayBecome state (Made reference) = (reference_of state.references reference.name ≡ None) × IsTrue (is_known sha256 state reference.head)
-MayBecome state (Moved reference) = IsTrue (is_known sha256 state reference.head)
+MayBecome state (Made reference) = (reference_of state.references reference.name ≡ None) × MayBeHead state reference.head
+MayBecome state (Moved reference) = MayBeHead state reference.head
 MayBecome state (Removed name) = Unit {0}
 
 -- ---- all of it

@@ -53,13 +53,13 @@ is_held present others hash = is_some (state.content_at present hash) || list_an
 abbrev pub has_contents : List (Hash × Content) → Map → Bool
 has_contents present map = list_all (λ x. is_some (state.content_at present x.1.hash)) map
 
--- so it is of each map
-abbrev pub have_contents : List (Hash × Content) → List (Hash × Map) → Bool
-have_contents present maps = list_all (λ m. has_contents present m.1) maps
+-- so it is of each entry that is visible at a commit
+abbrev pub is_held_at : Commits → List (Hash × Content) → Hash → Bool
+is_held_at commits present hash = has_contents present (entries commits hash)
 
--- maps that are kept beside older ones: contents of the older ones' entries and of this one's are contents of theirs
-abbrev pub HoldsMore : Map → List (Hash × Map) → List (Hash × Map) → Type 0
-HoldsMore map older maps = (present : List (Hash × Content)) → IsTrue (have_contents present older) → IsTrue (has_contents present map) → IsTrue (have_contents present maps)
+-- there is a content of each entry that is visible at the commit in this state
+abbrev pub IsHeldAt : state.State → Hash → Type 0
+IsHeldAt s hash = IsTrue (is_held_at s.commits s.present hash)
 
 -- ---- references
 
@@ -70,10 +70,10 @@ IsAtCommit s (Some r) = IsTrue (state.is_known sha256 s r.head)
 
 -- ---- all of it
 
--- what holds of a catalogue's parts: places and generations don't pass their types' ends, each reference points at a commit or at the hash that has no ancestor, and each content that is visible at a commit is there
+-- what holds of a catalogue's parts: places and generations don't pass their types' ends, each reference points at a commit or at the hash that has no ancestor, and each content that is visible where one points is there
 pub record IsCatalogue (limits : Limits) (references : List Reference) (commits : Commits) (maps : List (Hash × Map)) (contents : List (Hash × Content)) : Type 0 where
   pub log_bound : limits.log ≤ 4294967295
   pub commits_bound : limits.commits ≤ 4294967295
   pub kept : AreKept maps commits
   pub heads : IsTrue (heads_pass (is_known commits) references)
-  pub held : IsTrue (have_contents contents maps)
+  pub held : IsTrue (heads_pass (is_held_at commits contents) references)

@@ -4,6 +4,7 @@ pub mod Giving
 pub mod GivingLaws
 pub mod Adding
 pub mod Changing
+pub mod Sweeping
 pub mod Changed
 pub mod ChangingLaws
 pub mod Kept

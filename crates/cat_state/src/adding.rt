@@ -11,7 +11,7 @@ ghost use Rattle.cat_model.specs.State.{content_hash, is_known, no_ancestor};
 ghost use Rattle.cat_state.specs.Adding.{AreHashesOf, HasCommit, IsRecordOf, holding, keeping, with_both};
 ghost use Rattle.cat_state.specs.Changing.{AreNewTo, with_additions};
 ghost use Rattle.cat_state.specs.Giving.{GivesAs};
-ghost use Rattle.cat_state.specs.Keeping.{MayBeAdded, has_contents, is_held};
+ghost use Rattle.cat_state.specs.Keeping.{IsHeldAt, MayBeAdded, is_held};
 
 use crate::additions::Additions;
 use crate::catalogue::Catalogue;
@@ -144,7 +144,6 @@ impl Catalogue {
     fn push_commit(&self, more: &mut Additions, made: NewCommit) -> Result<(), NoMemory>
         requires new { AreNewTo self.now more.old }
         requires next { MayBeAdded (with_additions self.now more.old).commits made.commit made.map }
-        requires held { IsTrue (has_contents (with_additions self.now more.old).present made.map) }
         requires absent { commit_of (with_additions self.now more.old).commits made.written.hash
             ≡ None }
         requires below { same_hash (no_ancestor sha256) made.written.hash ≡ false }
@@ -175,7 +174,6 @@ impl Catalogue {
     ) -> Result<(), Failure>
         requires new { AreNewTo self.now more.old }
         requires next { MayBeAdded (with_additions self.now more.old).commits made.commit made.map }
-        requires held { IsTrue (has_contents (with_additions self.now more.old).present made.map) }
         requires written { IsRecordOf made.commit made.written }
         ensures step { GivesAs (λ _. with_additions self.now more.new) result
             (with_commit sha256 (with_additions self.now more.old) made.commit) }
@@ -209,6 +207,8 @@ impl Catalogue {
         ensures new { IfOk result (AreNewTo self.now) }
         ensures known { IfOk result
             (λ a. IsTrue (is_known sha256 (with_additions self.now a) made.written.hash)) }
+        ensures held { IfOk result
+            (λ a. IsHeldAt (with_additions self.now a) made.written.hash) }
     {
         let mut more = self.no_additions(alloc);
         self.add_contents(alloc, &mut more, contents, hashes)?;

@@ -1,15 +1,15 @@
 //! The catalogue.
 
-ghost use Rattle.std.specs.Prelude.{◌≡◌, ◌≤◌, IfOk, IsTrue, is_some, length};
-ghost use Rattle.std.specs.List.{list_all};
+ghost use Rattle.std.specs.Prelude.{◌≡◌, ◌≤◌, IfOk, IsTrue, length};
 ghost use Rattle.sha2.specs.Sha256.{sha256};
 ghost use Rattle.cat_names.specs.declared.hash.Hash.{Hash};
 ghost use Rattle.cat_model.specs.Chain.{entries, generation};
 ghost use Rattle.cat_model.specs.Namespaces.{is_well_formed};
-ghost use Rattle.cat_model.specs.State.{content_at, first_state};
+ghost use Rattle.cat_model.specs.State.{first_state};
 ghost use Rattle.cat_tables.specs.References.{heads_pass};
 ghost use Rattle.cat_graph.specs.Linked.{AreLinked, is_known};
-ghost use Rattle.cat_state.specs.Keeping.{AreKept, have_contents};
+ghost use Rattle.cat_keymap.specs.MapsAt.{map_at};
+ghost use Rattle.cat_state.specs.Keeping.{AreKept, found_map, is_held_at};
 
 use crate::copies::copy_map;
 use cat_codes::fault::NoMemory;
@@ -114,16 +114,6 @@ impl Catalogue {
         let _ = self.maps();
     }
 
-    /// What holds of the map at each commit: the content of each entry is there.
-    pub fn contents_are_held(&self)
-        ensures { (hash : Hash)
-            → IsTrue
-            (list_all (λ x. is_some (content_at self.now.present x.1.hash))
-            (entries self.now.commits hash)) }
-    {
-        let _ = self.maps();
-    }
-
     /// What holds of its commits: no hash comes twice, each stands above its parents, and its
     /// generation is one more than the greatest of theirs.
     pub fn commits_are_linked(&self)
@@ -145,6 +135,8 @@ impl Catalogue {
     pub fn references(&self) -> &References
         ensures list { result.now ≡ self.now.references }
         ensures heads { IsTrue (heads_pass (is_known self.now.commits) self.now.references) }
+        ensures held { IsTrue
+            (heads_pass (is_held_at self.now.commits self.now.present) self.now.references) }
     {
         &self.references
     }
@@ -158,9 +150,12 @@ impl Catalogue {
         &self.commits
     }
 
-    pub(crate) fn maps(&self) -> &Maps
+    /// The map at each of its commits.
+    #[tactic(auto, using(crate::proofs::Kept::map_is))]
+    pub fn maps(&self) -> &Maps
         ensures kept { AreKept result.now self.now.commits }
-        ensures held { IsTrue (have_contents self.now.present result.now) }
+        ensures maps { (hash : Hash)
+            → found_map (map_at result.now hash) ≡ entries self.now.commits hash }
     {
         &self.maps
     }

@@ -1,13 +1,16 @@
 //! The catalogue after a change.
 
-ghost use Rattle.std.specs.Prelude.{◌≡◌, IfOk};
+ghost use Rattle.std.specs.Prelude.{◌≡◌, ◌<◌, IfOk, IsTrue};
+ghost use Rattle.cat_tables.specs.References.{heads_pass};
 ghost use Rattle.cat_state.specs.Changed.{HasNewName};
 ghost use Rattle.cat_state.specs.Changing.{MayBeMade, applied, changed_references};
+ghost use Rattle.cat_state.specs.Sweeping.{spares_at, sweeping};
 
 use crate::additions::Additions;
 use crate::catalogue::Catalogue;
 use crate::change::{Change, ReferenceChange};
 use cat_codes::fault::NoMemory;
+use cat_names::hash::Hash;
 use cat_tables::references::References;
 use std::alloc::Global;
 
@@ -28,6 +31,24 @@ fn references_with(
 }
 
 impl Catalogue {
+    /// The catalogue after a sweep, at the next place: without the contents of these hashes. It
+    /// shares with this one all else.
+    pub fn swept(&self, alloc: Global, hashes: &[Hash]) -> Result<Catalogue, NoMemory>
+        requires place { self.now.place < 4294967295 }
+        requires spared { IsTrue
+            (heads_pass (spares_at self.now.commits hashes.now) self.now.references) }
+        ensures { IfOk result (λ catalogue. catalogue ≡ sweeping self.now hashes.now) }
+    {
+        Ok(Catalogue {
+            place: self.place + 1,
+            references: self.references.clone()?,
+            commits: self.commits.clone()?,
+            maps: self.maps.clone()?,
+            contents: self.contents.without(alloc, hashes)?,
+            limits: self.limits,
+        })
+    }
+
     /// The catalogue after a change, at the next place. It shares with this one all that the change
     /// doesn't meet.
     pub fn after(&self, alloc: Global, change: Change) -> Result<Catalogue, NoMemory>

@@ -11,6 +11,7 @@ ghost use Rattle.cat_model.specs.Merges as merges;
 ghost use Rattle.cat_model.specs.Records.{expired_keys};
 ghost use Rattle.cat_model.specs.State.{is_known};
 ghost use Rattle.cat_state.specs.Giving.{Gives};
+ghost use Rattle.cat_state.specs.Keeping.{has_contents};
 
 use crate::catalogue::Catalogue;
 use crate::failure::Failure;
@@ -120,8 +121,10 @@ impl Catalogue {
         planned: &[Planned],
         opened: u32,
     ) -> Result<(), Failure>
-        ensures { Gives result
+        ensures exact { Gives result
             (merges.needs_set_contents self.now (map as_planned planned.now) opened) }
+        ensures held { OnOk result
+            (IsTrue (has_contents self.now.present (all_set (map as_planned planned.now)))) }
     {
         let expired = self.expired_set(alloc, planned)?;
         let keys = listed(alloc, expired)?;

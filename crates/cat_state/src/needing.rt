@@ -1,13 +1,13 @@
 //! What stands in the way of a reference.
 
-ghost use Rattle.std.specs.Prelude.{◌≡◌, None, IfErr, IfOk, OnOk, is_none};
+ghost use Rattle.std.specs.Prelude.{◌≡◌, None, IfOk, OnOk, is_none};
 ghost use Rattle.std.specs.List.{list_any};
 ghost use Rattle.cat_model.specs.Moves.{needs_contents, needs_new_name};
 ghost use Rattle.cat_model.specs.Records.{expired_keys, needs_no_expired};
 ghost use Rattle.cat_model.specs.Same.{same_hash};
 ghost use Rattle.cat_model.specs.State.{content_at, reference_of};
-ghost use Rattle.cat_state.specs.declared.failure.Failure.TheVariants as failures;
 ghost use Rattle.cat_state.specs.Giving.{Gives};
+ghost use Rattle.cat_state.specs.Keeping.{IsHeldAt};
 
 use crate::catalogue::Catalogue;
 use crate::contents::find_content;
@@ -20,6 +20,7 @@ use cat_model::refusal::Refusal;
 use cat_names::hash::Hash;
 use cat_names::key::ContentKey;
 use cat_names::ref_name::RefName;
+use cat_tables::references::References;
 use std::alloc::Global;
 
 /// Refused with keys, if there are any, and the place.
@@ -33,6 +34,19 @@ pub(crate) fn needs_none(keys: Seq<ContentKey>, place: u32) -> Result<(), Failur
         keys,
         opened: place,
     }))
+}
+
+/// Whether one of the references points at the hash.
+fn is_head(references: &References, hash: &Hash) -> bool
+    ensures { result ≡ list_any (λ r. same_hash r.head hash.now) references.now }
+{
+    let mut rest = references.walk();
+    while let Some(reference) = rest.next() {
+        if reference.head == *hash {
+            return true;
+        }
+    }
+    false
 }
 
 impl Catalogue {
@@ -69,29 +83,15 @@ impl Catalogue {
         Ok(keys)
     }
 
-    /// Whether a reference points at the hash.
-    fn is_head(&self, hash: &Hash) -> bool
-        ensures { result ≡ list_any (λ r. same_hash r.head hash.now) self.now.references }
-    {
-        let mut rest = self.references().walk();
-        while let Some(reference) = rest.next() {
-            if reference.head == *hash {
-                return true;
-            }
-        }
-        false
-    }
-
     /// The catalogue holds every content that is visible at the commit. It is refused with the keys
-    /// of those that it doesn't hold, ascending, and the place; so never, since none is removed. Where
-    /// a reference points at the commit its map isn't walked.
-    #[tactic(auto, unfolding(cat_model::specs::Moves::needs_contents), using(crate::specs::HeldLaws::contents_pass, crate::specs::HeldLaws::fails_by_memory))]
+    /// of those that it doesn't hold, ascending, and the place. Where a reference points at the commit
+    /// its map isn't walked, since all that is visible there is held.
+    #[tactic(auto, unfolding(cat_model::specs::Moves::needs_contents))]
     pub fn needs_contents(&self, alloc: Global, hash: &Hash) -> Result<(), Failure>
         ensures exact { Gives result (needs_contents self.now hash.now) }
-        ensures held { IfErr result (λ failure. failure ≡ failures.NoMemory) }
+        ensures held { OnOk result (IsHeldAt self.now hash.now) }
     {
-        self.contents_are_held();
-        if self.is_head(hash) {
+        if is_head(self.references(), hash) {
             return Ok(());
         }
         let map = self.map_at(hash)?;

@@ -12,6 +12,7 @@ ghost use Rattle.cat_merge.specs.Planned.{as_planned};
 ghost use Rattle.cat_state.specs.Adding.{HasCommit, IsRecordOf};
 ghost use Rattle.cat_state.specs.Changing.{AreNewTo, with_additions};
 ghost use Rattle.cat_state.specs.Giving.{GivesAs};
+ghost use Rattle.cat_state.specs.Keeping.{IsHeldAt};
 ghost use Rattle.cat_state.specs.Planning.{AreMadeUpon, IsMadeUpon};
 
 use crate::additions::Additions;
@@ -129,6 +130,7 @@ impl Catalogue {
         requires known { IsTrue (is_known sha256 self.now head.now) }
         requires merged { IsTrue
             (list_all (λ p. is_merge_known self.now.commits p.merge_parent) planned.items) }
+        requires held { IsHeldAt self.now head.now }
         requires made { AreMadeUpon self.now.present (entries self.now.commits head.now)
             planned.items }
         requires room { length self.now.commits + length planned.items ≤ 4294967295 }
@@ -137,6 +139,7 @@ impl Catalogue {
         ensures new { IfOk result (λ a. AreNewTo self.now a.1) }
         ensures known { IfOk result
             (λ a. IsTrue (is_known sha256 (with_additions self.now a.1) a.0)) }
+        ensures held { IfOk result (λ a. IsHeldAt (with_additions self.now a.1) a.0) }
     {
         let mut more = self.no_additions(alloc);
         let mut at = *head;

@@ -9,7 +9,7 @@ ghost use Rattle.cat_model.specs.State.{is_known};
 ghost use Rattle.cat_model.specs.Refusing as refusing;
 ghost use Rattle.cat_model.specs.Transplants.{are_consecutive};
 ghost use Rattle.cat_state.specs.Giving.{SaysAs};
-ghost use Rattle.cat_state.specs.Keeping.{IsAtCommit};
+ghost use Rattle.cat_state.specs.Keeping.{IsAtCommit, IsHeldAt};
 
 use crate::catalogue::Catalogue;
 use cat_model::commit::Commit;
@@ -64,11 +64,12 @@ impl Catalogue {
         self.commits().get(hash)
     }
 
-    /// The reference of a name. It points at what is known.
-    #[tactic(auto, using(crate::proofs::Heads::named_is_known))]
+    /// The reference of a name. It points at what is known, and what is visible there is held.
+    #[tactic(auto, using(crate::proofs::Heads::named_passes))]
     pub fn named(&self, name: &RefName) -> Result<&Reference, Refusal>
         ensures named { SaysAs (λ r. r.now) result (refusing.named self.now name.now) }
         ensures known { IfOk result (λ r. IsTrue (is_known sha256 self.now r.now.head)) }
+        ensures held { IfOk result (λ r. IsHeldAt self.now r.now.head) }
     {
         match self.references().get(name) {
             None => Err(Refusal::RefNotFound),

@@ -5,6 +5,8 @@ ghost use Rattle.sha2.specs.Sha256.{sha256};
 ghost use Rattle.cat_frames.specs.Entries.{is_logged};
 ghost use Rattle.cat_model.specs.State.{first_state};
 ghost use Rattle.cat_state.specs.Changing.{MayBeMade, applied};
+ghost use Rattle.cat_state.specs.Sweeping.{spares_at, sweeping};
+ghost use Rattle.cat_tables.specs.References.{heads_pass};
 ghost use Rattle.cat_state.specs.Kept.{IsUnrefused, Keeps};
 ghost use Rattle.cat_state.specs.Views.{catalogue_in};
 
@@ -17,6 +19,7 @@ use cat_codes::fault::NoMemory;
 use cat_keeper::Keeper;
 use cat_model::limits::Limits;
 use cat_model::log_entry::LogEntry;
+use cat_names::hash::Hash;
 use std::alloc::Global;
 use std::marker::Model;
 use std::sync::Arc;
@@ -105,6 +108,20 @@ impl SharedCatalogue {
         let next = self.next(alloc, change)?;
         append(alloc, keeper, entry)?;
         self.catalogue = next;
+        Ok(())
+    }
+
+    /// Puts the catalogue after a sweep in the place of the old one: without the contents of these
+    /// hashes; or changes nothing. Views keep the old one.
+    pub fn apply_sweep(&mut self, alloc: Global, hashes: &[Hash]) -> Result<(), NoMemory>
+        requires place { self.old.place < 4294967295 }
+        requires spared { IsTrue
+            (heads_pass (spares_at self.old.commits hashes.now) self.old.references) }
+        ensures ok { OnOk result (self.new ≡ sweeping self.old hashes.now) }
+        ensures err { OnErr result (self.new ≡ self.old) }
+    {
+        let swept = self.get().swept(alloc, hashes)?;
+        self.catalogue = sharing(alloc, swept)?;
         Ok(())
     }
 

@@ -1,12 +1,14 @@
 -- Tables after many values more, put in the order of their hashes.
 use Rattle.std.proofs.Common.{◌≡◌, ◌⊎◌, inl, inr, ℕ, zero, suc, ◌+◌, ◌<◌, ◌≤◌, List, [], ◌∷◌, ◌++◌, Option, Some, None, Bool, true, false, cond, is_none, length, get_or, reverse, map, flat_map, nat_eq, nat_lt, refl, sym, ap, subst, ◌∙◌, arith, append_assoc}
 use Rattle.std.proofs.lemmas.Bool.Decides.{nat_tests}
-use Rattle.std.proofs.lemmas.List.{length-append, length-reverse, reverse-append}
+use Rattle.std.proofs.lemmas.List.{reverse-append}
 use Rattle.std.proofs.lemmas.List.Concat.{length-flat_map}
-use Rattle.std.proofs.lemmas.List.Sorted.{IsPermutation-map, IsPermutation-reverse, IsPermutation-sym, length_permutation, All-permutation, sum_by-IsPermutation}
+use Rattle.std.proofs.lemmas.List.Sorted.{IsPermutation-map, IsPermutation-reverse, IsPermutation-sym, All-permutation, sum_by-IsPermutation}
+use Rattle.std.proofs.lemmas.Option.{none-some}
 use Rattle.std.proofs.lemmas.Map.Keys.{IsDistinct-IsPermutation}
 use Rattle.std.specs.List.{list_all, All, AllByRecursion, IsDistinct}
 use Rattle.std.specs.List.Sorted.{IsPermutation, IsSortedByKey}
+use Rattle.std.specs.Option.{SomeIff}
 use Rattle.std.specs.Ordering.{is_eq, is_lt, ordering_reverse}
 use Rattle.std.specs.declared.cmp.Ordering.{Ordering}
 use Rattle.std.specs.declared.cmp.Ordering.TheVariants.{Less, Equal, Greater}
@@ -18,12 +20,7 @@ use Rattle.cat_tables.specs.Arrivals.{at_place, arrived, puts, IsPlaced}
 use Rattle.cat_tables.specs.HashOrder.{hash_cmp}
 use Rattle.cat_tables.specs.ReferenceLaws.{both_true, and_true}
 use Rattle.cat_tables.specs.Tables.{same_hash, value_of, are_distinct}
-use Rattle.cat_tables.proofs.Arriving.{absent_parts, hash_total, ties, both_empty, put_more, at_other, at_own, none_at, arrived_alike, more_pass, more_long, below_more, found_more, found_of, absent_there}
-
-less_is : (o : Ordering) → is_lt o ≡ true → o ≡ Less
-less_is Less e = refl
-less_is Equal e = absurd cc
-less_is Greater e = absurd cc
+use Rattle.cat_tables.proofs.Arriving.{less_is, absent_parts, hash_total, ties, both_empty, put_more, at_other, at_own, none_at, arrived_alike, more_pass, below_more, found_more, absent_there}
 
 -- two hashes compare equal
 abbrev tied : Hash → Hash → Bool
@@ -36,6 +33,10 @@ flips a b = ap is_eq (hash_total.antisymm b a) ∙ same (hash_cmp a b)
     same Less = refl
     same Equal = refl
     same Greater = refl
+
+pub sum_is : (P : Type 0) (o : Option ℕ) (k sum : ℕ) → SomeIff o P sum → o ≡ Some k → k ≡ sum
+sum_is P None k sum told e = absurd (none-some k e)
+sum_is P (Some n) k sum told e = let same : n ≡ k = cc in sym same ∙ told.1
 
 -- ---- what a permutation of a list gives
 
@@ -163,17 +164,6 @@ module _ {V : Type 0} where
           more (at_other i (hash, p) pairs _ e (put_more hash p pairs absent) ∙ none) (omega (arith, few, size))
           ∙ sym (ap (λ (l : List (Hash × V)). l ++ flat_map (gives i) cs) other)
 
-  long_after : (m : ℕ) (last : Option Hash) (cs : List (Hash × Option (Placed V))) (pairs : List (Hash × Placed V)) → ascends hash_cmp last cs ≡ true → All (IsNew pairs m) cs
-      → length (ordered.after_changes hash_cmp cs pairs) ≡ length cs + length pairs
-  long_after m last [] pairs up all = omega arith
-  long_after m last ((hash, None) ∷ cs) pairs up all = absurd (all 0 (hash, None) (omega arith))
-  long_after m last ((hash, Some p) ∷ cs) pairs up all =
-      let new = all 0 (hash, Some p) (omega arith) in
-      let up1 = tail_up last (hash, Some p) cs up in
-      let rest = long_after m (Some hash) cs _ up1 (still_all hash p pairs m cs new.0 up1 (λ j d lt. all (suc j) d (omega (arith, lt)))) in
-      let one = more_long (hash, p) pairs _ (put_more hash p pairs new.0) in
-      omega (arith, rest, one)
-
   below_after : (m : ℕ) (last : Option Hash) (cs : List (Hash × Option (Placed V))) (pairs : List (Hash × Placed V)) → ascends hash_cmp last cs ≡ true → All (IsNew pairs m) cs
       → list_all (λ x. nat_lt x.1.place m) pairs ≡ true → list_all (λ x. nat_lt x.1.place m) (ordered.after_changes hash_cmp cs pairs) ≡ true
   below_after m last [] pairs up all below = below
@@ -216,10 +206,6 @@ module _ {V : Type 0} where
   keys_put : (n : ℕ) (items : List (Hash × V)) → map (λ c. c.0) (puts n items) ≡ map (λ x. x.0) items
   keys_put n [] = refl
   keys_put n (x ∷ items) = ap (λ (l : List Hash). x.0 ∷ l) (keys_put (suc n) items)
-
-  long_put : (n : ℕ) (items : List (Hash × V)) → length (puts n items) ≡ length items
-  long_put n [] = refl
-  long_put n (x ∷ items) = ap suc (long_put (suc n) items)
 
   all_put : (n m : ℕ) (items : List (Hash × V)) (pairs : List (Hash × Placed V)) → length items + n ≤ m → All (λ x. ordered.value_of hash_cmp pairs x.0 ≡ None) items → All (IsNew pairs m) (puts n items)
   all_put n m [] pairs le all = λ k d lt. absurd (omega (arith, lt))
@@ -289,16 +275,14 @@ module _ {V : Type 0} where
 
   -- ---- the whole table
 
-  pub placed_all : (items : List (Hash × V)) (pairs more : List (Hash × Placed V)) (cs : List (Hash × Option (Placed V))) → IsPlaced pairs → are_distinct (reverse items ++ arrived (length pairs) pairs) ≡ true
-      → IsPermutation (puts (length pairs) items) cs → IsSortedByKey (λ x. x.0) hash_cmp cs → more ≡ ordered.after_changes hash_cmp cs pairs
-      → IsPlaced more × (arrived (length more) more ≡ reverse items ++ arrived (length pairs) pairs)
-  placed_all items pairs more cs are distinct moved sorted is =
-      let n = length pairs in
-      let m = length items + n in
+  pub placed_all : (n m : ℕ) (items : List (Hash × V)) (pairs more : List (Hash × Placed V)) (cs : List (Hash × Option (Placed V))) → IsPlaced n pairs → m ≡ length items + n → are_distinct (reverse items ++ arrived n pairs) ≡ true
+      → IsPermutation (puts n items) cs → IsSortedByKey (λ x. x.0) hash_cmp cs → more ≡ ordered.after_changes hash_cmp cs pairs
+      → IsPlaced m more × (arrived m more ≡ reverse items ++ arrived n pairs)
+  placed_all n m items pairs more cs are long distinct moved sorted is =
       let up = sorted_ascend n items (arrived n pairs) cs distinct moved sorted in
       let older = (all_apart (reverse items) (arrived n pairs) distinct).1 in
       let absent = All-permutation (λ x. value_of (arrived n pairs) x.0 ≡ None) (reverse items) items (IsPermutation-sym items (reverse items) (IsPermutation-reverse items)) older in
-      let put = all_put n m items pairs (omega arith) (λ k d lt. absent_there (get_or items k d).0 pairs are (absent k d lt)) in
+      let put = all_put n m items pairs (omega (arith, long)) (λ k d lt. absent_there (get_or items k d).0 n pairs are (absent k d lt)) in
       let new : All (IsNew pairs m) cs = All-permutation (IsNew pairs m) (puts n items) cs moved put in
       let given = λ (i : ℕ). given_alike (gives i) (puts n items) cs moved (one_or_none n i items) in
       let few = λ (i : ℕ). few_of (flat_map (gives i) cs) (flat_map (gives i) (puts n items)) (given i) (one_or_none n i items) in
@@ -306,13 +290,7 @@ module _ {V : Type 0} where
       let high = λ (i : ℕ) (le : n ≤ i). at_one i m None cs pairs up new (none_at n i pairs le are.below) (few i) ∙ given i in
       let lower = λ (i : ℕ) (lt : i < n). at_none i m None cs pairs up new (given i ∙ low n i items lt) in
       let stands = standing n items after high ∙ ap (λ (l : List (Hash × V)). reverse items ++ l) (arrived_alike n pairs after lower) in
-      let long : length after ≡ m = long_after m None cs pairs up new ∙ ap (λ (k : ℕ). k + n) (length_permutation (puts n items) cs moved ∙ long_put n items) in
-      let view : arrived (length after) after ≡ reverse items ++ arrived n pairs = ap (λ (k : ℕ). arrived k after) long ∙ stands in
-      let size = ap length view ∙ length-append (reverse items) (arrived n pairs) in
-      let turned = length-reverse items in
-      let number = are.number in
-      let fits : list_all (λ x. nat_lt x.1.place m) after ≡ true = below_after m None cs pairs up new (below_more n m pairs (omega arith) are.below) in
-      let fit : list_all (λ x. nat_lt x.1.place (length after)) after ≡ true = subst (λ (k : ℕ). list_all (λ x. nat_lt x.1.place k) after ≡ true) (sym long) fits in
-      let once : are_distinct (arrived (length after) after) ≡ true = ap are_distinct view ∙ distinct in
-      subst (λ (l : List (Hash × Placed V)). IsPlaced l × (arrived (length l) l ≡ reverse items ++ arrived n pairs)) (sym is)
-      (record { below = fit; number = omega (arith, size, turned, number, long); distinct = once; found = λ hash. found_of (length after) after hash fit once }, view)
+      let view : arrived m after ≡ reverse items ++ arrived n pairs = ap (λ (k : ℕ). arrived k after) long ∙ stands in
+      let fit = below_after m None cs pairs up new (below_more n m pairs (omega (arith, long)) are.below) in
+      let once : are_distinct (arrived m after) ≡ true = ap are_distinct view ∙ distinct in
+      subst (λ (l : List (Hash × Placed V)). IsPlaced m l × (arrived m l ≡ reverse items ++ arrived n pairs)) (sym is) (record { below = fit; distinct = once }, view)

@@ -8,7 +8,7 @@ use Rattle.std.specs.Cmp.{IsTotalOrder, tied_itself}
 use Rattle.std.specs.Cmp.Lexicographic.{on_texts, texts_ties}
 use Rattle.std.specs.List.{list_all}
 use Rattle.std.specs.Option.{option_map}
-use Rattle.std.specs.Ordering.{is_eq}
+use Rattle.std.specs.Ordering.{is_eq, is_lt}
 use Rattle.std.specs.declared.cmp.Ordering.{Ordering}
 use Rattle.std.specs.declared.cmp.Ordering.TheVariants.{Less, Equal, Greater}
 use Rattle.cat_names.specs.declared.hash.Hash.{Hash}
@@ -26,6 +26,11 @@ pub split3 : {P : Type 0} (o : Ordering) → (o ≡ Less → P) → (o ≡ Equal
 split3 Less f g h = f refl
 split3 Equal f g h = g refl
 split3 Greater f g h = h refl
+
+pub less_is : (o : Ordering) → is_lt o ≡ true → o ≡ Less
+less_is Less e = refl
+less_is Equal e = absurd cc
+less_is Greater e = absurd cc
 
 pub hash_total : IsTotalOrder hash_cmp
 hash_total = on_texts (λ h. h.bytes)
@@ -101,13 +106,7 @@ module _ {V : Type 0} where
   arrived_alike zero pairs more alike = refl
   arrived_alike (suc n) pairs more alike = (λ j. alike n (omega arith) j ++ arrived_alike n pairs more (λ i lt. alike i (omega (arith, lt))) j)
 
-  -- ---- how many there are, and which
-
-  pub more_long : (x : Hash × Placed V) (pairs more : List (Hash × Placed V)) → IsMore x pairs more → length more ≡ suc (length pairs)
-  more_long x pairs more m =
-      let long = ap length m.is ∙ length-append m.front (x ∷ m.back) in
-      let was = ap length m.was ∙ length-append m.front m.back in
-      omega (arith, long, was)
+  -- ---- which there are
 
   pub more_pass : (p : Hash × Placed V → Bool) (x : Hash × Placed V) (pairs more : List (Hash × Placed V)) → p x ≡ true → list_all p pairs ≡ true → IsMore x pairs more → list_all p more ≡ true
   more_pass p x pairs more e all m =
@@ -221,5 +220,30 @@ module _ {V : Type 0} where
   none_mapped f None e = refl
   none_mapped f (Some p) e = absurd (none-some (f p) (sym e))
 
-  pub absent_there : (hash : Hash) (pairs : List (Hash × Placed V)) → IsPlaced pairs → value_of (arrived (length pairs) pairs) hash ≡ None → ordered.value_of hash_cmp pairs hash ≡ None
-  absent_there hash pairs are absent = none_mapped (λ p. p.value) _ (sym (are.found hash) ∙ absent)
+  pub absent_there : (hash : Hash) (n : ℕ) (pairs : List (Hash × Placed V)) → IsPlaced n pairs → value_of (arrived n pairs) hash ≡ None → ordered.value_of hash_cmp pairs hash ≡ None
+  absent_there hash n pairs are absent = none_mapped (λ p. p.value) _ (sym (found_of n pairs hash are.below are.distinct) ∙ absent)
+
+  none_arrives : (n : ℕ) (none : List (Hash × V)) → none ≡ [] → arrived n [] ≡ none
+  none_arrives zero none e = sym e
+  none_arrives (suc n) none e = none_arrives n none e
+
+  -- one value more, at a place below their number
+  one_arrives : (n : ℕ) (x : Hash × Placed V) (pairs : List (Hash × Placed V)) → x.1.place < n → length (arrived n (x ∷ pairs)) ≡ suc (length (arrived n pairs))
+  one_arrives zero x pairs lt = absurd (omega (arith, lt))
+  one_arrives (suc n) x pairs lt =
+      let all = length-append (at_place n pairs) (arrived n pairs) in
+      split (nat_eq x.1.place n)
+      (λ e.
+      let same : arrived n (x ∷ pairs) ≡ arrived n pairs = arrived_alike n pairs (x ∷ pairs) (λ i below. let other : nat_eq x.1.place i ≡ false = grind (arith, nat_tests) in rw other refl) in
+      rw (e, same) refl)
+      (λ e.
+      let more = one_arrives n x pairs (grind (arith, nat_tests)) in
+      let whole = length-append (at_place n pairs) (arrived n (x ∷ pairs)) in
+      rw e (omega (arith, all, whole, more)))
+
+  -- as many values come as there are
+  pub all_arrive : (n : ℕ) (pairs : List (Hash × Placed V)) → list_all (λ x. nat_lt x.1.place n) pairs ≡ true → length (arrived n pairs) ≡ length pairs
+  all_arrive n [] below = ap length (none_arrives n [] refl)
+  all_arrive n (x ∷ pairs) below =
+      let parts = and_true (nat_lt x.1.place n) (list_all (λ y. nat_lt y.1.place n) pairs) below in
+      one_arrives n x pairs (grind (arith, nat_tests)) ∙ ap suc (all_arrive n pairs parts.1)

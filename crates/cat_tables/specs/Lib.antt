@@ -3,5 +3,4 @@ pub mod HashOrder
 pub mod LookUps
 pub mod ReferenceLaws
 pub mod References
-pub mod TableLaws
 pub mod Tables

@@ -9,4 +9,5 @@
 mod adding;
 pub mod batch;
 pub mod references;
+mod removing;
 pub mod table;

@@ -21,6 +21,8 @@ mod journals;
 #[cfg(test)]
 mod limits;
 #[cfg(test)]
+mod listed;
+#[cfg(test)]
 mod listening;
 #[cfg(test)]
 mod maps;

@@ -5,7 +5,7 @@ ghost use Rattle.cat_model.specs.Turns.{Adds};
 
 use cat_codes::fault::NoMemory;
 use cat_model::command::{Command, Delete};
-use cat_model::log_entry::LogEntry;
+use cat_model::log_entry::{Action, LogEntry};
 use cat_model::logged::Logged;
 use cat_model::moment::Moment;
 use cat_names::ref_name::RefName;
@@ -27,7 +27,11 @@ impl Logged for Notes {
 
     ghost log = { λ n. n.entries.items };
 
-    ghost opened = { λ _. record { state = first_state (λ bytes. bytes) program_limits; draft = 0; faults = 0 } };
+    ghost opened = { λ _. record {
+      state = first_state (λ bytes. bytes) program_limits;
+      draft = 0;
+      faults = 0;
+    } };
 
     ghost legal = { λ _ _. Unit {0} };
 
@@ -77,11 +81,11 @@ fn entry(name: RefName, caller: u32) -> LogEntry
         caller,
         draft: 0,
         moment: Moment::from_micros(0),
-        command: Command::Delete(Delete {
+        action: Action::Call(Command::Delete(Delete {
             name,
             kind: None,
             expected: None,
-        }),
+        })),
         head: None,
     }
 }

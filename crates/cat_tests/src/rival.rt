@@ -51,7 +51,9 @@ impl<'a, R: Wait> Rival<'a, R> {
         requires ready { IsReady self.old.desk.now self.old.pass }
         requires made { IsTrue (is_well_made sha256 self.old.first) }
         ensures ready { IsReady self.new.desk.now self.new.pass }
-        ensures stays { (self.new.desk ≡ self.old.desk) × (self.new.first ≡ self.old.first) × (self.new.second ≡ self.old.second) }
+        ensures stays { (self.new.desk ≡ self.old.desk)
+            × (self.new.first ≡ self.old.first)
+            × (self.new.second ≡ self.old.second) }
     {
         if attempt == 1 {
             drop(call(
@@ -72,7 +74,9 @@ impl<'a, R: Wait> Rival<'a, R> {
         requires ready { IsReady self.old.desk.now self.old.pass }
         requires made { IsTrue (is_well_made sha256 self.old.second) }
         ensures ready { IsReady self.new.desk.now self.new.pass }
-        ensures stays { (self.new.desk ≡ self.old.desk) × (self.new.first ≡ self.old.first) × (self.new.second ≡ self.old.second) }
+        ensures stays { (self.new.desk ≡ self.old.desk)
+            × (self.new.first ≡ self.old.first)
+            × (self.new.second ≡ self.old.second) }
     {
         if acts_second(self.acts, attempt) {
             drop(call(
@@ -95,7 +99,9 @@ impl<'a, R: Wait> Gate for Rival<'a, R> {
     ghost use Rattle.cat_model.specs.WellMade.{is_well_made};
     ghost use Rattle.cat_work.specs.Passes.{IsReady};
 
-    ghost ready = { λ r. IsReady r.desk.now r.pass × IsTrue (is_well_made sha256 r.first) × IsTrue (is_well_made sha256 r.second) };
+    ghost ready = { λ r. IsReady r.desk.now r.pass
+        × IsTrue (is_well_made sha256 r.first)
+        × IsTrue (is_well_made sha256 r.second) };
 
     ghost desks = { λ r. r.desk.now ∷ [] };
 

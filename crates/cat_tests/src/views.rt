@@ -18,6 +18,7 @@ use cat_names::hash::Hash;
 use cat_names::key::ContentKey;
 use cat_state::catalogue::Catalogue;
 use cat_state::counts::Counts;
+use cat_state::view::View;
 use std::alloc::Global;
 use std::process::Abort;
 
@@ -69,6 +70,22 @@ fn is_first<R: Abort>(rt: &R, alloc: Global, catalogue: &Catalogue) -> bool {
         panic!(rt; "there is memory");
     };
     has_first(alloc, catalogue, &key)
+}
+
+/// A view of a store of this one entry, opened for the draft of a commit that is never made.
+pub(crate) fn view_of_one<R: Abort>(rt: &R, alloc: Global, drafted: &Command) -> View
+    requires { IsTrue (is_well_made sha256 drafted.now) }
+{
+    let mut store = committed(rt, alloc);
+    let Command::Commit(_) = drafted else {
+        panic!(rt; "it is a commit");
+    };
+    let Ok((draft, view)) = store.open_draft(alloc, 1, drafted) else {
+        panic!(rt; "a draft is opened");
+    };
+    store.drop_draft(draft);
+    drop(store);
+    view
 }
 
 /// What a view of a store of one commit counts that is held while a branch is made, what the store

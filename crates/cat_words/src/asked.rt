@@ -38,14 +38,16 @@ pub enum Asked<'a> {
 
 // The subcommand that was entered, and what was found of it.
 fn entered<'m, 'a>(matches: &'m ArgMatches<'a>) -> Option<(&'a str, &'m ArgMatches<'a>)>
-    ensures { option_map (λ p. (p.0.now, rows_of (found_of p.1.now))) result ≡ subcommand_rows_of matches.now }
+    ensures { option_map (λ p. (p.0.now, rows_of (found_of p.1.now))) result
+        ≡ subcommand_rows_of matches.now }
 {
     matches.subcommand()
 }
 
 // The text of an argument.
 fn text<'a>(found: &ArgMatches<'a>, id: &str) -> Option<&'a str>
-    ensures { option_map (λ text. text.now) result ≡ first_of id.now (rows_of (found_of found.now)) }
+    ensures { option_map (λ text. text.now) result
+        ≡ first_of id.now (rows_of (found_of found.now)) }
 {
     found.get_str(id)
 }
@@ -112,7 +114,8 @@ fn asked_in<'a>(matches: &ArgMatches<'a>) -> Option<Asked<'a>>
 #[tactic(auto, unfolding(crate::specs::Asked::asked))]
 pub fn asked_of<'a>(alloc: Global, words: &'a [&'a str]) -> Result<Asked<'a>, WordsFault>
     ensures ok { IfOk result (λ what. asked (map (λ word. word.now) words.now) ≡ Some (task what)) }
-    ensures usage { IsErrOf result WordsFault.Usage → asked (map (λ word. word.now) words.now) ≡ None }
+    ensures usage { IsErrOf result WordsFault.Usage
+        → asked (map (λ word. word.now) words.now) ≡ None }
     ensures few { IfOk result (λ what. commits_of what ≤ 1000000) }
     ensures set { IfOk result IsSet }
 {
@@ -127,7 +130,9 @@ pub fn asked_of<'a>(alloc: Global, words: &'a [&'a str]) -> Result<Asked<'a>, Wo
 
 /// The address at which the words ask to listen, want of memory aside.
 pub fn address_of<'a>(alloc: Global, words: &'a [&'a str]) -> Option<&'a str>
-    ensures { IfSome result (λ address. option_and_then address_in (asked (map (λ word. word.now) words.now)) ≡ Some address.now) }
+    ensures { IfSome result
+        (λ address. option_and_then address_in (asked (map (λ word. word.now) words.now))
+        ≡ Some address.now) }
 {
     match asked_of(alloc, words) {
         Ok(Asked::Serve { address, .. }) => Some(address),

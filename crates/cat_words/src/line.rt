@@ -122,9 +122,12 @@ fn command<'a>(alloc: Global) -> Result<Command<'a>, AllocError>
 }
 
 fn parse<'a>(alloc: Global, words: &'a [&'a str]) -> Result<ArgMatches<'a>, Error>
-    ensures rows { IfOk result (λ m. subcommand_rows_of m ≡ subcommand_of line (map (λ word. word.now) words.now)) }
+    ensures rows { IfOk result
+        (λ m. subcommand_rows_of m ≡ subcommand_of line (map (λ word. word.now) words.now)) }
     ensures taken { IfOk result (λ m. fault_of line (map (λ word. word.now) words.now) ≡ []) }
-    ensures fails { IfErr result (λ e. fault_of line (map (λ word. word.now) words.now) ≡ [] → kind_of e ≡ ErrorKind.OutOfMemory) }
+    ensures fails { IfErr result
+        (λ e. fault_of line (map (λ word. word.now) words.now) ≡ []
+        → kind_of e ≡ ErrorKind.OutOfMemory) }
 {
     command(alloc)?.try_get_matches_from(words)
 }
@@ -134,9 +137,12 @@ pub(crate) fn matches_of<'a>(
     alloc: Global,
     words: &'a [&'a str],
 ) -> Result<ArgMatches<'a>, WordsFault>
-    ensures rows { IfOk result (λ m. subcommand_rows_of m ≡ subcommand_of line (map (λ word. word.now) words.now)) }
-    ensures taken { IfOk result (λ m. is_free (fault_of line (map (λ word. word.now) words.now)) ≡ true) }
-    ensures usage { IsErrOf result WordsFault.Usage → is_free (fault_of line (map (λ word. word.now) words.now)) ≡ false }
+    ensures rows { IfOk result
+        (λ m. subcommand_rows_of m ≡ subcommand_of line (map (λ word. word.now) words.now)) }
+    ensures taken { IfOk result
+        (λ m. is_free (fault_of line (map (λ word. word.now) words.now)) ≡ true) }
+    ensures usage { IsErrOf result WordsFault.Usage
+        → is_free (fault_of line (map (λ word. word.now) words.now)) ≡ false }
 {
     match parse(alloc, words) {
         Ok(matches) => Ok(matches),

@@ -22,7 +22,8 @@ fn all_digits(bytes: &[u8]) -> bool
 // What `parse` reads of digits alone: it would take a sign too.
 fn digits(text: &str) -> Result<u64, ParseIntError>
     requires { all_ascii_digits text.now ≡ true }
-    ensures { OkIff result ((0 < length text.now) × (digits_value 10 text.now < 2 ^ 64)) (digits_value 10 text.now) }
+    ensures { OkIff result ((0 < length text.now) × (digits_value 10 text.now < 2 ^ 64))
+        (digits_value 10 text.now) }
 {
     text.parse::<u64>()
 }

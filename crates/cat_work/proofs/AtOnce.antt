@@ -1,9 +1,10 @@
 -- Calls that are made in one turn.
-use Rattle.std.proofs.Common.{◌≡◌, ℕ, Result, Ok, Err, Bool, true, false, refl, sym, ap, subst, ◌∙◌, arith}
+use Rattle.std.proofs.Common.{◌≡◌, ◌≤◌, ℕ, ◌+◌, length, Result, Ok, Err, Bool, true, false, refl, sym, ap, subst, ◌∙◌, arith}
 use Rattle.sha2.specs.Sha256.{sha256}
+use Rattle.cat_checks.specs.Histories.{IsLegalFrom}
 use Rattle.cat_core.specs.Drafts.{Refers}
 use Rattle.cat_core.specs.Stored as stored
-use Rattle.cat_core.specs.Stored.{Stored}
+use Rattle.cat_core.specs.Stored.{Stored, log_of}
 use Rattle.cat_desk.specs.Pass.{DeskId, known, left_by, mark_of, number_of, seen}
 use Rattle.cat_desk.specs.declared.pass.Pass.{Pass}
 use Rattle.cat_model.specs.declared.command.Command.{Command}
@@ -13,13 +14,15 @@ use Rattle.cat_model.specs.Book.{Book, call_on}
 use Rattle.cat_model.specs.Calls.{Called}
 use Rattle.cat_model.specs.Drafts.{nothing_open}
 use Rattle.cat_model.specs.Mark.{Mark}
+use Rattle.cat_model.specs.State.{State}
 use Rattle.cat_model.specs.Step.{opens_draft}
 use Rattle.cat_work.specs.Answers.{Answers, AnswersAlone, IsDraftAbove}
-use Rattle.cat_work.specs.Passes.{IsAlone, book_of}
+use Rattle.cat_work.specs.Passes.{IsAlone, book_of, state_of}
 use Rattle.cat_work.specs.Turns.{Comes, Turned}
 use Rattle.cat_work.proofs.Callings.{call_brings, call_draft}
 use Rattle.cat_work.proofs.Endings.{refuses_open}
-use Rattle.cat_work.proofs.Telling.{AloneAt, Numbered, alone_err, alone_ok, answers_ok, book_found, causes, grew_in, left_by_turn}
+use Rattle.cat_work.proofs.Telling.{AloneAt, Numbered, alone_err, alone_ok, answers_ok, book_found, causes, gone_at_once, grew_in, left_by_turn}
+use Rattle.cat_work.proofs.Trails.{place_at}
 use Rattle.cat_work.proofs.Unopened.{found_first, none_still}
 
 refers_open : {K : Type 0} (called : Called) (n : ℕ) (s s' : Stored K) (r : Result Told Refused) → Refers called n s s' r → stored.open_of s' ≡ stored.open_of s
@@ -30,13 +33,22 @@ refers_open called n s s' (Err r) h = refuses_open called n s r r.why s' (stored
 unnumbered : (desk : DeskId) (c : Command) (p : Pass) → opens_draft c ≡ false → Numbered desk c p 0
 unnumbered desk c p opens = record { above = subst (λ (b : Bool). IsDraftAbove (mark_of p).draft b 0) (sym opens) refl; number = λ yes. absurd (let wrong : false ≡ true = sym opens ∙ yes in cc) }
 
-refers_answers : {K : Type 0} (desk : DeskId) (c : Command) (p q : Pass) (attempts moment : ℕ) (s s' : Stored K) (r : Result Told Refused) → opens_draft c ≡ false → Turned desk p q s s' → Refers (call_on sha256 (number_of p) s.book c moment) (number_of p) s s' r
-    → Answers desk (number_of p) c moment attempts (known p) (mark_of p) (mark_of q) (seen p) (seen q) r
-refers_answers {K} desk c p q attempts moment s s' (Ok told) opens turn h =
+-- what was known is behind the state
+behind : (begun k size place : ℕ) → k ≤ size → place ≡ begun + size → begun + k ≤ place
+behind begun k size place le is = omega arith
+
+known_at : {K : Type 0} (desk : DeskId) (k : ℕ) (s : Stored K) → IsLegalFrom desk.opened (log_of s) → k ≤ length (log_of s) → state_of desk (log_of s) ≡ s.book.state → desk.opened.state.place + k ≤ s.book.state.place
+known_at desk k s legal le led = behind desk.opened.state.place k (length (log_of s)) s.book.state.place le (ap (λ (x : State). x.place) (sym led) ∙ place_at desk (log_of s) legal)
+
+refers_answers : {K : Type 0} (desk : DeskId) (c : Command) (p q : Pass) (attempts moment : ℕ) (s s' : Stored K) (r : Result Told Refused) → opens_draft c ≡ false → IsLegalFrom desk.opened (log_of s) → known p ≤ length (log_of s) → Turned desk p q s s'
+    → Refers (call_on sha256 (number_of p) s.book c moment) (number_of p) s s' r → Answers desk (number_of p) c moment attempts (known p) (mark_of p) (mark_of q) (seen p) (seen q) r
+refers_answers desk c p q attempts moment s s' (Ok told) opens legal known_is turn h =
     answers_ok desk (number_of p) 0 moment attempts (known p) c p q s s' (call_on sha256 (number_of p) s.book c moment) told (stored.open_of s) (found_first desk p q s s' turn) (left_by_turn desk p q s s' turn) (call_brings (number_of p) moment s.book c opens)
     (unnumbered desk c p opens) h
-refers_answers {K} desk c p q attempts moment s s' (Err r) opens turn h =
-    causes desk (number_of p) 0 moment attempts (known p) c p q s s' (call_on sha256 (number_of p) s.book c moment) r (stored.open_of s) r.why (found_first desk p q s s' turn) (left_by_turn desk p q s s' turn) (call_brings (number_of p) moment s.book c opens) (unnumbered desk c p opens) refl h
+refers_answers desk c p q attempts moment s s' (Err r) opens legal known_is turn h =
+    let known_here : desk.opened.state.place + known p ≤ s.book.state.place = known_at desk (known p) s legal known_is turn.led in
+    causes desk (number_of p) 0 moment attempts (known p) c p q s s' (call_on sha256 (number_of p) s.book c moment) r (stored.open_of s) r.why (found_first desk p q s s' turn) (left_by_turn desk p q s s' turn) (call_brings (number_of p) moment s.book c opens) (unnumbered desk c p opens)
+    (λ keys opened gone refused. gone_at_once desk (number_of p) moment attempts (known p) c p q s s' r (stored.open_of s) keys opened opens (found_first desk p q s s' turn) (left_by_turn desk p q s s' turn) (unnumbered desk c p opens) known_here gone refused) refl h
 
 at_once : {K : Type 0} (desk : DeskId) (c : Command) (p q : Pass) (moment : ℕ) (s s' : Stored K) → opens_draft c ≡ false → Turned desk p q s s' → IsAlone p → AloneAt (call_on sha256 (number_of p) s.book c moment) (book_of desk p) (mark_of p).fault s
 at_once desk c p q moment s s' opens turn only =
@@ -44,6 +56,7 @@ at_once desk c p q moment s s' opens turn only =
     let draft : s.book.draft ≡ (mark_of p).draft = ap (λ (b : Book). b.draft) found in
     record {
       log = ap (λ (b : Book). b.log) found;
+      base = ap (λ (b : Book). b.base) found;
       state = ap (λ (b : Book). b.state) found;
       low = omega arith;
       high = omega arith;
@@ -59,14 +72,14 @@ refers_alone desk c p q moment s s' (Ok told) opens turn h only =
 refers_alone desk c p q moment s s' (Err r) opens turn h only =
     alone_err desk (number_of p) 0 moment c q s s' (call_on sha256 (number_of p) s.book c moment) (book_of desk p) (mark_of p).fault r (stored.open_of s) r.why (at_once desk c p q moment s s' opens turn only) (left_by_turn desk p q s s' turn) (call_brings (number_of p) moment s.book c opens) refl h
 
-pub refers_comes : {K : Type 0} (desk : DeskId) (c : Command) (p q : Pass) (attempts moment n : ℕ) (s s' : Stored K) (r : Result Told Refused) → n ≡ number_of p → opens_draft c ≡ false → left_by p ≡ nothing_open → Turned desk p q s s' → Refers (call_on sha256 n s.book c moment) n s s' r
-    → Comes desk c p q attempts moment r
-refers_comes desk c p q attempts moment n s s' r number opens none turn h =
+pub refers_comes : {K : Type 0} (desk : DeskId) (c : Command) (p q : Pass) (attempts moment n : ℕ) (s s' : Stored K) (r : Result Told Refused) → n ≡ number_of p → opens_draft c ≡ false → left_by p ≡ nothing_open → IsLegalFrom desk.opened (log_of s) → known p ≤ length (log_of s)
+    → Turned desk p q s s' → Refers (call_on sha256 n s.book c moment) n s s' r → Comes desk c p q attempts moment r
+refers_comes desk c p q attempts moment n s s' r number opens none legal known_is turn h =
     let own : Refers (call_on sha256 (number_of p) s.book c moment) (number_of p) s s' r = subst (λ (m : ℕ). Refers (call_on sha256 m s.book c moment) m s s' r) number h in
     record {
       none = none_still desk p q s s' none turn (refers_open (call_on sha256 (number_of p) s.book c moment) (number_of p) s s' r own);
       grows = grew_in desk p q s s' turn;
-      answers = refers_answers desk c p q attempts moment s s' r opens turn own;
+      answers = refers_answers desk c p q attempts moment s s' r opens legal known_is turn own;
       alone = λ only. subst (λ (called : Called). AnswersAlone (number_of p) called (book_of desk p) (book_of desk q) (mark_of p).fault (mark_of q).fault r)
           (ap (λ (b : Book). call_on sha256 (number_of p) b c moment) (book_found desk p q s s' turn only)) (refers_alone desk c p q moment s s' r opens turn own only);
     }

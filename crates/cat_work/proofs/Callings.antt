@@ -1,22 +1,26 @@
 -- What a call brings, by its step: a refusal, an entry, or a reply alone.
-use Rattle.std.proofs.Common.{◌≡◌, ◌<◌, ◌⊎◌, inl, inr, ℕ, ◌+◌, max, List, [], ◌∷◌, Some, None, Result, Ok, Err, Bool, true, false, if◌then◌else◌, nat_lt, refl, sym, ap, subst, ◌∙◌, arith}
+use Rattle.std.proofs.Common.{◌≡◌, ◌<◌, ◌⊎◌, inl, inr, ℕ, ◌+◌, max, List, [], ◌∷◌, Option, Some, None, Result, Ok, Err, Bool, true, false, if◌then◌else◌, nat_lt, refl, sym, ap, subst, ◌∙◌, arith}
 use Rattle.std.proofs.lemmas.Bool.Decides.{nat_tests}
 use Rattle.std.proofs.Math.Nat.{max-zero}
 use Rattle.sha2.specs.Sha256.{sha256}
+use Rattle.cat_names.specs.Fields.{Key}
 use Rattle.cat_core.specs.Drafts.{may_open}
 use Rattle.cat_model.specs.declared.command.Command.{Command}
 use Rattle.cat_model.specs.declared.log_entry.LogEntry.{LogEntry}
 use Rattle.cat_model.specs.declared.refusal.Refusal.{Refusal}
+use Rattle.cat_model.specs.declared.refusal.Refusal.TheVariants.{Expired}
 use Rattle.cat_model.specs.declared.refusal.Refused.{Refused}
 use Rattle.cat_model.specs.declared.reply.Reply.{Reply}
 use Rattle.cat_model.specs.declared.reply.Told.{Told}
 use Rattle.cat_model.specs.Book.{Book, attempt_on, call_on}
 use Rattle.cat_model.specs.Calls.{Called, attempt, entry_made, in_draft, in_next, needs_draft, number_on, stepped, told_at, tried, turn_on, unchanged_by}
+use Rattle.cat_model.specs.CauseLaws.{Causes}
 use Rattle.cat_model.specs.Refusing.{◌>>=◌, Outcome, Tested}
 use Rattle.cat_model.specs.State.{State}
 use Rattle.cat_model.specs.Step as steps
 use Rattle.cat_model.specs.Step.{opening, opens_draft, step}
 use Rattle.cat_work.specs.Answers.{ComesToIn, IsEntryOf}
+use Rattle.cat_work.proofs.Openings.{early_opening, is_early}
 use Rattle.cat_work.proofs.Steps.{step_first, step_stays}
 
 -- the step refuses
@@ -72,15 +76,15 @@ tests_refuse n draft moment state last c why e = inl (record { why = why; is = (
 
 -- ---- in a draft
 
-made_by : (n moment draft : ℕ) (b : Book) (c : Command) (t : Tested) → opening sha256 b.state c ≡ t → Brings n draft b.state c moment (tried sha256 n b.state b.draft c (record { draft = draft; opened = b.state.place; moment = moment }) t)
-made_by n moment draft b c (Err why) e = tests_refuse n draft moment b.state b.draft c why e
-made_by n moment draft b c (Ok u) e =
-    let turn : steps.Turn = record { draft = draft; opened = b.state.place; moment = moment } in
+made_by : (n moment draft opened : ℕ) (b : Book) (c : Command) (t : Tested) → opening sha256 b.state c ≡ t → Brings n draft b.state c moment (tried sha256 n b.state b.draft c (record { draft = draft; opened = opened; moment = moment }) t)
+made_by n moment draft opened b c (Err why) e = tests_refuse n draft moment b.state b.draft c why e
+made_by n moment draft opened b c (Ok u) e =
+    let turn : steps.Turn = record { draft = draft; opened = opened; moment = moment } in
     stepped_brings n b.state (max b.draft draft) c turn (step sha256 b.state c turn) refl
 
-pub made_brings : (n moment draft : ℕ) (b : Book) (c : Command) → Brings n draft b.state c moment (attempt_on sha256 b (in_draft n moment draft) c)
+pub made_brings : (n moment draft place : ℕ) (b : Book) (c : Command) → Brings n draft b.state c moment (attempt_on sha256 b (in_draft n moment draft place) c)
 unfolding attempt
-made_brings n moment draft b c = made_by n moment draft b c (opening sha256 b.state c) refl
+made_brings n moment draft place b c = made_by n moment draft place b c (opening sha256 b.state c) refl
 
 -- the last draft number stays, where the draft has it
 draft_by : (b : Bool) (x y : Called) (draft : ℕ) → x.draft ≡ draft → y.draft ≡ draft → (if b then x else y).draft ≡ draft
@@ -98,13 +102,13 @@ draft_tried : (n : ℕ) (b : Book) (c : Command) (turn : steps.Turn) (t : Tested
 draft_tried n b c turn (Err why) same = refl
 draft_tried n b c turn (Ok u) same = draft_of n b.state (max b.draft turn.draft) c turn (step sha256 b.state c turn) ∙ same
 
-pub made_draft : (n moment draft : ℕ) (b : Book) (c : Command) → draft ≡ b.draft → (attempt_on sha256 b (in_draft n moment draft) c).draft ≡ b.draft
+pub made_draft : (n moment draft place : ℕ) (b : Book) (c : Command) → draft ≡ b.draft → (attempt_on sha256 b (in_draft n moment draft place) c).draft ≡ b.draft
 unfolding attempt
-made_draft n moment draft b c same = draft_tried n b c (record { draft = draft; opened = b.state.place; moment = moment }) (opening sha256 b.state c) (greatest b.draft draft same)
+made_draft n moment draft place b c same = draft_tried n b c (record { draft = draft; opened = place; moment = moment }) (opening sha256 b.state c) (greatest b.draft draft same)
 
 -- ---- without a draft
 
-abbrev undrafted : ℕ → State → steps.Turn
+abbrev pub undrafted : ℕ → State → steps.Turn
 undrafted moment state = record { draft = 0; opened = state.place; moment = moment }
 
 passed_again : (t : Tested) → (t >>= λ _. Ok tt) ≡ t
@@ -116,7 +120,7 @@ unfolding attempt
 call_is n moment b c opens = rw (opens, passed_again (opening sha256 b.state c)) refl
 
 pub call_brings : (n moment : ℕ) (b : Book) (c : Command) → opens_draft c ≡ false → Brings n 0 b.state c moment (call_on sha256 n b c moment)
-call_brings n moment b c opens = subst (λ (called : Called). Brings n 0 b.state c moment called) (sym (call_is n moment b c opens)) (made_by n moment 0 b c (opening sha256 b.state c) refl)
+call_brings n moment b c opens = subst (λ (called : Called). Brings n 0 b.state c moment called) (sym (call_is n moment b c opens)) (made_by n moment 0 b.state.place b c (opening sha256 b.state c) refl)
 
 pub call_draft : (n moment : ℕ) (b : Book) (c : Command) → opens_draft c ≡ false → (call_on sha256 n b c moment).draft ≡ b.draft
 call_draft n moment b c opens = ap (λ (called : Called). called.draft) (call_is n moment b c opens) ∙ draft_tried n b c (undrafted moment b.state) (opening sha256 b.state c) (max-zero b.draft)
@@ -137,8 +141,8 @@ max_self n = omega arith
 max_next : (n : ℕ) → max n (n + 1) ≡ n + 1
 max_next n = omega arith
 
--- the call in its draft is the model's call, where the draft's number was the next
-pub called_alone : (n moment : ℕ) (b : Book) (c : Command) → opens_draft c ≡ true → may_open b c ≡ Ok tt → attempt_on sha256 (record b { draft = b.draft + 1 }) (in_draft n moment (b.draft + 1)) c ≡ call_on sha256 n b c moment
+-- the call in its draft is the model's call, where the draft was opened at the state and its number was the next
+pub called_alone : (n moment : ℕ) (b : Book) (c : Command) → opens_draft c ≡ true → may_open b c ≡ Ok tt → attempt_on sha256 (record b { draft = b.draft + 1 }) (in_draft n moment (b.draft + 1) b.state.place) c ≡ call_on sha256 n b c moment
 unfolding attempt
 called_alone n moment b c opens passes =
     let turn : steps.Turn = record { draft = b.draft + 1; opened = b.state.place; moment = moment } in
@@ -164,6 +168,9 @@ ok told = Ok told
 
 abbrev err : Refused → Result Told Refused
 err r = Err r
+
+abbrev failed : Refusal → Outcome
+failed why = Err why
 
 apart : {A : Type 0} (told : Told) (r : Refused) → ok told ≡ err r → A
 apart told r e = absurd cc
@@ -223,3 +230,42 @@ unfolding head_in entry_made
 entry_draft_is n draft state c moment called entry (inl x) e = none_is_not_one entry (sym x.none ∙ e)
 entry_draft_is n draft state c moment called entry (inr (inl x)) e = ap (λ (l : List LogEntry). (head_in l entry).draft) (sym e ∙ x.logged) ∙ x.draft_is
 entry_draft_is n draft state c moment called entry (inr (inr x)) e = none_is_not_one entry (sym x.none ∙ e)
+
+-- ---- contents that are gone
+
+-- the step of the call says so
+pub record IsGone (state : State) (c : Command) (turn : steps.Turn) (place : Option ℕ) (keys : List Key) (opened : ℕ) : Type 0 where
+  pub at : place ≡ Some state.place
+  pub passes : opening sha256 state c ≡ Ok tt
+  pub is : step sha256 state c turn ≡ Err (Expired keys opened)
+
+accepted : {A : Type 0} (b : Bool) (x y : Called) (t u : Told) (r : Refused) → x.said ≡ Ok t → y.said ≡ Ok u → (if b then x else y).said ≡ Err r → A
+accepted true x y t u r p q e = apart t r (sym p ∙ e)
+accepted false x y t u r p q e = apart u r (sym q ∙ e)
+
+step_refused : (n : ℕ) (state : State) (last : ℕ) (c : Command) (turn : steps.Turn) (r : Refused) (outcome : Outcome) → step sha256 state c turn ≡ outcome → (stepped sha256 n state last c turn outcome).said ≡ Err r → (r.place ≡ Some state.place) × (step sha256 state c turn ≡ Err r.why)
+step_refused n state last c turn r (Err why) e said =
+    let same : record { place = Some state.place; why = why } ≡ r = same_refused (record { place = Some state.place; why = why }) r said in
+    (sym (ap (λ (x : Refused). x.place) same), e ∙ ap (λ (x : Refused). failed x.why) same)
+step_refused n state last c turn r (Ok (after, reply)) e said = accepted (nat_lt state.place after.place) _ (unchanged_by state last (Ok reply)) _ _ r refl refl said
+
+-- the tests before a draft don't say so
+tests_tell : {A : Type 0} (why : Refusal) (keys : List Key) (opened : ℕ) → is_early why ≡ true → why ≡ Expired keys opened → A
+tests_tell why keys opened early gone = absurd (let wrong : false ≡ true = subst (λ (w : Refusal). is_early w ≡ true) gone early in cc)
+
+tried_gone : (n : ℕ) (b : Book) (c : Command) (turn : steps.Turn) (r : Refused) (keys : List Key) (opened : ℕ) (t : Tested) → opening sha256 b.state c ≡ t → r.why ≡ Expired keys opened → (tried sha256 n b.state b.draft c turn t).said ≡ Err r → IsGone b.state c turn r.place keys opened
+tried_gone n b c turn r keys opened (Err why) e gone said =
+    let same : record { place = Some b.state.place; why = why } ≡ r = same_refused (record { place = Some b.state.place; why = why }) r said in
+    tests_tell why keys opened (subst (λ (t : Tested). Causes is_early t) e (early_opening b.state c)) (ap (λ (x : Refused). x.why) same ∙ gone)
+tried_gone n b c turn r keys opened (Ok u) e gone said =
+    let refused = step_refused n b.state (max b.draft turn.draft) c turn r (step sha256 b.state c turn) refl said in
+    record { at = refused.0; passes = e; is = refused.1 ∙ ap failed gone }
+
+pub draft_gone : (n moment draft place : ℕ) (b : Book) (c : Command) (r : Refused) (keys : List Key) (opened : ℕ) → r.why ≡ Expired keys opened → (attempt_on sha256 b (in_draft n moment draft place) c).said ≡ Err r
+    → IsGone b.state c (record { draft = draft; opened = place; moment = moment }) r.place keys opened
+unfolding attempt
+draft_gone n moment draft place b c r keys opened gone said = tried_gone n b c (record { draft = draft; opened = place; moment = moment }) r keys opened (opening sha256 b.state c) refl gone said
+
+pub call_gone : (n moment : ℕ) (b : Book) (c : Command) (r : Refused) (keys : List Key) (opened : ℕ) → opens_draft c ≡ false → r.why ≡ Expired keys opened → (call_on sha256 n b c moment).said ≡ Err r → IsGone b.state c (undrafted moment b.state) r.place keys opened
+call_gone n moment b c r keys opened opens gone said =
+    tried_gone n b c (undrafted moment b.state) r keys opened (opening sha256 b.state c) refl gone (ap (λ (called : Called). called.said) (sym (call_is n moment b c opens)) ∙ said)

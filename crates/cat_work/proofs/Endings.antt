@@ -1,12 +1,13 @@
 -- A call between its attempts, and what ends it.
-use Rattle.std.proofs.Common.{◌≡◌, ◌<◌, ◌≤◌, inl, inr, ℕ, ◌+◌, List, [], ◌∷◌, ◌++◌, length, length-append, reverse, Option, Some, None, Result, Ok, Err, Bool, true, vec_capacity, refl, sym, ap, subst, ◌∙◌, arith}
+use Rattle.std.proofs.Common.{◌≡◌, ◌<◌, ◌≤◌, ◌⊎◌, inl, inr, ℕ, ◌+◌, List, [], ◌∷◌, ◌++◌, length, length-append, reverse, Option, Some, None, Result, Ok, Err, Bool, true, false, vec_capacity, refl, sym, ap, subst, ◌∙◌, arith}
 use Rattle.sha2.specs.Sha256.{sha256}
+use Rattle.cat_names.specs.Fields.{Key}
 use Rattle.cat_names.specs.declared.hash.Hash.{Hash}
 use Rattle.cat_decisions.specs.declared.building.Built.{Built}
 use Rattle.cat_decisions.specs.Builds.{HasHead, IsBuilt}
 use Rattle.cat_checks.specs.Histories.{IsLegalFrom, begun}
 use Rattle.cat_checks.specs.HistoryLaws.{limits_stay}
-use Rattle.cat_core.specs.Drafts.{IsOn, Refuses, called_in, closed, command_in, may_open, open_draft_of, opening_in, without}
+use Rattle.cat_core.specs.Drafts.{Expires, IsOn, Refuses, RefusesDraft, called_in, closed, command_in, is_expired, may_open, open_draft_of, opening_in, without}
 use Rattle.cat_core.specs.Stored as stored
 use Rattle.cat_core.specs.Stored.{Stored, log_of}
 use Rattle.cat_core.specs.declared.draft.Draft.{Draft}
@@ -29,13 +30,13 @@ use Rattle.cat_model.specs.State.{State}
 use Rattle.cat_model.specs.Step.{opening, opens_draft}
 use Rattle.cat_model.specs.TurnLaws.{grows_on, nothing_stays}
 use Rattle.cat_work.specs.declared.trying.Trying.{Trying}
-use Rattle.cat_work.specs.Answers.{Answers, AnswersAlone, IsDraftAbove, RefusesAlone, Spends}
+use Rattle.cat_work.specs.Answers.{Answers, AnswersAlone, Causes, IsDraftAbove, RefusesAlone, Spends}
 use Rattle.cat_work.specs.Passes.{IsAlone, book_of, state_of}
 use Rattle.cat_work.specs.Turns.{Begins, Comes, Ends, EndsLast, Going, IsSpent, Moves, StoodAlone, Trail, Tries, Turned, out_of_memory}
 use Rattle.cat_work.proofs.Callings.{Brings, called_alone, made_brings, made_draft, may_pass}
 use Rattle.cat_work.proofs.Opened.{drafts_more, drafts_one, none_left}
 use Rattle.cat_work.proofs.Openings.{may_room}
-use Rattle.cat_work.proofs.Telling.{AloneAt, Found, Left, Numbered, alone_err, alone_ok, answers_ok, book_found, causes, faults_same, follows_same, given_up_alone, grew_in, left_by_turn}
+use Rattle.cat_work.proofs.Telling.{AloneAt, Found, Left, Numbered, alone_err, alone_ok, answers_ok, book_found, causes, faults_same, follows_same, given_up_alone, gone_in_draft, grew_in, left_by_turn, refused_alone, stays_expired}
 use Rattle.cat_work.proofs.Trails.{built_on, one_head, place_at, trail_next, trail_start}
 
 -- ---- what is open of the caller
@@ -116,6 +117,7 @@ begins K desk c p q t attempts none legal keeps known_is room b =
       faults = λ x is own. turn.linked.own_fault x (sym (ap (λ (m : Mark). m.fault) mark) ∙ is) own;
       grows = grew_in desk p q s s' turn;
       alone = λ only. record {
+        place_is = o.place ∙ ap (λ (x : Book). x.state.place) (book_found desk p q s s' turn only);
         seen_is = log ∙ (turn.alone only).0;
         mark_is = mark ∙ (λ i. record ((turn.alone only).1 i) { draft = d.number; drafter = o.caller_is i });
         number_is = o.number ∙ ap (λ (n : ℕ). n + 1) (sym turn.draft ∙ ap (λ (m : Mark). m.draft) (turn.alone only).1);
@@ -211,6 +213,42 @@ goes_on {K} desk c first present next t u attempts number s s' g keeps legal tur
       alone = λ only. absurd (m.moved.other (stays_alone desk present next s s' d t.view m.built g.tries.view_is m.is_built turn (alone_still desk first present g.kept only)));
     }
 
+-- ---- why a draft was refused
+
+-- contents are gone
+pub record IsGoneIn {K : Type 0} (called : Called) (s : Stored K) (d : Draft) (r : Refused) (why : Refusal) (s' : Stored K) : Type 0 where
+  pub keys : List Key
+  pub opened : ℕ
+  pub is : why ≡ refusals.Expired keys opened
+  pub expires : Expires called s d r s'
+
+-- any other reason, as for a call without a draft
+pub record IsOtherIn {K : Type 0} (called : Called) (s : Stored K) (d : Draft) (r : Refused) (why : Refusal) (s' : Stored K) : Type 0 where
+  pub other : is_expired why ≡ false
+  pub refuses : Refuses called d.caller s r why s' (closed s d)
+
+by_draft : {K : Type 0} (called : Called) (s : Stored K) (d : Draft) (r : Refused) (why : Refusal) (s' : Stored K) → RefusesDraft called s d r why s' → IsGoneIn called s d r why s' ⊎ IsOtherIn called s d r why s'
+by_draft called s d r (refusals.BadRequest x) s' h = inr (record { other = refl; refuses = h })
+by_draft called s d r refusals.RefNotFound s' h = inr (record { other = refl; refuses = h })
+by_draft called s d r refusals.RefExists s' h = inr (record { other = refl; refuses = h })
+by_draft called s d r (refusals.ContentNotFound x) s' h = inr (record { other = refl; refuses = h })
+by_draft called s d r (refusals.Conflicts x) s' h = inr (record { other = refl; refuses = h })
+by_draft called s d r (refusals.Expired x y) s' h = inl (record { keys = x; opened = y; is = refl; expires = h })
+by_draft called s d r (refusals.RetriesSpent x) s' h = inr (record { other = refl; refuses = h })
+by_draft called s d r (refusals.SweepOpen x) s' h = inr (record { other = refl; refuses = h })
+by_draft called s d r (refusals.Limit x y) s' h = inr (record { other = refl; refuses = h })
+by_draft called s d r (refusals.Collision x y z) s' h = inr (record { other = refl; refuses = h })
+by_draft called s d r refusals.Fault s' h = inr (record { other = refl; refuses = h })
+by_draft called s d r (refusals.Down x) s' h = inr (record { other = refl; refuses = h })
+by_draft called s d r refusals.NoMemory s' h = inr (record { other = refl; refuses = h })
+by_draft called s d r refusals.NoRoute s' h = inr (record { other = refl; refuses = h })
+by_draft called s d r (refusals.WrongMethod x) s' h = inr (record { other = refl; refuses = h })
+by_draft called s d r refusals.TooLarge s' h = inr (record { other = refl; refuses = h })
+by_draft called s d r refusals.Encoding s' h = inr (record { other = refl; refuses = h })
+
+not_gone : {A : Type 0} (why : Refusal) (keys : List Key) (opened : ℕ) → is_expired why ≡ false → why ≡ refusals.Expired keys opened → A
+not_gone why keys opened other gone = absurd (let wrong : false ≡ true = sym other ∙ ap is_expired gone in cc)
+
 -- ---- an attempt that ends the call
 
 abbrev caller_was : {desk : DeskId} {c : Command} {first present : Pass} {t : Trying} {attempts number : ℕ} → Going desk c first present t attempts number → t.draft.caller ≡ number_of first
@@ -250,7 +288,7 @@ settled_answers {K} desk c first present next t attempts number moment s s' r op
     opens_own = ap (λ (x : Command). opens_draft x) g.command_is ∙ opens
 
     brings : Brings t.draft.caller t.draft.number s.book.state (command_in t.draft) moment (called_in s t.draft moment)
-    brings = made_brings t.draft.caller moment t.draft.number s.book (command_in t.draft)
+    brings = made_brings t.draft.caller moment t.draft.number t.draft.place s.book (command_in t.draft)
 
     numbered : Numbered desk (command_in t.draft) first t.draft.number
     numbered = record {
@@ -258,11 +296,18 @@ settled_answers {K} desk c first present next t attempts number moment s s' r op
       number = λ _. had_number (mark_of first).draft t.draft.number desk.opened.state.limits.drafts g.newer g.within;
     }
 
+    by_cause : (e : Refused) → IsGoneIn (called_in s t.draft moment) s t.draft e e.why s' ⊎ IsOtherIn (called_in s t.draft moment) s t.draft e e.why s'
+        → Follows t.draft.caller (seen first) (seen next) × Causes desk t.draft.caller (command_in t.draft) moment attempts (known first) (mark_of first) (mark_of next) (seen next) e.place e.why
+    by_cause e (inl x) = subst (λ (why : Refusal). Follows t.draft.caller (seen first) (seen next) × Causes desk t.draft.caller (command_in t.draft) moment attempts (known first) (mark_of first) (mark_of next) (seen next) e.place why) (sym x.is)
+        (gone_in_draft desk moment attempts (known first) t.draft first next s s' e x.keys x.opened opens_own own left numbered g.known_then x.is x.expires)
+    by_cause e (inr x) = causes desk t.draft.caller t.draft.number moment attempts (known first) (command_in t.draft) first next s s' (called_in s t.draft moment) e (closed s t.draft) e.why own left brings numbered
+        (λ keys opened gone refused. not_gone e.why keys opened x.other gone) refl x.refuses
+
     by_result : (x : Result Told Refused) → Ends s t.draft t.view moment x s' → Answers desk (number_of first) c moment attempts (known first) (mark_of first) (mark_of next) (seen first) (seen next) x
     by_result (Ok told) h = as_asked desk (number_of first) t.draft.caller moment attempts (known first) c (command_in t.draft) (mark_of first) (mark_of next) (seen first) (seen next) (Ok told) (caller_was g) g.command_is
         (answers_ok desk t.draft.caller t.draft.number moment attempts (known first) (command_in t.draft) first next s s' (called_in s t.draft moment) told (closed s t.draft) own left brings numbered h.2.1)
     by_result (Err e) (inl h) = as_asked desk (number_of first) t.draft.caller moment attempts (known first) c (command_in t.draft) (mark_of first) (mark_of next) (seen first) (seen next) (Err e) (caller_was g) g.command_is
-        (causes desk t.draft.caller t.draft.number moment attempts (known first) (command_in t.draft) first next s s' (called_in s t.draft moment) e (closed s t.draft) e.why own left brings numbered refl h.2.1)
+        (by_cause e (by_draft (called_in s t.draft moment) s t.draft e e.why s' h.2.1))
     by_result (Err e) (inr h) = spared desk (number_of first) moment attempts (known first) c first next s s' e found left (ap (λ (x : Stored K). x.book) h.1) (ap (λ (x : Stored K). x.mark.fault) h.1) h.0
 
 -- ---- nothing is left open
@@ -271,7 +316,7 @@ pub refuses_open : {K : Type 0} (called : Called) (n : ℕ) (s : Stored K) (r : 
 refuses_open {K} called n s r refusals.NoMemory s' left_open h = ap (λ (x : Stored K). (stored.open_of x)) h.1
 refuses_open {K} called n s r (refusals.Down count) s' left_open h = ap (λ (x : Stored K). (stored.open_of x)) h.2
 refuses_open {K} called n s r refusals.Fault s' left_open h = ap (λ (x : Stored K). (stored.open_of x)) h.after
-refuses_open {K} called n s r (refusals.Expired keys place) s' left_open h = absurd h
+refuses_open {K} called n s r (refusals.Expired x y) s' left_open h = ap (λ (x : Stored K). (stored.open_of x)) h.after
 refuses_open {K} called n s r (refusals.RetriesSpent x) s' left_open h = ap (λ (x : Stored K). (stored.open_of x)) h.after
 refuses_open {K} called n s r (refusals.Limit x y) s' left_open h = ap (λ (x : Stored K). (stored.open_of x)) h.after
 refuses_open {K} called n s r (refusals.BadRequest x) s' left_open h = ap (λ (x : Stored K). (stored.open_of x)) h.after
@@ -286,12 +331,16 @@ refuses_open {K} called n s r (refusals.WrongMethod x) s' left_open h = ap (λ (
 refuses_open {K} called n s r refusals.TooLarge s' left_open h = ap (λ (x : Stored K). (stored.open_of x)) h.after
 refuses_open {K} called n s r refusals.Encoding s' left_open h = ap (λ (x : Stored K). (stored.open_of x)) h.after
 
+draft_open : {K : Type 0} (called : Called) (s : Stored K) (d : Draft) (r : Refused) (why : Refusal) (s' : Stored K) → IsGoneIn called s d r why s' ⊎ IsOtherIn called s d r why s' → stored.open_of s' ≡ closed s d
+draft_open {K} called s d r why s' (inl x) = ap (λ (y : Stored K). stored.open_of y) x.expires.after
+draft_open called s d r why s' (inr x) = refuses_open called d.caller s r why s' (closed s d) x.refuses
+
 closed_then : {K : Type 0} (desk : DeskId) (p q : Pass) (s s' : Stored K) (d : Draft) → left_by p ≡ record { drafts = open_draft_of d ∷ []; sweep = None } → d.caller ≡ number_of p → Turned desk p q s s' → (stored.open_of s') ≡ closed s d → left_by q ≡ nothing_open
 closed_then desk p q s s' d left caller turn left_open = turn.left ∙ (ap (λ (o : Open). open_of (number_of p) o) left_open ∙ none_open (number_of p) (open_draft_of d) (stored.open_of s) caller (found_open desk p q s s' d left turn))
 
 ends_closed : {K : Type 0} (s s' : Stored K) (d : Draft) (view : State) (moment : ℕ) (r : Result Told Refused) → Ends s d view moment r s' → (stored.open_of s') ≡ closed s d
 ends_closed {K} s s' d view moment (Ok told) h = ap (λ (x : Stored K). (stored.open_of x)) h.2.1.after
-ends_closed {K} s s' d view moment (Err e) (inl h) = refuses_open (called_in s d moment) d.caller s e e.why s' (closed s d) h.2.1
+ends_closed s s' d view moment (Err e) (inl h) = draft_open (called_in s d moment) s d e e.why s' (by_draft (called_in s d moment) s d e e.why s' h.2.1)
 ends_closed {K} s s' d view moment (Err e) (inr h) = ap (λ (x : Stored K). (stored.open_of x)) h.1
 
 -- ---- on the only pass
@@ -302,21 +351,23 @@ alone_at : {K : Type 0} (desk : DeskId) (c : Command) (first present next : Pass
 alone_at {K} desk c first present next t attempts number moment s s' opens g turn only =
     let d : Draft = t.draft in
     let b : Book = book_of desk first in
-    let stood : StoodAlone desk c first present d.number = g.alone only in
+    let stood : StoodAlone desk c first present d.number d.place = g.alone only in
     let still : IsAlone present = alone_still desk first present g.kept only in
-    let present_is : book_of desk present ≡ record b { draft = d.number } = λ i. record { state = state_of desk (stood.seen_is i); draft = (stood.mark_is i).draft; log = reverse (stood.seen_is i) } in
+    let present_is : book_of desk present ≡ record b { draft = d.number } = λ i. record { state = state_of desk (stood.seen_is i); draft = (stood.mark_is i).draft; log = reverse (stood.seen_is i); base = desk.opened.state } in
     let found : s.book ≡ record b { draft = d.number } = book_found desk present next s s' turn still ∙ present_is in
     let next_is : s.book ≡ record b { draft = b.draft + 1 } = found ∙ ap (λ (n : ℕ). record b { draft = n }) stood.number_is in
     let draft : s.book.draft ≡ d.number = ap (λ (x : Book). x.draft) found in
     let raised_by : s.book.draft ≡ b.draft + 1 = ap (λ (x : Book). x.draft) next_is in
     let fault : s.mark.fault ≡ (mark_of first).fault = ap (λ (m : Mark). m.fault) ((turn.alone still).1 ∙ stood.mark_is) in
-    let same : called_in s d moment ≡ attempt_on sha256 (record b { draft = b.draft + 1 }) (in_draft (number_of first) moment (b.draft + 1)) c = λ i. attempt_on sha256 (next_is i) (in_draft (caller_was g i) moment (stood.number_is i)) (g.command_is i) in (
+    let same : called_in s d moment ≡ attempt_on sha256 (record b { draft = b.draft + 1 }) (in_draft (number_of first) moment (b.draft + 1) b.state.place) c =
+    λ i. attempt_on sha256 (next_is i) (in_draft (caller_was g i) moment (stood.number_is i) (stood.place_is i)) (g.command_is i) in (
       record {
         log = ap (λ (x : Book). x.log) found;
+        base = ap (λ (x : Book). x.base) found;
         state = ap (λ (x : Book). x.state) found;
         low = omega arith;
         high = omega arith;
-        draft = made_draft d.caller moment d.number s.book (command_in d) (sym draft);
+        draft = made_draft d.caller moment d.number d.place s.book (command_in d) (sym draft);
         fault = fault;
         down = λ x is. absurd (let wrong : None ≡ Some x = sym stood.up ∙ is in cc);
       },
@@ -334,11 +385,17 @@ settled_alone {K} desk c first present next t attempts number moment s s' r open
     left = left_by_turn desk present next s s' turn
 
     brings : Brings t.draft.caller t.draft.number s.book.state (command_in t.draft) moment (called_in s t.draft moment)
-    brings = made_brings t.draft.caller moment t.draft.number s.book (command_in t.draft)
+    brings = made_brings t.draft.caller moment t.draft.number t.draft.place s.book (command_in t.draft)
+
+    by_cause : (e : Refused) → IsGoneIn (called_in s t.draft moment) s t.draft e e.why s' ⊎ IsOtherIn (called_in s t.draft moment) s t.draft e e.why s'
+        → RefusesAlone t.draft.caller (called_in s t.draft moment) (book_of desk first) (book_of desk next) (mark_of first).fault (mark_of next).fault e e.why
+    by_cause e (inl x) = subst (λ (why : Refusal). RefusesAlone t.draft.caller (called_in s t.draft moment) (book_of desk first) (book_of desk next) (mark_of first).fault (mark_of next).fault e why) (sym x.is)
+        (refused_alone desk t.draft.caller t.draft.number moment (command_in t.draft) next s s' (called_in s t.draft moment) (book_of desk first) (mark_of first).fault e both.0 left brings (stays_expired (called_in s t.draft moment) s t.draft e s' x.expires))
+    by_cause e (inr x) = alone_err desk t.draft.caller t.draft.number moment (command_in t.draft) next s s' (called_in s t.draft moment) (book_of desk first) (mark_of first).fault e (closed s t.draft) e.why both.0 left brings refl x.refuses
 
     by_result : (x : Result Told Refused) → Ends s t.draft t.view moment x s' → AnswersAlone t.draft.caller (called_in s t.draft moment) (book_of desk first) (book_of desk next) (mark_of first).fault (mark_of next).fault x
     by_result (Ok told) h = alone_ok desk t.draft.caller next s s' (called_in s t.draft moment) (book_of desk first) (mark_of first).fault told (closed s t.draft) both.0 left h.2.1
-    by_result (Err e) (inl h) = alone_err desk t.draft.caller t.draft.number moment (command_in t.draft) next s s' (called_in s t.draft moment) (book_of desk first) (mark_of first).fault e (closed s t.draft) e.why both.0 left brings refl h.2.1
+    by_result (Err e) (inl h) = by_cause e (by_draft (called_in s t.draft moment) s t.draft e e.why s' h.2.1)
     by_result (Err e) (inr h) = subst (λ (x : Refused). RefusesAlone t.draft.caller (called_in s t.draft moment) (book_of desk first) (book_of desk next) (mark_of first).fault (mark_of next).fault x x.why) (sym h.0)
         (given_up_alone desk t.draft.caller next s s' (called_in s t.draft moment) (book_of desk first) (mark_of first).fault out_of_memory both.0 left (ap (λ (x : Stored K). x.book) h.1) (ap (λ (x : Stored K). x.mark.fault) h.1) refl)
 

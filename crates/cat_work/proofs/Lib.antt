@@ -1,6 +1,7 @@
 mod Steps
-mod Callings
+mod Expiring
 mod Openings
+mod Callings
 mod Spent
 mod Opened
 mod Trails

@@ -23,7 +23,7 @@ is_early _ = false
 has_early : HasEarly is_early
 has_early = record { bad = λ reason. refl; missing = refl }
 
-early_opening : (state : State) (c : Command) → Causes is_early (opening sha256 state c)
+pub early_opening : (state : State) (c : Command) → Causes is_early (opening sha256 state c)
 early_opening state c = opening_causes sha256 is_early has_early state c
 
 -- why no draft may be opened: by the tests before it, or since no number is left

@@ -2,8 +2,10 @@
 use Rattle.std.proofs.Common.{◌≡◌, ◌≤◌, ◌⊎◌, inl, inr, ℕ, ◌+◌, List, [], ◌∷◌, ◌++◌, reverse, Option, Some, None, Ok, Err, Bool, true, false, refl, sym, ap, subst, ◌∙◌, arith}
 use Rattle.std.proofs.lemmas.List.{reverse-append, reverse-reverse}
 use Rattle.sha2.specs.Sha256.{sha256}
-use Rattle.cat_core.specs.Drafts.{Does, IsRefused, Refuses}
+use Rattle.cat_names.specs.Fields.{Key}
+use Rattle.cat_core.specs.Drafts.{Does, Expires, IsRefused, Refuses, called_in, command_in}
 use Rattle.cat_core.specs.Stored.{Stored, log_of}
+use Rattle.cat_core.specs.declared.draft.Draft.{Draft}
 use Rattle.cat_desk.specs.Log.{Follows}
 use Rattle.cat_desk.specs.Pass.{DeskId, mark_of, seen}
 use Rattle.cat_desk.specs.declared.pass.Pass.{Pass}
@@ -16,18 +18,19 @@ use Rattle.cat_model.specs.declared.refusal.Refusal.TheVariants as refusals
 use Rattle.cat_model.specs.declared.refusal.Refused.{Refused}
 use Rattle.cat_model.specs.declared.reply.Reply.{Reply}
 use Rattle.cat_model.specs.declared.reply.Told.{Told}
-use Rattle.cat_model.specs.Book.{Book, IsCalled, IsGivenUp, after_call}
+use Rattle.cat_model.specs.Book.{Book, IsCalled, IsGivenUp, after_call, call_on}
 use Rattle.cat_model.specs.Calls.{Called, entry_made}
 use Rattle.cat_model.specs.Drafts.{Open}
 use Rattle.cat_model.specs.Mark.{FailedAppend, Grows, Mark}
 use Rattle.cat_model.specs.Refusing.{Outcome}
 use Rattle.cat_model.specs.State.{State}
-use Rattle.cat_model.specs.Step.{opens_draft, step}
+use Rattle.cat_model.specs.Step.{opening, opens_draft, step}
 use Rattle.cat_model.specs.TurnLaws.{grows_on}
-use Rattle.cat_work.specs.Answers.{Answers, AnswersAlone, Causes, ComesToIn, HadNumber, IsAt, IsDraftAbove, IsEntryOf, IsRuledOut, NoFaultIsNew, RefusesAlone}
+use Rattle.cat_work.specs.Answers.{Answers, AnswersAlone, BeganAt, Causes, ComesToIn, HadNumber, IsAt, IsDraftAbove, IsEntryOf, IsRuledOut, NoFaultIsNew, RefusesAlone}
 use Rattle.cat_work.specs.Passes.{IsAlone, book_of, state_of}
 use Rattle.cat_work.specs.Turns.{Turned}
-use Rattle.cat_work.proofs.Callings.{Brings, Entering, Telling, entry_draft_is, entry_is, refused_is, told_is}
+use Rattle.cat_work.proofs.Callings.{Brings, Entering, IsGone, Telling, call_gone, draft_gone, entry_draft_is, entry_is, refused_is, told_is, undrafted}
+use Rattle.cat_work.proofs.Expiring.{gone_at_draft, gone_at_state}
 use Rattle.cat_core.specs.PlainLaws.{IsUsual, IsUsualCause}
 use Rattle.cat_core.specs.UsualLaws.{usual_step}
 
@@ -57,7 +60,7 @@ left_by_turn desk p q s s' t =
     let state : state_of desk (seen q) ≡ s'.book.state = ap (state_of desk) t.seen_is ∙ t.led_on in
     let draft : (mark_of q).draft ≡ s'.book.draft = ap (λ (m : Mark). m.draft) t.mark_is ∙ t.draft_on in
     let log : reverse (seen q) ≡ s'.book.log = ap (λ (l : List LogEntry). reverse l) t.seen_is ∙ reverse-reverse s'.book.log in
-    record { seen_is = t.seen_is; mark_is = t.mark_is; state_is = state; book_is = λ i. record { state = state i; draft = draft i; log = log i } }
+    record { seen_is = t.seen_is; mark_is = t.mark_is; state_is = state; book_is = λ i. record { state = state i; draft = draft i; log = log i; base = sym t.base_on i } }
 
 -- the mark that the pass holds grew, between its turns and in this one
 pub grew_in : {K : Type 0} (desk : DeskId) (p q : Pass) (s s' : Stored K) → Turned desk p q s s' → Grows (mark_of p) (mark_of q)
@@ -70,7 +73,7 @@ book_found desk p q s s' t alone =
     let state : s.book.state ≡ state_of desk (seen p) = sym t.led ∙ ap (state_of desk) there.0 in
     let draft : s.book.draft ≡ (mark_of p).draft = sym t.draft ∙ ap (λ (m : Mark). m.draft) there.1 in
     let log : s.book.log ≡ reverse (seen p) = sym (reverse-reverse s.book.log) ∙ ap (λ (l : List LogEntry). reverse l) there.0 in
-    λ i. record { state = state i; draft = draft i; log = log i }
+    λ i. record { state = state i; draft = draft i; log = log i; base = t.base i }
 
 -- ---- steps at the state that is left
 
@@ -162,21 +165,81 @@ at_state desk next state place same is = is ∙ ap (λ (x : State). Some x.place
 pub faults_same : {K : Type 0} (desk : DeskId) (n : ℕ) (first next : Pass) (s s' : Stored K) → Found desk n first s → Left desk next s' → s'.mark.fault ≡ s.mark.fault → NoFaultIsNew n (mark_of first) (mark_of next)
 faults_same desk n first next s s' found left same x is own = found.no_new x (sym same ∙ (ap (λ (m : Mark). m.fault) (sym left.mark_is) ∙ is)) own
 
+-- a refusal by the rules: the book and the faults stay
+pub record Stays {K : Type 0} (called : Called) (s : Stored K) (r : Refused) (s' : Stored K) : Type 0 where
+  pub up : s.mark.fault ≡ None
+  pub said : called.said ≡ Err r
+  pub book : s'.book ≡ s.book
+  pub fault : s'.mark.fault ≡ s.mark.fault
+
+pub stays_refused : {K : Type 0} (called : Called) (s : Stored K) (r : Refused) (s' : Stored K) (left_open : Open) → IsRefused called s r s' left_open → Stays called s r s'
+stays_refused {K} called s r s' left_open is = record { up = is.up; said = is.said; book = ap (λ (x : Stored K). x.book) is.after; fault = ap (λ (x : Stored K). x.mark.fault) is.after }
+
+pub stays_expired : {K : Type 0} (called : Called) (s : Stored K) (d : Draft) (r : Refused) (s' : Stored K) → Expires called s d r s' → Stays called s r s'
+stays_expired {K} called s d r s' is = record { up = is.up; said = is.said; book = ap (λ (x : Stored K). x.book) is.after; fault = ap (λ (x : Stored K). x.mark.fault) is.after }
+
 -- what is refused by the rules
 refused_here : {K : Type 0} (desk : DeskId) (n draft moment : ℕ) (c : Command) (first next : Pass) (s s' : Stored K) (called : Called) (r : Refused) (left_open : Open) (why : Refusal) → Found desk n first s → Left desk next s' → Brings n draft s.book.state c moment called
     → Numbered desk c first draft → r.why ≡ why → IsRefused called s r s' left_open → Follows n (seen first) (seen next) × IsRuledOut desk c moment (mark_of first) (mark_of next) (seen next) r.place why
 refused_here {K} desk n draft moment c first next s s' called r left_open why found left brings numbered same refused =
-    let book : s'.book ≡ s.book = ap (λ (x : Stored K). x.book) refused.after in
-    let state = state_same desk next s s' left book in
+    let stays : Stays called s r s' = stays_refused called s r s' left_open refused in
+    let state = state_same desk next s s' left stays.book in
     let own = refused_is n draft s.book.state c moment called r brings refused.said in (
-      follows_same desk n first next s s' found left book,
+      follows_same desk n first next s s' found left stays.book,
       record {
         at = at_state desk next s.book.state r.place state own.place;
-        up = ap (λ (m : Mark). m.fault) left.mark_is ∙ (ap (λ (x : Stored K). x.mark.fault) refused.after ∙ refused.up);
+        up = ap (λ (m : Mark). m.fault) left.mark_is ∙ (stays.fault ∙ stays.up);
         number = λ passes. numbered.number;
         comes = record { draft = draft; above = numbered.above; is = comes_at draft (state_of desk (seen next)) s.book.state c moment (Err why) state (subst (λ (w : Refusal). ComesToIn draft s.book.state c moment (Err w)) same own.why) };
       },
     )
+
+-- contents are gone
+gone_here : {K : Type 0} (desk : DeskId) (n draft opened moment attempts k : ℕ) (c : Command) (first next : Pass) (s s' : Stored K) (called : Called) (r : Refused) (keys : List Key) → Found desk n first s → Left desk next s' → Numbered desk c first draft → Stays called s r s'
+    → IsGone s.book.state c (record { draft = draft; opened = opened; moment = moment }) r.place keys opened → desk.opened.state.place + k ≤ opened → BeganAt n (opens_draft c) s.book.state.place s'.mark draft opened
+    → Follows n (seen first) (seen next) × Causes desk n c moment attempts k (mark_of first) (mark_of next) (seen next) r.place (refusals.Expired keys opened)
+gone_here desk n draft opened moment attempts k c first next s s' called r keys found left numbered stays gone known began =
+    let state = state_same desk next s s' left stays.book in (
+      follows_same desk n first next s s' found left stays.book,
+      (
+        at_state desk next s.book.state r.place state gone.at,
+        record {
+          up = ap (λ (m : Mark). m.fault) left.mark_is ∙ (stays.fault ∙ stays.up);
+          passes = ap (λ (x : State). opening sha256 x c) state ∙ gone.passes;
+          number = numbered.number;
+          draft = draft;
+          above = numbered.above;
+          is = ap (λ (x : State). step sha256 x c (record { draft = draft; opened = opened; moment = moment })) state ∙ gone.is;
+          known = known;
+          began = subst (λ (z : State × Mark). BeganAt n (opens_draft c) z.0.place z.1 draft opened) (λ i. (sym state i, sym left.mark_is i)) began;
+        },
+      ),
+    )
+
+-- that a call without a draft would show
+pub gone_at_once : {K : Type 0} (desk : DeskId) (n moment attempts k : ℕ) (c : Command) (first next : Pass) (s s' : Stored K) (r : Refused) (left_open : Open) (keys : List Key) (opened : ℕ) → opens_draft c ≡ false → Found desk n first s → Left desk next s' → Numbered desk c first 0
+    → desk.opened.state.place + k ≤ s.book.state.place → r.why ≡ refusals.Expired keys opened → IsRefused (call_on sha256 n s.book c moment) s r s' left_open
+    → Follows n (seen first) (seen next) × Causes desk n c moment attempts k (mark_of first) (mark_of next) (seen next) r.place (refusals.Expired keys opened)
+gone_at_once desk n moment attempts k c first next s s' r left_open keys opened opens found left numbered known gone refused =
+    let is = call_gone n moment s.book c r keys opened opens gone refused.said in
+    let there : opened ≡ s.book.state.place = gone_at_state s.book.state c (undrafted moment s.book.state) keys opened opens is.is in
+    gone_here desk n 0 opened moment attempts k c first next s s' (call_on sha256 n s.book c moment) r keys found left numbered (stays_refused (call_on sha256 n s.book c moment) s r s' left_open refused)
+    (subst (λ (place : ℕ). IsGone s.book.state c (record { draft = 0; opened = place; moment = moment }) r.place keys opened) (sym there) is)
+    (subst (λ (place : ℕ). desk.opened.state.place + k ≤ place) (sym there) known)
+    (subst (λ (b : Bool). BeganAt n b s.book.state.place s'.mark 0 opened) (sym opens) there)
+
+-- that a draft would set
+pub gone_in_draft : {K : Type 0} (desk : DeskId) (moment attempts k : ℕ) (d : Draft) (first next : Pass) (s s' : Stored K) (r : Refused) (keys : List Key) (opened : ℕ) → opens_draft (command_in d) ≡ true → Found desk d.caller first s → Left desk next s' → Numbered desk (command_in d) first d.number
+    → desk.opened.state.place + k ≤ d.place → r.why ≡ refusals.Expired keys opened → Expires (called_in s d moment) s d r s'
+    → Follows d.caller (seen first) (seen next) × Causes desk d.caller (command_in d) moment attempts k (mark_of first) (mark_of next) (seen next) r.place (refusals.Expired keys opened)
+gone_in_draft {K} desk moment attempts k d first next s s' r keys opened opens found left numbered known gone refused =
+    let is = draft_gone d.caller moment d.number d.place s.book (command_in d) r keys opened gone refused.said in
+    let there : opened ≡ d.place = gone_at_draft s.book.state (command_in d) (record { draft = d.number; opened = d.place; moment = moment }) keys opened opens is.is in
+    let told : s'.mark.expired ≡ Some (record { number = d.number; caller = d.caller; place = opened }) = ap (λ (x : Stored K). x.mark.expired) refused.after ∙ (λ i. Some (record { number = d.number; caller = d.caller; place = sym there i })) in
+    gone_here desk d.caller d.number opened moment attempts k (command_in d) first next s s' (called_in s d moment) r keys found left numbered (stays_expired (called_in s d moment) s d r s' refused)
+    (subst (λ (place : ℕ). IsGone s.book.state (command_in d) (record { draft = d.number; opened = place; moment = moment }) r.place keys opened) (sym there) is)
+    (subst (λ (place : ℕ). desk.opened.state.place + k ≤ place) (sym there) known)
+    (subst (λ (b : Bool). BeganAt d.caller b s.book.state.place s'.mark d.number opened) (sym opens) told)
 
 -- no step refuses so
 never : {A : Type 0} (draft : ℕ) (state : State) (c : Command) (moment : ℕ) (why : Refusal) → (IsUsualCause why → ⊥) → ComesToIn draft state c moment (Err why) → A
@@ -199,19 +262,21 @@ by_limit desk n moment attempts k c first next quantities.Names number place h =
 not_none : (x : FailedAppend) → None ≡ Some x → ⊥
 not_none x e = cc
 
-pub causes : {K : Type 0} (desk : DeskId) (n draft moment attempts k : ℕ) (c : Command) (first next : Pass) (s s' : Stored K) (called : Called) (r : Refused) (left_open : Open) (why : Refusal) → Found desk n first s → Left desk next s' → Brings n draft s.book.state c moment called
-    → Numbered desk c first draft → r.why ≡ why → Refuses called n s r why s' left_open → Follows n (seen first) (seen next) × Causes desk n c moment attempts k (mark_of first) (mark_of next) (seen next) r.place why
-causes {K} desk n draft moment attempts k c first next s s' called r left_open refusals.NoMemory found left brings numbered same h =
+-- where contents are gone it is told apart
+pub causes : {K : Type 0} (desk : DeskId) (n draft moment attempts k : ℕ) (c : Command) (first next : Pass) (s s' : Stored K) (called : Called) (r : Refused) (left_open : Open) (why : Refusal) → Found desk n first s → Left desk next s' → Brings n draft s.book.state c moment called → Numbered desk c first draft
+    → ((keys : List Key) (opened : ℕ) → why ≡ refusals.Expired keys opened → IsRefused called s r s' left_open → Follows n (seen first) (seen next) × Causes desk n c moment attempts k (mark_of first) (mark_of next) (seen next) r.place (refusals.Expired keys opened))
+    → r.why ≡ why → Refuses called n s r why s' left_open → Follows n (seen first) (seen next) × Causes desk n c moment attempts k (mark_of first) (mark_of next) (seen next) r.place why
+causes {K} desk n draft moment attempts k c first next s s' called r left_open refusals.NoMemory found left brings numbered gone same h =
     let book : s'.book ≡ s.book = ap (λ (x : Stored K). x.book) h.1 in
     (follows_same desk n first next s s' found left book, (h.0, faults_same desk n first next s s' found left (ap (λ (x : Stored K). x.mark.fault) h.1)))
-causes {K} desk n draft moment attempts k c first next s s' called r left_open (refusals.Down count) found left brings numbered same h =
+causes {K} desk n draft moment attempts k c first next s s' called r left_open (refusals.Down count) found left brings numbered gone same h =
     let book : s'.book ≡ s.book = ap (λ (x : Stored K). x.book) h.2 in
     let state = state_same desk next s s' left book in
     let is : (mark_of next).fault ≡ Some h.1.0 = ap (λ (m : Mark). m.fault) left.mark_is ∙ (ap (λ (x : Stored K). x.mark.fault) h.2 ∙ h.1.1) in (
       follows_same desk n first next s s' found left book,
       (at_state desk next s.book.state r.place state h.0, record { fault = h.1.0; is = is; count_is = h.1.2; known = λ own. found.no_new h.1.0 h.1.1 own }),
     )
-causes {K} desk n draft moment attempts k c first next s s' called r left_open refusals.Fault found left brings numbered same h =
+causes {K} desk n draft moment attempts k c first next s s' called r left_open refusals.Fault found left brings numbered gone same h =
     let book : s'.book ≡ s.book = ap (λ (x : Stored K). x.book) h.after in
     let state = state_same desk next s s' left book in
     let is : (mark_of next).fault ≡ Some h.fault = ap (λ (m : Mark). m.fault) left.mark_is ∙ ap (λ (x : Stored K). x.mark.fault) h.after in (
@@ -231,29 +296,30 @@ causes {K} desk n draft moment attempts k c first next s s' called r left_open r
         },
       ),
     )
-causes desk n draft moment attempts k c first next s s' called r left_open (refusals.Expired keys opened) found left brings numbered same h = absurd h
-causes desk n draft moment attempts k c first next s s' called r left_open (refusals.RetriesSpent pairs) found left brings numbered same h =
+causes desk n draft moment attempts k c first next s s' called r left_open (refusals.Expired keys opened) found left brings numbered gone same h = gone keys opened refl h
+causes desk n draft moment attempts k c first next s s' called r left_open (refusals.RetriesSpent pairs) found left brings numbered gone same h =
     let out = (refused_here desk n draft moment c first next s s' called r left_open (refusals.RetriesSpent pairs) found left brings numbered same h).1 in
     never out.comes.draft (state_of desk (seen next)) c moment (refusals.RetriesSpent pairs) (is_false false refl) out.comes.is
-causes {K} desk n draft moment attempts k c first next s s' called r left_open (refusals.Limit which number) found left brings numbered same h =
+causes {K} desk n draft moment attempts k c first next s s' called r left_open (refusals.Limit which number) found left brings numbered gone same h =
     by_limit desk n moment attempts k c first next which number r.place (refused_here desk n draft moment c first next s s' called r left_open (refusals.Limit which number) found left brings numbered same h)
-causes desk n draft moment attempts k c first next s s' called r left_open (refusals.BadRequest x) found left brings numbered same h = refused_here desk n draft moment c first next s s' called r left_open (refusals.BadRequest x) found left brings numbered same h
-causes desk n draft moment attempts k c first next s s' called r left_open refusals.RefNotFound found left brings numbered same h = refused_here desk n draft moment c first next s s' called r left_open refusals.RefNotFound found left brings numbered same h
-causes desk n draft moment attempts k c first next s s' called r left_open refusals.RefExists found left brings numbered same h = refused_here desk n draft moment c first next s s' called r left_open refusals.RefExists found left brings numbered same h
-causes desk n draft moment attempts k c first next s s' called r left_open (refusals.ContentNotFound x) found left brings numbered same h = refused_here desk n draft moment c first next s s' called r left_open (refusals.ContentNotFound x) found left brings numbered same h
-causes desk n draft moment attempts k c first next s s' called r left_open (refusals.Conflicts x) found left brings numbered same h = refused_here desk n draft moment c first next s s' called r left_open (refusals.Conflicts x) found left brings numbered same h
-causes desk n draft moment attempts k c first next s s' called r left_open (refusals.SweepOpen x) found left brings numbered same h = refused_here desk n draft moment c first next s s' called r left_open (refusals.SweepOpen x) found left brings numbered same h
-causes desk n draft moment attempts k c first next s s' called r left_open (refusals.Collision x y z) found left brings numbered same h = refused_here desk n draft moment c first next s s' called r left_open (refusals.Collision x y z) found left brings numbered same h
-causes desk n draft moment attempts k c first next s s' called r left_open refusals.NoRoute found left brings numbered same h = refused_here desk n draft moment c first next s s' called r left_open refusals.NoRoute found left brings numbered same h
-causes desk n draft moment attempts k c first next s s' called r left_open (refusals.WrongMethod x) found left brings numbered same h = refused_here desk n draft moment c first next s s' called r left_open (refusals.WrongMethod x) found left brings numbered same h
-causes desk n draft moment attempts k c first next s s' called r left_open refusals.TooLarge found left brings numbered same h = refused_here desk n draft moment c first next s s' called r left_open refusals.TooLarge found left brings numbered same h
-causes desk n draft moment attempts k c first next s s' called r left_open refusals.Encoding found left brings numbered same h = refused_here desk n draft moment c first next s s' called r left_open refusals.Encoding found left brings numbered same h
+causes desk n draft moment attempts k c first next s s' called r left_open (refusals.BadRequest x) found left brings numbered gone same h = refused_here desk n draft moment c first next s s' called r left_open (refusals.BadRequest x) found left brings numbered same h
+causes desk n draft moment attempts k c first next s s' called r left_open refusals.RefNotFound found left brings numbered gone same h = refused_here desk n draft moment c first next s s' called r left_open refusals.RefNotFound found left brings numbered same h
+causes desk n draft moment attempts k c first next s s' called r left_open refusals.RefExists found left brings numbered gone same h = refused_here desk n draft moment c first next s s' called r left_open refusals.RefExists found left brings numbered same h
+causes desk n draft moment attempts k c first next s s' called r left_open (refusals.ContentNotFound x) found left brings numbered gone same h = refused_here desk n draft moment c first next s s' called r left_open (refusals.ContentNotFound x) found left brings numbered same h
+causes desk n draft moment attempts k c first next s s' called r left_open (refusals.Conflicts x) found left brings numbered gone same h = refused_here desk n draft moment c first next s s' called r left_open (refusals.Conflicts x) found left brings numbered same h
+causes desk n draft moment attempts k c first next s s' called r left_open (refusals.SweepOpen x) found left brings numbered gone same h = refused_here desk n draft moment c first next s s' called r left_open (refusals.SweepOpen x) found left brings numbered same h
+causes desk n draft moment attempts k c first next s s' called r left_open (refusals.Collision x y z) found left brings numbered gone same h = refused_here desk n draft moment c first next s s' called r left_open (refusals.Collision x y z) found left brings numbered same h
+causes desk n draft moment attempts k c first next s s' called r left_open refusals.NoRoute found left brings numbered gone same h = refused_here desk n draft moment c first next s s' called r left_open refusals.NoRoute found left brings numbered same h
+causes desk n draft moment attempts k c first next s s' called r left_open (refusals.WrongMethod x) found left brings numbered gone same h = refused_here desk n draft moment c first next s s' called r left_open (refusals.WrongMethod x) found left brings numbered same h
+causes desk n draft moment attempts k c first next s s' called r left_open refusals.TooLarge found left brings numbered gone same h = refused_here desk n draft moment c first next s s' called r left_open refusals.TooLarge found left brings numbered same h
+causes desk n draft moment attempts k c first next s s' called r left_open refusals.Encoding found left brings numbered gone same h = refused_here desk n draft moment c first next s s' called r left_open refusals.Encoding found left brings numbered same h
 
 -- ---- on the only pass
 
 -- the store as a turn finds it, against the book that the only pass stood at when the call came
 pub record AloneAt {K : Type 0} (called : Called) (b : Book) (f : Option FailedAppend) (s : Stored K) : Type 0 where
   pub log : s.book.log ≡ b.log
+  pub base : s.book.base ≡ b.base
   pub state : s.book.state ≡ b.state
   pub low : b.draft ≤ s.book.draft
   pub high : s.book.draft ≤ b.draft + 1
@@ -265,22 +331,21 @@ pub alone_ok : {K : Type 0} (desk : DeskId) (n : ℕ) (next : Pass) (s s' : Stor
     → AnswersAlone n called b (book_of desk next) f (mark_of next).fault (Ok told)
 alone_ok {K} desk n next s s' called b f told left_open at left does =
     let book : s'.book ≡ after_call s.book called = ap (λ (x : Stored K). x.book) does.after in (
-      record { said = does.said; book = left.book_is ∙ book ∙ ap (λ (l : List LogEntry). record { state = called.state; draft = called.draft; log = called.logged ++ l }) at.log },
+      record { said = does.said; book = left.book_is ∙ book ∙ (λ i. record { state = called.state; draft = called.draft; log = called.logged ++ at.log i; base = at.base i }) },
       sym at.fault ∙ does.up,
       ap (λ (m : Mark). m.fault) left.mark_is ∙ (ap (λ (x : Stored K). x.mark.fault) does.after ∙ does.up),
     )
 
-refused_alone : {K : Type 0} (desk : DeskId) (n draft moment : ℕ) (c : Command) (next : Pass) (s s' : Stored K) (called : Called) (b : Book) (f : Option FailedAppend) (r : Refused) (left_open : Open) → AloneAt called b f s → Left desk next s' → Brings n draft s.book.state c moment called
-    → IsRefused called s r s' left_open → IsCalled called b (book_of desk next) (Err r) × (f ≡ None) × ((mark_of next).fault ≡ None)
-refused_alone {K} desk n draft moment c next s s' called b f r left_open at left brings refused =
+pub refused_alone : {K : Type 0} (desk : DeskId) (n draft moment : ℕ) (c : Command) (next : Pass) (s s' : Stored K) (called : Called) (b : Book) (f : Option FailedAppend) (r : Refused) → AloneAt called b f s → Left desk next s' → Brings n draft s.book.state c moment called
+    → Stays called s r s' → IsCalled called b (book_of desk next) (Err r) × (f ≡ None) × ((mark_of next).fault ≡ None)
+refused_alone desk n draft moment c next s s' called b f r at left brings refused =
     let own = refused_is n draft s.book.state c moment called r brings refused.said in
-    let same : s'.book ≡ s.book = ap (λ (x : Stored K). x.book) refused.after in
     let state : s.book.state ≡ called.state = sym own.state_is in
     let log : s.book.log ≡ called.logged ++ b.log = at.log ∙ ap (λ (l : List LogEntry). l ++ b.log) (sym own.none) in
-    let after : s.book ≡ after_call b called = λ i. record { state = state i; draft = sym at.draft i; log = log i } in (
-      record { said = refused.said; book = left.book_is ∙ same ∙ after },
+    let after : s.book ≡ after_call b called = λ i. record { state = state i; draft = sym at.draft i; log = log i; base = at.base i } in (
+      record { said = refused.said; book = left.book_is ∙ refused.book ∙ after },
       sym at.fault ∙ refused.up,
-      ap (λ (m : Mark). m.fault) left.mark_is ∙ (ap (λ (x : Stored K). x.mark.fault) refused.after ∙ refused.up),
+      ap (λ (m : Mark). m.fault) left.mark_is ∙ (refused.fault ∙ refused.up),
     )
 
 pub given_up_alone : {K : Type 0} (desk : DeskId) (n : ℕ) (next : Pass) (s s' : Stored K) (called : Called) (b : Book) (f : Option FailedAppend) (r : Refused) → AloneAt called b f s → Left desk next s' → s'.book ≡ s.book → s'.mark.fault ≡ s.mark.fault → r.place ≡ None
@@ -312,7 +377,7 @@ alone_err {K} desk n draft moment c next s s' called b f r left_open refusals.Fa
     let book : book_of desk next ≡ s.book = left.book_is ∙ ap (λ (x : Stored K). x.book) h.after in
     record {
       place = h.place ∙ ap (λ (x : State). Some x.place) at.state;
-      unkept = record { entry = h.entry; logged = h.logged; state = ap (λ (x : Book). x.state) book ∙ at.state; log = ap (λ (x : Book). x.log) book ∙ at.log; draft = ap (λ (x : Book). x.draft) book ∙ sym at.draft };
+      unkept = record { entry = h.entry; logged = h.logged; state = ap (λ (x : Book). x.state) book ∙ at.state; log = ap (λ (x : Book). x.log) book ∙ at.log; base = ap (λ (x : Book). x.base) book ∙ at.base; draft = ap (λ (x : Book). x.draft) book ∙ sym at.draft };
       up = sym at.fault ∙ h.up;
       fault = h.fault;
       is = ap (λ (m : Mark). m.fault) left.mark_is ∙ ap (λ (x : Stored K). x.mark.fault) h.after;
@@ -321,19 +386,19 @@ alone_err {K} desk n draft moment c next s s' called b f r left_open refusals.Fa
       logged = h.logged;
       payload = h.payload;
     }
-alone_err desk n draft moment c next s s' called b f r left_open (refusals.Expired keys opened) at left brings same h = absurd h
+alone_err desk n draft moment c next s s' called b f r left_open (refusals.Expired keys opened) at left brings same h = refused_alone desk n draft moment c next s s' called b f r at left brings (stays_refused called s r s' left_open h)
 alone_err desk n draft moment c next s s' called b f r left_open (refusals.RetriesSpent pairs) at left brings same h =
     let own = refused_is n draft s.book.state c moment called r brings h.said in
     never draft s.book.state c moment (refusals.RetriesSpent pairs) (is_false false refl) (subst (λ (w : Refusal). ComesToIn draft s.book.state c moment (Err w)) same own.why)
-alone_err desk n draft moment c next s s' called b f r left_open (refusals.Limit x y) at left brings same h = refused_alone desk n draft moment c next s s' called b f r left_open at left brings h
-alone_err desk n draft moment c next s s' called b f r left_open (refusals.BadRequest x) at left brings same h = refused_alone desk n draft moment c next s s' called b f r left_open at left brings h
-alone_err desk n draft moment c next s s' called b f r left_open refusals.RefNotFound at left brings same h = refused_alone desk n draft moment c next s s' called b f r left_open at left brings h
-alone_err desk n draft moment c next s s' called b f r left_open refusals.RefExists at left brings same h = refused_alone desk n draft moment c next s s' called b f r left_open at left brings h
-alone_err desk n draft moment c next s s' called b f r left_open (refusals.ContentNotFound x) at left brings same h = refused_alone desk n draft moment c next s s' called b f r left_open at left brings h
-alone_err desk n draft moment c next s s' called b f r left_open (refusals.Conflicts x) at left brings same h = refused_alone desk n draft moment c next s s' called b f r left_open at left brings h
-alone_err desk n draft moment c next s s' called b f r left_open (refusals.SweepOpen x) at left brings same h = refused_alone desk n draft moment c next s s' called b f r left_open at left brings h
-alone_err desk n draft moment c next s s' called b f r left_open (refusals.Collision x y z) at left brings same h = refused_alone desk n draft moment c next s s' called b f r left_open at left brings h
-alone_err desk n draft moment c next s s' called b f r left_open refusals.NoRoute at left brings same h = refused_alone desk n draft moment c next s s' called b f r left_open at left brings h
-alone_err desk n draft moment c next s s' called b f r left_open (refusals.WrongMethod x) at left brings same h = refused_alone desk n draft moment c next s s' called b f r left_open at left brings h
-alone_err desk n draft moment c next s s' called b f r left_open refusals.TooLarge at left brings same h = refused_alone desk n draft moment c next s s' called b f r left_open at left brings h
-alone_err desk n draft moment c next s s' called b f r left_open refusals.Encoding at left brings same h = refused_alone desk n draft moment c next s s' called b f r left_open at left brings h
+alone_err desk n draft moment c next s s' called b f r left_open (refusals.Limit x y) at left brings same h = refused_alone desk n draft moment c next s s' called b f r at left brings (stays_refused called s r s' left_open h)
+alone_err desk n draft moment c next s s' called b f r left_open (refusals.BadRequest x) at left brings same h = refused_alone desk n draft moment c next s s' called b f r at left brings (stays_refused called s r s' left_open h)
+alone_err desk n draft moment c next s s' called b f r left_open refusals.RefNotFound at left brings same h = refused_alone desk n draft moment c next s s' called b f r at left brings (stays_refused called s r s' left_open h)
+alone_err desk n draft moment c next s s' called b f r left_open refusals.RefExists at left brings same h = refused_alone desk n draft moment c next s s' called b f r at left brings (stays_refused called s r s' left_open h)
+alone_err desk n draft moment c next s s' called b f r left_open (refusals.ContentNotFound x) at left brings same h = refused_alone desk n draft moment c next s s' called b f r at left brings (stays_refused called s r s' left_open h)
+alone_err desk n draft moment c next s s' called b f r left_open (refusals.Conflicts x) at left brings same h = refused_alone desk n draft moment c next s s' called b f r at left brings (stays_refused called s r s' left_open h)
+alone_err desk n draft moment c next s s' called b f r left_open (refusals.SweepOpen x) at left brings same h = refused_alone desk n draft moment c next s s' called b f r at left brings (stays_refused called s r s' left_open h)
+alone_err desk n draft moment c next s s' called b f r left_open (refusals.Collision x y z) at left brings same h = refused_alone desk n draft moment c next s s' called b f r at left brings (stays_refused called s r s' left_open h)
+alone_err desk n draft moment c next s s' called b f r left_open refusals.NoRoute at left brings same h = refused_alone desk n draft moment c next s s' called b f r at left brings (stays_refused called s r s' left_open h)
+alone_err desk n draft moment c next s s' called b f r left_open (refusals.WrongMethod x) at left brings same h = refused_alone desk n draft moment c next s s' called b f r at left brings (stays_refused called s r s' left_open h)
+alone_err desk n draft moment c next s s' called b f r left_open refusals.TooLarge at left brings same h = refused_alone desk n draft moment c next s s' called b f r at left brings (stays_refused called s r s' left_open h)
+alone_err desk n draft moment c next s s' called b f r left_open refusals.Encoding at left brings same h = refused_alone desk n draft moment c next s s' called b f r at left brings (stays_refused called s r s' left_open h)

@@ -30,9 +30,9 @@ led_from : {K : Type 0} (desk : DeskId) (s : Stored K) → opened_of s ≡ desk.
 led_from desk s opened led = ap (λ (o : Opened). (book_at o (log_of s)).state) (sym opened) ∙ led
 
 pub turned : {K : Type 0} (desk : DeskId) (p during q : Pass) (s s' : Stored K) → number_of during ≡ number_of p → opened_of s ≡ desk.opened → opened_of s' ≡ opened_of s → Follows (number_of p) (seen p) (log_of s) → Linked (number_of p) (mark_of p) s.mark
-    → StaysOpen (left_by p) (open_of (number_of p) (stored.open_of s)) → (IsAlone p → (log_of s ≡ seen p) × (s.mark ≡ mark_of p)) → (book_at (opened_of s) (log_of s)).state ≡ s.book.state → s.mark.draft ≡ s.book.draft → (book_at (opened_of s') (log_of s')).state ≡ s'.book.state
-    → s'.mark.draft ≡ s'.book.draft → seen q ≡ log_of s' → mark_of q ≡ s'.mark → Grows s.mark s'.mark → left_by q ≡ open_of (number_of during) (stored.open_of s') → Turned desk p q s s'
-turned desk p during q s s' number opened same follows linked own alone led draft led_on draft_on seen_is mark_is grew left = record {
+    → StaysOpen (left_by p) (open_of (number_of p) (stored.open_of s)) → (IsAlone p → (log_of s ≡ seen p) × (s.mark ≡ mark_of p)) → (book_at (opened_of s) (log_of s)).state ≡ s.book.state → s.mark.draft ≡ s.book.draft → s.book.base ≡ (opened_of s).state
+    → (book_at (opened_of s') (log_of s')).state ≡ s'.book.state → s'.mark.draft ≡ s'.book.draft → s'.book.base ≡ (opened_of s').state → seen q ≡ log_of s' → mark_of q ≡ s'.mark → Grows s.mark s'.mark → left_by q ≡ open_of (number_of during) (stored.open_of s') → Turned desk p q s s'
+turned desk p during q s s' number opened same follows linked own alone led draft base led_on draft_on base_on seen_is mark_is grew left = record {
   opened = opened;
   follows = follows;
   linked = linked;
@@ -40,8 +40,10 @@ turned desk p during q s s' number opened same follows linked own alone led draf
   alone = alone;
   led = led_from desk s opened led;
   draft = draft;
+  base = base ∙ ap (λ (o : Opened). o.state) opened;
   led_on = led_from desk s' (same ∙ opened) led_on;
   draft_on = draft_on;
+  base_on = base_on ∙ ap (λ (o : Opened). o.state) (same ∙ opened);
   seen_is = seen_is;
   mark_is = mark_is;
   grew = grew;

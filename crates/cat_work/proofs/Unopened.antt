@@ -12,7 +12,7 @@ use Rattle.cat_model.specs.declared.refusal.Refusal.{Refusal}
 use Rattle.cat_model.specs.declared.refusal.Refusal.TheVariants as refusals
 use Rattle.cat_model.specs.declared.refusal.Refused.{Refused}
 use Rattle.cat_model.specs.declared.reply.Told.{Told}
-use Rattle.cat_model.specs.Book.{Book, IsCalled, IsGivenUp, call_on}
+use Rattle.cat_model.specs.Book.{Book, IsCalled, IsGivenUp, after_call, call_on}
 use Rattle.cat_model.specs.Calls.{Called, attempt, in_next, needs_draft, tried, turn_on, unchanged_by}
 use Rattle.cat_model.specs.Drafts.{Open, StaysOpen, nothing_open, open_of}
 use Rattle.cat_model.specs.Mark.{FailedAppend, Mark}
@@ -179,8 +179,7 @@ refused_alone {K} desk moment c p q s s' r why opens turn same only up is tests 
     let called : call_on sha256 (number_of p) b c moment ≡ unchanged_by b.state b.draft (Err why) = call_refused (number_of p) moment b c why opens (ap (λ (x : Book). may_open x c) (sym found) ∙ tests) in
     let told : record { place = Some b.state.place; why = why } ≡ r = ap (λ (x : Book). record { place = Some x.state.place; why = why }) (sym found) ∙ sym is in
     let said : (call_on sha256 (number_of p) b c moment).said ≡ Err r = ap (λ (x : Called). x.said) called ∙ ap (λ (x : Refused). Err x) told in
-    let after : book_of desk q ≡ record { state = (call_on sha256 (number_of p) b c moment).state; draft = (call_on sha256 (number_of p) b c moment).draft; log = (call_on sha256 (number_of p) b c moment).logged ++ b.log } =
-    book ∙ ap (λ (x : Called). record { state = x.state; draft = x.draft; log = x.logged ++ b.log }) (sym called) in
+    let after : book_of desk q ≡ after_call b (call_on sha256 (number_of p) b c moment) = book ∙ ap (after_call b) (sym called) in
     alone_by (number_of p) (call_on sha256 (number_of p) b c moment) b (book_of desk q) (mark_of p).fault (mark_of q).fault c s.book.state s.book r why (record { said = said; book = after })
     (ap (λ (m : Mark). m.fault) (sym (turn.alone only).1) ∙ up) (ap (λ (m : Mark). m.fault) left.mark_is ∙ (ap (λ (y : Stored K). y.mark.fault) same ∙ up)) (may_not s.book c why tests)
 

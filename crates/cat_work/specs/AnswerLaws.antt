@@ -35,7 +35,7 @@ by_cause desk n moment attempts k c before after m place (refusals.Down count) x
     inl (ap refusals.Down (sym h.1.count_is ∙ ap (λ (f : FailedAppend). f.count) same))
 by_cause desk n moment attempts k c before after m place refusals.Fault x stood stands h = absurd (h.1.new (stood ∙ (sym stands ∙ h.1.is)))
 by_cause desk n moment attempts k c before after m place (refusals.RetriesSpent pairs) x stood stands h = fault_stands after x stands h.1.up
-by_cause desk n moment attempts k c before after m place (refusals.Expired keys opened) x stood stands h = absurd h
+by_cause desk n moment attempts k c before after m place (refusals.Expired keys opened) x stood stands h = fault_stands after x stands h.1.up
 by_cause desk n moment attempts k c before after m place (refusals.Limit which number) x stood stands h = by_limit desk n moment c before after m place which number x stands h
 by_cause desk n moment attempts k c before after m place why x stood stands h = fault_stands after x stands h.up
 

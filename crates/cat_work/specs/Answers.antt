@@ -1,6 +1,7 @@
 -- What a call on a pass answers.
 use Rattle.std.specs.Prelude.{◌≡◌, ◌≢◌, ◌⊎◌, ◌<◌, ◌≤◌, ℕ, ◌+◌, List, [], ◌∷◌, ◌++◌, length, take, Option, Some, None, Result, Ok, Err, Bool, true, false}
 use Rattle.sha2.specs.Sha256.{sha256}
+use Rattle.cat_names.specs.Fields.{Key}
 use Rattle.cat_names.specs.declared.hash.Hash.{Hash}
 use Rattle.cat_decisions.specs.Builds.{HasHead}
 use Rattle.cat_desk.specs.Log.{Follows}
@@ -12,6 +13,7 @@ use Rattle.cat_core.specs.Making.{IsNotKept}
 use Rattle.cat_model.specs.declared.command.Command.{Command}
 use Rattle.cat_model.specs.declared.limits.Quantity.{Quantity}
 use Rattle.cat_model.specs.declared.limits.Quantity.TheVariants.{Drafts}
+use Rattle.cat_model.specs.declared.log_entry.Action.TheVariants as actions
 use Rattle.cat_model.specs.declared.log_entry.LogEntry.{LogEntry}
 use Rattle.cat_model.specs.declared.refusal.Refusal.{Refusal}
 use Rattle.cat_model.specs.declared.refusal.Refusal.TheVariants as refusals
@@ -68,7 +70,7 @@ pub record Accepts (desk : DeskId) (n : ℕ) (c : Command) (moment : ℕ) (befor
   pub log : m ≡ earlier ++ entry ∷ []
   pub caller : entry.caller ≡ n
   pub moment_is : entry.moment ≡ moment
-  pub command_is : entry.command ≡ logged_command sha256 entry.draft c
+  pub command_is : entry.action ≡ actions.Call (logged_command sha256 entry.draft c)
   pub draft : IsDraftAbove before.draft (opens_draft c) entry.draft
   pub number : HadNumber desk c before.draft
   pub place : told.place ≡ (state_of desk m).place
@@ -127,6 +129,22 @@ pub record LacksDraft (n : ℕ) (state : State) (c : Command) (number : ℕ) (be
   pub taken : number ≤ after.draft
   pub others : after.drafter ≡ n → before.draft ≡ after.draft
 
+-- where a call began that is refused for contents that are gone: at its state, or where the draft was opened that the mark tells of, which is the caller's
+abbrev pub BeganAt : ℕ → Bool → ℕ → Mark → ℕ → ℕ → Type 0
+BeganAt n false place after draft opened = opened ≡ place
+BeganAt n true place after draft opened = after.expired ≡ Some (record { number = draft; caller = n; place = opened })
+
+-- contents are gone that the call would set or show: its step says so, in a draft of its own, with the keys and the place at which it began, which is no less than was known
+pub record Expires (desk : DeskId) (n : ℕ) (c : Command) (moment k : ℕ) (before after : Mark) (m : List LogEntry) (keys : List Key) (opened : ℕ) : Type 0 where
+  pub up : after.fault ≡ None
+  pub passes : opening sha256 (state_of desk m) c ≡ Ok tt
+  pub number : HadNumber desk c before.draft
+  pub draft : ℕ
+  pub above : IsDraftAbove before.draft (opens_draft c) draft
+  pub is : step sha256 (state_of desk m) c (record { draft = draft; opened = opened; moment = moment }) ≡ Err (refusals.Expired keys opened)
+  pub known : desk.opened.state.place + k ≤ opened
+  pub began : BeganAt n (opens_draft c) (state_of desk m).place after draft opened
+
 -- ---- attempts
 
 -- the head is the branch's at a place of the log
@@ -182,7 +200,7 @@ Causes desk n c moment attempts k before after m place refusals.NoMemory = (plac
 Causes desk n c moment attempts k before after m place (refusals.Down count) = IsAt desk m place × IsDown n count before after
 Causes desk n c moment attempts k before after m place refusals.Fault = IsAt desk m place × Falls desk n (state_of desk m) c moment before after
 Causes desk n c moment attempts k before after m place (refusals.RetriesSpent pairs) = IsAt desk m place × Spends desk n c attempts k before after m pairs
-Causes desk n c moment attempts k before after m place (refusals.Expired keys opened) = ⊥
+Causes desk n c moment attempts k before after m place (refusals.Expired keys opened) = IsAt desk m place × Expires desk n c moment k before after m keys opened
 Causes desk n c moment attempts k before after m place (refusals.Limit which number) = CausesLimit desk n c moment before after m place which number
 Causes desk n c moment attempts k before after m place why = IsRuledOut desk c moment before after m place why
 
@@ -228,7 +246,6 @@ RefusesAlone n called b b' f f' refused refusals.NoMemory = IsGivenUp b b' refus
 RefusesAlone n called b b' f f' refused (refusals.Down count) = IsDownAlone count b b' f f' refused
 RefusesAlone n called b b' f f' refused refusals.Fault = FallsAlone n called b b' f f' refused
 RefusesAlone n called b b' f f' refused (refusals.RetriesSpent pairs) = ⊥
-RefusesAlone n called b b' f f' refused (refusals.Expired keys opened) = ⊥
 RefusesAlone n called b b' f f' refused why = IsCalled called b b' (Err refused) × (f ≡ None) × (f' ≡ None)
 
 -- on the only pass: what the model's call on the pass's book does, unless memory ran out or an append failed

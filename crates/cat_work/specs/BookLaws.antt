@@ -19,16 +19,17 @@ pub record IsOn {K : Type 0} (store : Stored K) (desk : DeskId) (pass : Pass) : 
   pub seen_is : seen pass ≡ log_of store
   pub mark_is : mark_of pass ≡ store.mark
 
-book_by : (book : Book) (state : State) (draft : ℕ) (log : List LogEntry) → state ≡ book.state → draft ≡ book.draft → log ≡ book.log → record { state = state; draft = draft; log = log } ≡ book
-book_by book state draft log p q r = λ i. record { state = p i; draft = q i; log = r i }
+book_by : (book : Book) (state : State) (draft : ℕ) (log : List LogEntry) (base : State) → state ≡ book.state → draft ≡ book.draft → log ≡ book.log → base ≡ book.base → record { state = state; draft = draft; log = log; base = base } ≡ book
+book_by book state draft log base p q r s = λ i. record { state = p i; draft = q i; log = r i; base = s i }
 
 pub same_book : {K : Type 0} (store : Stored K) (desk : DeskId) (pass : Pass) → IsOn store desk pass → (book_at (opened_of store) (log_of store)).state ≡ store.book.state → store.mark.draft ≡ store.book.draft
-    → book_of desk pass ≡ store.book
-same_book store desk pass on led draft =
-    book_by store.book _ _ _
+    → store.book.base ≡ (opened_of store).state → book_of desk pass ≡ store.book
+same_book store desk pass on led draft base =
+    book_by store.book _ _ _ _
     (ap₂ (λ (o : Opened) (l : List LogEntry). (book_at o l).state) on.opened on.seen_is ∙ led)
     (ap (λ (m : Mark). m.draft) on.mark_is ∙ draft)
     (ap reverse on.seen_is ∙ reverse-reverse store.book.log)
+    (ap (λ (o : Opened). o.state) on.opened ∙ sym base)
 
 pub is_ready : {K : Type 0} (store : Stored K) (desk : DeskId) (pass : Pass) → IsOn store desk pass → desk.begun ≡ log_of store → IsFree desk pass → left_by pass ≡ nothing_open → IsLegalFrom (opened_of store) (log_of store) → IsReady desk pass
 is_ready store desk pass on begun free none legal = record {

@@ -13,9 +13,9 @@ use Rattle.cat_model.specs.State.{State}
 abbrev pub state_of : DeskId → List LogEntry → State
 state_of desk log = (book_at desk.opened log).state
 
--- the book that a pass stands at: the state after the log that it has seen, and the last draft number of its mark
+-- the book that a pass stands at: the state after the log that it has seen, from the one that this started from, and the last draft number of its mark
 abbrev pub book_of : DeskId → Pass → Book
-book_of desk p = record { state = state_of desk (seen p); draft = (mark_of p).draft; log = reverse (seen p) }
+book_of desk p = record { state = state_of desk (seen p); draft = (mark_of p).draft; log = reverse (seen p); base = desk.opened.state }
 
 -- it is the only pass of its desk
 abbrev pub IsAlone : Pass → Type 0

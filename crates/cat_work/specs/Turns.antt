@@ -56,8 +56,10 @@ pub record Turned {K : Type 0} (desk : DeskId) (p q : Pass) (s s' : Stored K) : 
   pub alone : IsAlone p → (log_of s ≡ seen p) × (s.mark ≡ mark_of p)
   pub led : state_of desk (log_of s) ≡ s.book.state
   pub draft : s.mark.draft ≡ s.book.draft
+  pub base : s.book.base ≡ desk.opened.state
   pub led_on : state_of desk (log_of s') ≡ s'.book.state
   pub draft_on : s'.mark.draft ≡ s'.book.draft
+  pub base_on : s'.book.base ≡ desk.opened.state
   pub seen_is : seen q ≡ log_of s'
   pub mark_is : mark_of q ≡ s'.mark
   pub grew : Grows s.mark s'.mark
@@ -159,11 +161,12 @@ Finishes K desk p q moment t r = (s : Stored K) × (s' : Stored K) × Turned des
 
 -- ---- a call
 
--- where the pass was alone, all is as it stood but for the draft
-pub record StoodAlone (desk : DeskId) (c : Command) (first present : Pass) (number : ℕ) : Type 0 where
+-- where the pass was alone, all is as it stood but for the draft, which was opened where it stood
+pub record StoodAlone (desk : DeskId) (c : Command) (first present : Pass) (number place : ℕ) : Type 0 where
   pub seen_is : seen present ≡ seen first
   pub mark_is : mark_of present ≡ record (mark_of first) { draft = number; drafter = number_of first }
   pub number_is : number ≡ (mark_of first).draft + 1
+  pub place_is : place ≡ (state_of desk (seen first)).place
   pub up : (mark_of first).fault ≡ None
   pub passes : may_open (book_of desk first) c ≡ Ok tt
 
@@ -180,7 +183,7 @@ pub record Going (desk : DeskId) (c : Command) (first present : Pass) (t : Tryin
   pub room : attempts + 1 ≤ vec_capacity t.pairs
   pub faults : NoFaultIsNew (number_of first) (mark_of first) (mark_of present)
   pub grows : Grows (mark_of first) (mark_of present)
-  pub alone : IsAlone first → StoodAlone desk c first present t.draft.number
+  pub alone : IsAlone first → StoodAlone desk c first present t.draft.number t.draft.place
 
 -- the first turn of a call, and the head that is built on first
 pub record Begins (K : Type 0) (desk : DeskId) (c : Command) (p q : Pass) (t : Trying) : Type 0 where

@@ -6,9 +6,8 @@ ghost use Rattle.cat_model.specs.Book.{Reads, call_on};
 ghost use Rattle.cat_model.specs.Step.{opens_draft};
 ghost use Rattle.cat_model.specs.WellMade.{is_well_made};
 ghost use Rattle.cat_state.specs.Adding.{IsAbove};
-ghost use Rattle.cat_decisions.specs.Expiring.{fails_expired, is_expired};
 ghost use Rattle.cat_state.specs.Kept.{Keeps};
-ghost use Rattle.cat_core.specs.Making.{Runs, refused_at, unmade_expired};
+ghost use Rattle.cat_core.specs.Making.{Runs, refused_at};
 
 use crate::ledger::Ledger;
 use crate::ledger::logging::Turn;
@@ -26,8 +25,7 @@ use std::alloc::Global;
 
 /// A call's refusal at a place; want of memory has none.
 pub fn refused(place: u32, failure: Failure) -> Refused
-    ensures value { result ≡ refused_at place failure }
-    ensures there { is_expired result.why ≡ fails_expired failure }
+    ensures { result ≡ refused_at place failure }
 {
     match failure {
         Failure::Refused(why) => Refused {
@@ -77,7 +75,6 @@ impl Ledger {
         requires kept { K.kept keeper.old ≡ self.old.state.place }
         ensures call { Runs (call_on sha256 caller self.old command.now moment) self.old self.new
             result }
-        ensures there { IfErr result (λ why. unmade_expired why ≡ false) }
         ensures later { IsAbove self.old.state.commits self.new.state.commits }
         ensures kept { K.kept keeper.new ≡ self.new.state.place }
         ensures keeps { Keeps K.Keeper keeper.old keeper.new
@@ -86,6 +83,7 @@ impl Ledger {
         let turn = Turn {
             caller,
             draft: 0,
+            opened: self.place(),
             moment,
         };
         let decided = decide_reference(alloc, self.catalogue(), command);

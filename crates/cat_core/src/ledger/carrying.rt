@@ -5,7 +5,7 @@ ghost use Rattle.cat_model.specs.declared.command.Command.{Command};
 ghost use Rattle.cat_state.specs.Adding.{IsAbove};
 ghost use Rattle.cat_state.specs.Kept.{Keeps};
 ghost use Rattle.cat_core.specs.Deciding.{IsDecided};
-ghost use Rattle.cat_core.specs.Making.{Runs, unmade_expired};
+ghost use Rattle.cat_core.specs.Making.{Runs};
 ghost use Rattle.cat_core.specs.Turns.{turned};
 
 use crate::ledger::Ledger;
@@ -42,7 +42,6 @@ impl Ledger {
         requires kept { K.kept keeper.old ≡ self.old.state.place }
         ensures call { (command : Command) → IsDecided self.old turn command decided
             → Runs (turned self.old turn command) self.old self.new result }
-        ensures there { IfErr result (λ why. unmade_expired why ≡ false) }
         ensures later { IsAbove self.old.state.commits self.new.state.commits }
         ensures kept { K.kept keeper.new ≡ self.new.state.place }
         ensures keeps { (command : Command) → IsDecided self.old turn command decided

@@ -9,7 +9,7 @@ ghost use Rattle.cat_model.specs.WellMade.{is_well_made};
 ghost use Rattle.cat_state.specs.Adding.{IsAbove};
 ghost use Rattle.cat_state.specs.Kept.{Keeps};
 ghost use Rattle.cat_decisions.specs.Builds.{IsBuilt, IsGivenBy, command_of};
-ghost use Rattle.cat_core.specs.Making.{Runs, taking, unmade_expired};
+ghost use Rattle.cat_core.specs.Making.{Runs, taking};
 
 use crate::ledger::Ledger;
 use crate::ledger::logging::Turn;
@@ -48,7 +48,8 @@ impl Ledger {
         self.draft = self.draft.max(draft);
     }
 
-    /// Settles what a call built on its branch's head: its step in its own draft.
+    /// Settles what a call built on its branch's head: its step in its own draft, which was opened at
+    /// a place.
     pub fn settle<K: Keeper>(
         &mut self,
         alloc: Global,
@@ -56,6 +57,7 @@ impl Ledger {
         caller: u32,
         moment: Moment,
         number: u64,
+        opened: u32,
         call: Call<'_>,
         built: Built,
     ) -> Result<Told, Unmade>
@@ -67,21 +69,21 @@ impl Ledger {
         requires up { K.down keeper.old ≡ None }
         requires kept { K.kept keeper.old ≡ self.old.state.place }
         ensures call { Runs
-            (attempt_on sha256 self.old (in_draft caller moment number) (command_of call.entry))
+            (attempt_on sha256 self.old (in_draft caller moment number opened) (command_of call.entry))
             self.old self.new result }
-        ensures there { IfErr result (λ why. unmade_expired why ≡ false) }
         ensures later { IsAbove self.old.state.commits self.new.state.commits }
         ensures kept { K.kept keeper.new ≡ self.new.state.place }
         ensures keeps { Keeps K.Keeper keeper.old keeper.new
-            (attempt_on sha256 self.old (in_draft caller moment number)
+            (attempt_on sha256 self.old (in_draft caller moment number opened)
             (command_of call.entry)).logged result }
     {
         let turn = Turn {
             caller,
             draft: number,
+            opened,
             moment,
         };
-        let decided = decide(alloc, self.catalogue(), number, moment, call, built);
+        let decided = decide(alloc, self.catalogue(), number, opened, moment, call, built);
         self.carry_out(alloc, keeper, turn, decided)
     }
 }

@@ -1,6 +1,7 @@
 //! The calls of entries, made again.
 
-ghost use Rattle.std.specs.Prelude.{IsTrue};
+ghost use Rattle.std.specs.Prelude.{◌≡◌, IsTrue};
+ghost use Rattle.cat_model.specs.declared.log_entry.Action.TheVariants as actions;
 ghost use Rattle.sha2.specs.Sha256.{sha256};
 ghost use Rattle.cat_checks.specs.Legal.{has_its_draft, replayed_call};
 ghost use Rattle.cat_model.specs.Step.{opens_draft};
@@ -23,13 +24,18 @@ use std::alloc::Global;
 
 impl Ledger {
     /// What the call of an entry comes to, where it opens a draft: it is opened, built and settled.
-    fn decide_drafted(&self, alloc: Global, entry: &LogEntry) -> Result<Decision, Failure>
-        requires well_made { IsTrue (is_well_made sha256 entry.now.command) }
-        requires opens { IsTrue (opens_draft entry.now.command) }
-        ensures { Decides entry.now.draft self.now.state entry.now.command
-            (comes_again self.now entry.now) result }
+    fn decide_drafted(
+        &self,
+        alloc: Global,
+        entry: &LogEntry,
+        command: &Command,
+    ) -> Result<Decision, Failure>
+        requires well_made { IsTrue (is_well_made sha256 command.now) }
+        requires opens { IsTrue (opens_draft command.now) }
+        ensures { Decides entry.now.draft self.now.state command.now
+            (comes_again self.now entry.now command.now) result }
     {
-        let call = call_of(alloc, entry.draft, &entry.command)?;
+        let call = call_of(alloc, entry.draft, command)?;
         call.open(self.catalogue())?;
         let view = self.view()?;
         let built = build(alloc, &view, &call)?;
@@ -37,6 +43,7 @@ impl Ledger {
             alloc,
             self.catalogue(),
             entry.draft,
+            self.place(),
             entry.moment,
             call,
             built,
@@ -44,31 +51,43 @@ impl Ledger {
     }
 
     /// What the call of an entry comes to, in the entry's own draft.
-    fn decide_again(&self, alloc: Global, entry: &LogEntry) -> Result<Decision, Failure>
-        requires { IsTrue (is_well_made sha256 entry.now.command) }
-        ensures { Decides entry.now.draft self.now.state entry.now.command
-            (comes_again self.now entry.now) result }
+    fn decide_again(
+        &self,
+        alloc: Global,
+        entry: &LogEntry,
+        command: &Command,
+    ) -> Result<Decision, Failure>
+        requires { IsTrue (is_well_made sha256 command.now) }
+        ensures { Decides entry.now.draft self.now.state command.now
+            (comes_again self.now entry.now command.now) result }
     {
-        match &entry.command {
+        match command {
             Command::Create(_) | Command::Assign(_) | Command::Delete(_) => {
-                decide_reference(alloc, self.catalogue(), &entry.command)
+                decide_reference(alloc, self.catalogue(), command)
             }
             Command::Commit(_) | Command::Merge(_) | Command::Transplant(_) => {
-                self.decide_drafted(alloc, entry)
+                self.decide_drafted(alloc, entry, command)
             }
         }
     }
 
     /// Makes the call of an entry of a log again, in its own draft.
-    pub fn replay(&mut self, alloc: Global, entry: &LogEntry) -> Result<Told, Failure>
-        requires well_made { IsTrue (is_well_made sha256 entry.now.command) }
+    pub fn replay(
+        &mut self,
+        alloc: Global,
+        entry: &LogEntry,
+        command: &Command,
+    ) -> Result<Told, Failure>
+        requires call { entry.now.action ≡ actions.Call command.now }
+        requires well_made { IsTrue (is_well_made sha256 command.now) }
         requires own_draft { IsTrue (has_its_draft entry.now) }
         ensures call { Remakes (replayed_call sha256 self.old entry.now) self.old self.new result }
     {
-        let decision = self.decide_again(alloc, entry)?;
+        let decision = self.decide_again(alloc, entry, command)?;
         let turn = Turn {
             caller: 0,
             draft: entry.draft,
+            opened: self.place(),
             moment: entry.moment,
         };
         let told = self.redo(alloc, turn, decision)?;

@@ -5,6 +5,8 @@ use Rattle.cat_codes.specs.Texts.{text_code, short_text_code}
 use Rattle.cat_names.specs.Fields.{Key, hash_code, id_code, element_code, key_code}
 use Rattle.cat_names.specs.declared.hash.Hash.{Hash}
 use Rattle.cat_names.specs.declared.hash.ContentId.{ContentId}
+use Rattle.cat_model.specs.declared.log_entry.Action.{Action}
+use Rattle.cat_model.specs.declared.log_entry.Action.TheVariants as actions
 use Rattle.cat_model.specs.declared.log_entry.LogEntry.{LogEntry}
 use Rattle.cat_model.specs.declared.op.Op.{Op}
 use Rattle.cat_model.specs.declared.op.Op.TheVariants.{Put, Delete, Unchanged}
@@ -46,8 +48,12 @@ logged_by (commands.Transplant t) = ([], [])
 abbrev entry_shape : LogEntry → ℕ × (ℕ × (ℕ × (ℕ × Option Hash)))
 entry_shape e = (e.place, (e.caller, (e.draft, (e.moment, e.head))))
 
+abbrev logged_as : Action → List (Key × (Option ContentId × Option Bool)) × List ContentId
+logged_as (actions.Call command) = logged_by command
+logged_as (actions.Sweep s) = ([], [])
+
 abbrev logged_ids : LogEntry → List (Key × (Option ContentId × Option Bool)) × List ContentId
-logged_ids e = logged_by e.command
+logged_ids e = logged_as e.action
 
 abbrev run : List Request → List LogEntry
 run requests = (script quick 7 clock empty requests).logged

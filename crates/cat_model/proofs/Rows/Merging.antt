@@ -25,6 +25,8 @@ use Rattle.cat_model.specs.declared.command.Command.{Command}
 use Rattle.cat_model.specs.declared.command.Command.TheVariants as commands
 use Rattle.cat_model.specs.declared.conflict.ConflictKind.TheVariants.{NamespaceNotEmpty, ValueDiffers}
 use Rattle.cat_model.specs.declared.limits.Quantity.TheVariants as quantities
+use Rattle.cat_model.specs.declared.log_entry.Action.{Action}
+use Rattle.cat_model.specs.declared.log_entry.Action.TheVariants as actions
 use Rattle.cat_model.specs.declared.log_entry.LogEntry.{LogEntry}
 use Rattle.cat_model.specs.declared.merging.Behaviour.TheVariants.{Normal, Force, Drop}
 use Rattle.cat_model.specs.declared.op.Op.TheVariants.{Delete}
@@ -258,6 +260,10 @@ asked_beside (commands.Commit c) = []
 asked_beside (commands.Merge m) = (m.dry_run, m.conflicts_as_result) ∷ []
 asked_beside (commands.Transplant t) = (t.dry_run, t.conflicts_as_result) ∷ []
 
+abbrev asked_by : Action → List (Bool × Bool)
+asked_by (actions.Call command) = asked_beside command
+asked_by (actions.Sweep s) = []
+
 abbrev entry_shape : LogEntry → ℕ × (ℕ × (ℕ × (ℕ × Option Hash)))
 entry_shape e = (e.place, (e.caller, (e.draft, (e.moment, e.head))))
 
@@ -268,6 +274,6 @@ the_entry_of_a_merge : map entry_shape logged ≡ (4, (7, (4, (5000000, Some (he
 unfolding u8_spelling u16_spelling u32_spelling u64_spelling i64_spelling i32_spelling list ascending text_code short_text_code hash_code id_code element_code key_code moment_code kind_code entry_code meta_code commit_code table_code namespace_code of_table of_namespace content_code emptied_fault changes_of op_fault judge entries commit_bytes content_bytes with_commit with_content expired_keys given_ops given_request request_commit commit_opening needs_commit_room step_commit needs_contents step_create step_assign step_delete common_ancestors is_nearer base plan needs_planned_room step_applied merge_opening merge_planned step_merge answer_reference answer_content entry_made attempt script
 the_entry_of_a_merge = refl
 
-what_is_asked_beside_is_not_logged : map (λ e. asked_beside e.command) logged ≡ ((false, false) ∷ []) ∷ []
+what_is_asked_beside_is_not_logged : map (λ e. asked_by e.action) logged ≡ ((false, false) ∷ []) ∷ []
 unfolding u8_spelling u16_spelling u32_spelling u64_spelling i64_spelling i32_spelling list ascending text_code short_text_code hash_code id_code element_code key_code moment_code kind_code entry_code meta_code commit_code table_code namespace_code of_table of_namespace content_code emptied_fault changes_of op_fault judge entries commit_bytes content_bytes with_commit with_content expired_keys given_ops given_request request_commit commit_opening needs_commit_room step_commit needs_contents step_create step_assign step_delete common_ancestors is_nearer base plan needs_planned_room step_applied merge_opening merge_planned step_merge answer_reference answer_content entry_made attempt script
 what_is_asked_beside_is_not_logged = refl

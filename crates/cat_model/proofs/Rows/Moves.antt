@@ -21,6 +21,8 @@ use Rattle.cat_model.specs.declared.command.Command.{Command}
 use Rattle.cat_model.specs.declared.command.Command.TheVariants as commands
 use Rattle.cat_model.specs.declared.conflict.ConflictKind.TheVariants.{UnexpectedHash}
 use Rattle.cat_model.specs.declared.limits.Quantity.TheVariants as quantities
+use Rattle.cat_model.specs.declared.log_entry.Action.{Action}
+use Rattle.cat_model.specs.declared.log_entry.Action.TheVariants as actions
 use Rattle.cat_model.specs.declared.log_entry.LogEntry.{LogEntry}
 use Rattle.cat_model.specs.declared.reference.Kind.{Kind}
 use Rattle.cat_model.specs.declared.reference.Kind.TheVariants.{Branch, Tag}
@@ -118,6 +120,10 @@ source_kind (commands.Commit c) = None
 source_kind (commands.Merge m) = None
 source_kind (commands.Transplant t) = None
 
+abbrev kind_logged : Action → Option Kind
+kind_logged (actions.Call command) = source_kind command
+kind_logged (actions.Sweep s) = None
+
 abbrev logged : List LogEntry
 logged = (script quick 7 clock one (create dev Branch (from_branch main) ∷ create dev Branch (from_branch main) ∷ assign dev None None (from_branch main) ∷ delete dev None None ∷ put_new None t2 m1 ∷ [])).logged
 
@@ -126,6 +132,6 @@ moves_open_no_drafts : map shape logged
 unfolding u8_spelling u16_spelling u32_spelling u64_spelling i64_spelling i32_spelling list ascending text_code short_text_code hash_code id_code element_code key_code moment_code kind_code entry_code meta_code commit_code table_code namespace_code of_table of_namespace content_code emptied_fault changes_of op_fault judge entries commit_bytes content_bytes with_commit with_content expired_keys given_ops given_request request_commit commit_opening needs_commit_room step_commit needs_contents step_create step_assign step_delete history references_page answer_reference answer_entries history_item answer_history answer_contents answer_content entry_made attempt script
 moves_open_no_drafts = refl
 
-the_kind_of_a_source_is_not_logged : map (λ e. source_kind e.command) logged ≡ None ∷ None ∷ None ∷ None ∷ []
+the_kind_of_a_source_is_not_logged : map (λ e. kind_logged e.action) logged ≡ None ∷ None ∷ None ∷ None ∷ []
 unfolding u8_spelling u16_spelling u32_spelling u64_spelling i64_spelling i32_spelling list ascending text_code short_text_code hash_code id_code element_code key_code moment_code kind_code entry_code meta_code commit_code table_code namespace_code of_table of_namespace content_code emptied_fault changes_of op_fault judge entries commit_bytes content_bytes with_commit with_content expired_keys given_ops given_request request_commit commit_opening needs_commit_room step_commit needs_contents step_create step_assign step_delete history references_page answer_reference answer_entries history_item answer_history answer_contents answer_content entry_made attempt script
 the_kind_of_a_source_is_not_logged = refl

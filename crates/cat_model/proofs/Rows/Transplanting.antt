@@ -30,6 +30,8 @@ use Rattle.cat_model.specs.declared.commit.Meta.{Meta}
 use Rattle.cat_model.specs.declared.conflict.ConflictKind.TheVariants.{KeyDoesNotExist, ValueDiffers}
 use Rattle.cat_model.specs.declared.content.Content.{Content}
 use Rattle.cat_model.specs.declared.limits.Quantity.TheVariants as quantities
+use Rattle.cat_model.specs.declared.log_entry.Action.{Action}
+use Rattle.cat_model.specs.declared.log_entry.Action.TheVariants as actions
 use Rattle.cat_model.specs.declared.log_entry.LogEntry.{LogEntry}
 use Rattle.cat_model.specs.declared.merging.Behaviour.{Behaviour}
 use Rattle.cat_model.specs.declared.merging.Behaviour.TheVariants.{Normal, Force, Drop}
@@ -309,6 +311,10 @@ abbrev asked_beside : Command → List (Bool × Bool)
 asked_beside (commands.Transplant t) = (t.dry_run, t.conflicts_as_result) ∷ []
 asked_beside _ = []
 
+abbrev asked_by : Action → List (Bool × Bool)
+asked_by (actions.Call command) = asked_beside command
+asked_by (actions.Sweep s) = []
+
 abbrev entry_shape : LogEntry → ℕ × (ℕ × (ℕ × (ℕ × Option Hash)))
 entry_shape e = (e.place, (e.caller, (e.draft, (e.moment, e.head))))
 
@@ -319,7 +325,7 @@ one_entry_for_all : map entry_shape logged ≡ (6, (7, (6, (7000000, Some (head 
 unfolding u8_spelling u16_spelling u32_spelling u64_spelling i64_spelling i32_spelling list ascending text_code short_text_code hash_code id_code element_code key_code moment_code kind_code entry_code meta_code commit_code table_code namespace_code of_table of_namespace content_code emptied_fault changes_of op_fault judge entries commit_bytes content_bytes with_commit with_content expired_keys given_ops given_request request_commit commit_opening needs_commit_room step_commit needs_contents step_create plan needs_planned_room step_applied transplant_opening transplant_planned step_transplant answer_reference answer_content entry_made attempt script
 one_entry_for_all = refl
 
-what_is_asked_beside_is_not_logged : map (λ e. asked_beside e.command) logged ≡ ((false, false) ∷ []) ∷ []
+what_is_asked_beside_is_not_logged : map (λ e. asked_by e.action) logged ≡ ((false, false) ∷ []) ∷ []
 unfolding u8_spelling u16_spelling u32_spelling u64_spelling i64_spelling i32_spelling list ascending text_code short_text_code hash_code id_code element_code key_code moment_code kind_code entry_code meta_code commit_code table_code namespace_code of_table of_namespace content_code emptied_fault changes_of op_fault judge entries commit_bytes content_bytes with_commit with_content expired_keys given_ops given_request request_commit commit_opening needs_commit_room step_commit needs_contents step_create plan needs_planned_room step_applied transplant_opening transplant_planned step_transplant answer_reference answer_content entry_made attempt script
 what_is_asked_beside_is_not_logged = refl
 

@@ -1,7 +1,12 @@
 use Rattle.std.proofs.Common.{arith, refl, ◌∙◌}
 use Rattle.std.proofs.lemmas.Result.{err_from_is_err_and}
-use Rattle.cat_core.proofs.Led.{fault_of, next_added, next_refused, no_fault, none_read, stays_on, stays_still}
+use Rattle.cat_core.proofs.Led.{all_read, fault_of, next_added, next_refused, no_fault, none_read, stays_on, stays_still}
 use Rattle.cat_core.proofs.opening.led_to.Goals as goal
+
+pub returns-clause-led : goal.returns-clause-led
+returns-clause-led g c =
+    all_read (g.K.Keeper.told c.args.keeper.now) c.args.limits c.loop-i.i (g.K.Keeper.kept c.args.keeper.now) c.loop-i.replay.ledger
+    ((g.met.K.Keeper g.world.𝓛 g.world.𝓜 g.world.𝓡 ((λ s x. x), (λ x. x), (λ x. x), λ x. x)).counted c.args.keeper.now) (omega arith) c.loop-i.invariant.led
 
 pub returns-in_err-add_payload-clause-illegal : goal.returns-in_err-add_payload-clause-illegal
 returns-in_err-add_payload-clause-illegal g c = λ place is.
@@ -24,7 +29,7 @@ returns-in_err-add_payload-clause-level g c = λ other.
 pub loop-i-init : goal.loop-i-init
 loop-i-init g c = record {
   led = rw c.in_ok-replay.ensures.ledger (none_read (g.K.Keeper.told c.args.keeper.now) c.args.limits);
-  drafts = c.in_ok-replay.ensures.drafts;
+  followed = c.in_ok-replay.ensures.followed;
   stays =
       stays_still g.K.Keeper
       (g.met.K.Keeper g.world.𝓛 g.world.𝓜 g.world.𝓡 ((λ s x. x), (λ x. x), (λ x. x), λ x. x)).only_now c.args.keeper.now;
@@ -37,10 +42,15 @@ loop-i-preserved g c = record {
       next_added g.K.Keeper
       (g.met.K.Keeper g.world.𝓛 g.world.𝓜 g.world.𝓡 ((λ s x. x), (λ x. x), (λ x. x), λ x. x)).counted
       c.args.keeper.now c.loop-i.keeper c.loop-i.invariant.stays c.args.limits c.loop-i.i (omega arith) c.loop-i.replay.ledger c.loop-i.invariant.led c.add_payload.new.replay.ledger c.in_ok-add_payload.ensures.added;
-  drafts = c.in_ok-add_payload.ensures.drafts;
+  followed = c.in_ok-add_payload.ensures.followed;
   stays =
       stays_on g.K.Keeper
       (g.met.K.Keeper g.world.𝓛 g.world.𝓜 g.world.𝓡 ((λ s x. x), (λ x. x), (λ x. x), λ x. x)).counts_now
       c.args.keeper.now c.loop-i.keeper c.add_payload.new.keeper c.loop-i.invariant.stays c.add_payload.ensures.stays;
   level = c.in_ok-add_payload.ensures.level (no_fault _ _) ∙ c.loop-i.invariant.level;
 }
+
+pub returns-clause-led : goal.returns-clause-led
+returns-clause-led g c =
+    let laws = g.met.K.Keeper g.world.𝓛 g.world.𝓜 g.world.𝓡 ((λ s x. x), (λ x. x), (λ x. x), λ x. x) in
+    all_read (g.K.Keeper.told c.args.keeper.now) c.args.limits c.loop-i.i (g.K.Keeper.kept c.args.keeper.now) c.loop-i.replay.ledger (laws.counted c.args.keeper.now) (omega arith) c.loop-i.invariant.led

@@ -1,17 +1,13 @@
 use Rattle.std.proofs.lemmas.Result.{err_from_is_err_and}
-use Rattle.sha2.specs.Sha256.{sha256}
-use Rattle.cat_model.specs.Commits.{step_commit}
-use Rattle.cat_decisions.specs.ExpiringLaws.{unexpired_fails}
 use Rattle.cat_rules.specs.Rules.{verdict}
 use Rattle.cat_decisions.specs.KeyLaws.{still_distinct}
-use Rattle.cat_decisions.specs.UnexpiredLaws.{unexpired_step}
 use Rattle.cat_decisions.proofs.Making.{making_is}
 use Rattle.cat_decisions.proofs.Puts.{map_held}
 use Rattle.cat_decisions.proofs.Steps.{map_changed, opened_is, step_added, step_refused, step_unadded}
 use Rattle.cat_decisions.proofs.commit.settle_commit.Goals as goal
 
-pub returns-in_err-map-clause-decides : goal.returns-in_err-map-clause-decides
-returns-in_err-map-clause-decides c =
+pub returns-in_err-map : goal.returns-in_err-map
+returns-in_err-map c =
     let p = err_from_is_err_and c.from_residual.result c.from_residual.ensures.1 in
     let state = c.args.catalogue.now in
     let request = c.args.request.now in
@@ -19,18 +15,7 @@ returns-in_err-map-clause-decides c =
     let branch = c.in-Ok.branch.now in
     let given = c.args.given in
     let opened = opened_is state request number branch c.in-Ok.field-0-1 given c.args.judged c.in-Ok.ensures.opened c.requires.given c.requires.judged in
-    rw (p.1, p.2) (step_refused state request number c.args.moment branch given (verdict c.args.judged) c.in_err-map.field-0.0 opened (rw c.as_slice.ensures at c.in_err-map.ensures.test))
-
-pub returns-in_err-map-clause-there : goal.returns-in_err-map-clause-there
-returns-in_err-map-clause-there c =
-    let p = err_from_is_err_and c.from_residual.result c.from_residual.ensures.1 in
-    let state = c.args.catalogue.now in
-    let request = c.args.request.now in
-    let number = c.args.number in
-    let branch = c.in-Ok.branch.now in
-    let given = c.args.given in
-    let opened = opened_is state request number branch c.in-Ok.field-0-1 given c.args.judged c.in-Ok.ensures.opened c.requires.given c.requires.judged in
-    rw (p.1, p.2) (unexpired_fails c.in_err-map.field-0.0 (step_commit sha256 state request number c.args.moment) (unexpired_step state request number c.args.moment) (step_refused state request number c.args.moment branch given (verdict c.args.judged) c.in_err-map.field-0.0 opened (rw c.as_slice.ensures at c.in_err-map.ensures.test)))
+    record { decides = rw (p.1, p.2) (step_refused state request number c.args.moment branch given (verdict c.args.judged) c.in_err-map.field-0.0 opened (rw c.as_slice.ensures at c.in_err-map.ensures.test)) }
 
 pub additions-requires-clause-after : goal.additions-requires-clause-after
 additions-requires-clause-after c =
@@ -55,10 +40,10 @@ additions-requires-clause-held c =
     let branch = c.in-Ok.branch.now in
     let given = c.args.given in
     let opened = opened_is state request number branch c.in-Ok.field-0-1 given c.args.judged c.in-Ok.ensures.opened c.requires.given c.requires.judged in
-    map_held state number request branch given c.in_ok-map.map c.requires.given c.requires.contents (c.contents_are_held.ensures branch.head) (map_changed state request number branch given (verdict c.args.judged) c.in_ok-map.map opened (rw c.as_slice.ensures at c.in_ok-map.ensures.test))
+    map_held state number request branch given c.in_ok-map.map c.requires.given c.requires.contents c.in-Ok.ensures.held (map_changed state request number branch given (verdict c.args.judged) c.in_ok-map.map opened (rw c.as_slice.ensures at c.in_ok-map.ensures.test))
 
-pub returns-in_err-hash-clause-decides : goal.returns-in_err-hash-clause-decides
-returns-in_err-hash-clause-decides c =
+pub returns-in_err-hash : goal.returns-in_err-hash
+returns-in_err-hash c =
     let p = err_from_is_err_and c.from_residual-in_err-hash.result c.from_residual-in_err-hash.ensures.1 in
     let state = c.args.catalogue.now in
     let request = c.args.request.now in
@@ -66,21 +51,10 @@ returns-in_err-hash-clause-decides c =
     let branch = c.in-Ok.branch.now in
     let given = c.args.given in
     let opened = opened_is state request number branch c.in-Ok.field-0-1 given c.args.judged c.in-Ok.ensures.opened c.requires.given c.requires.judged in
-    rw (p.1, p.2) (step_unadded state request number c.args.moment branch given (verdict c.args.judged) c.in_ok-map.map c.in_err-hash.field-0.0 opened (rw c.as_slice.ensures at c.in_ok-map.ensures.test) c.in_err-hash.ensures.step)
+    record { decides = rw (p.1, p.2) (step_unadded state request number c.args.moment branch given (verdict c.args.judged) c.in_ok-map.map c.in_err-hash.field-0.0 opened (rw c.as_slice.ensures at c.in_ok-map.ensures.test) c.in_err-hash.ensures.step) }
 
-pub returns-in_err-hash-clause-there : goal.returns-in_err-hash-clause-there
-returns-in_err-hash-clause-there c =
-    let p = err_from_is_err_and c.from_residual-in_err-hash.result c.from_residual-in_err-hash.ensures.1 in
-    let state = c.args.catalogue.now in
-    let request = c.args.request.now in
-    let number = c.args.number in
-    let branch = c.in-Ok.branch.now in
-    let given = c.args.given in
-    let opened = opened_is state request number branch c.in-Ok.field-0-1 given c.args.judged c.in-Ok.ensures.opened c.requires.given c.requires.judged in
-    rw (p.1, p.2) (unexpired_fails c.in_err-hash.field-0.0 (step_commit sha256 state request number c.args.moment) (unexpired_step state request number c.args.moment) (step_unadded state request number c.args.moment branch given (verdict c.args.judged) c.in_ok-map.map c.in_err-hash.field-0.0 opened (rw c.as_slice.ensures at c.in_ok-map.ensures.test) c.in_err-hash.ensures.step))
-
-pub returns-clause-decides : goal.returns-clause-decides
-returns-clause-decides c =
+pub returns : goal.returns
+returns c =
     let state = c.args.catalogue.now in
     let request = c.args.request.now in
     let number = c.args.number in
@@ -89,4 +63,4 @@ returns-clause-decides c =
     let opened = opened_is state request number branch c.in-Ok.field-0-1 given c.args.judged c.in-Ok.ensures.opened c.requires.given c.requires.judged in
     let hash = c.in_ok-hash.hash in
     let step = step_added state request number c.args.moment branch given (verdict c.args.judged) c.in_ok-map.map hash c.in_ok-hash.additions opened (rw c.as_slice.ensures at c.in_ok-map.ensures.test) c.in_ok-hash.ensures.step c.in_ok-hash.ensures.hash in
-    making_is number c.args.moment state request branch hash given c.in_ok-hash.additions c.in_ok-making.making c.in_ok-making.ensures step c.in_ok-map.ensures.place c.in_ok-hash.ensures.new c.in_ok-hash.ensures.known c.requires.given
+    record { decides = making_is number c.args.moment state request branch hash given c.in_ok-hash.additions c.in_ok-making.making c.in_ok-making.ensures step c.in_ok-map.ensures.place c.in_ok-hash.ensures.new c.in_ok-hash.ensures.head c.requires.given }

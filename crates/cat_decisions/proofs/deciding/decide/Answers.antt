@@ -37,12 +37,12 @@ decide_merge-requires-clause-opened c = subst (λ (x : Call). opening sha256 c.a
 pub decide_transplant-requires-clause-opened : goal.decide_transplant-requires-clause-opened
 decide_transplant-requires-clause-opened c = subst (λ (x : Call). opening sha256 c.args.catalogue.now (command_of x) ≡ Ok tt) c.in-Transplant.is c.requires.opened
 
-pub returns-in-Planned-work-clause-decides : goal.returns-in-Planned-work-clause-decides
-returns-in-Planned-work-clause-decides c =
-    let turn : Turn = record { draft = c.args.number; opened = c.args.catalogue.now.place; moment = c.args.moment } in
-    decides_call c.args.catalogue.now turn c.args.call (calls.Merge c.in-Merge.merge) c.decide_merge.result c.in-Merge.is (c.decide_merge.ensures.decides c.args.number)
+pub returns-in-Planned-work : goal.returns-in-Planned-work
+returns-in-Planned-work c =
+    let turn : Turn = record { draft = c.args.number; opened = c.args.opened; moment = c.args.moment } in
+    record { decides = decides_call c.args.catalogue.now turn c.args.call (calls.Merge c.in-Merge.merge) c.decide_merge.result c.in-Merge.is (c.decide_merge.ensures.decides c.args.number) }
 
-pub returns-in-Planned-work-2-clause-decides : goal.returns-in-Planned-work-2-clause-decides
-returns-in-Planned-work-2-clause-decides c =
-    let turn : Turn = record { draft = c.args.number; opened = c.args.catalogue.now.place; moment = c.args.moment } in
-    decides_call c.args.catalogue.now turn c.args.call (calls.Transplant c.in-Transplant.transplant) c.decide_transplant.result c.in-Transplant.is (c.decide_transplant.ensures.decides c.args.number)
+pub returns-in-Planned-work-2 : goal.returns-in-Planned-work-2
+returns-in-Planned-work-2 c =
+    let turn : Turn = record { draft = c.args.number; opened = c.args.opened; moment = c.args.moment } in
+    record { decides = decides_call c.args.catalogue.now turn c.args.call (calls.Transplant c.in-Transplant.transplant) c.decide_transplant.result c.in-Transplant.is (c.decide_transplant.ensures.decides c.args.number) }

@@ -4,8 +4,11 @@ use Rattle.cat_decisions.proofs.DraftsDecided.{decides_by}
 use Rattle.cat_decisions.proofs.Outcomes.{merge_step}
 use Rattle.cat_decisions.proofs.merge.settle_merge.Goals as goal
 
-pub returns-clause-decides : goal.returns-clause-decides
-returns-clause-decides c number =
+pub returns : goal.returns
+returns c =
     let state = c.args.catalogue.now in
-    decides_by number state (Merge c.args.merge.now) (c.args.draft).command _ _ c.settle.result
-    (merge_step state c.args.merge.now c.args.branch.now c.args.source.now c.args.draft state.place c.args.moment c.requires.opened c.requires.drafted) (c.requires.drafted).command (λ reply. refl) c.settle.ensures.step
+    record {
+      decides = λ number.
+          decides_by number state (Merge c.args.merge.now) (c.args.draft).command _ _ c.settle.result
+          (merge_step state c.args.merge.now c.args.branch.now c.args.source.now c.args.draft c.args.opened c.args.moment c.requires.opened c.requires.drafted) (c.requires.drafted).command (λ reply. refl) c.settle.ensures.step;
+    }

@@ -1,20 +1,13 @@
-use Rattle.std.proofs.Common.{List, map, refl, sym, ap, subst, true, ◌≡◌, ◌∙◌}
+use Rattle.std.proofs.Common.{List, map, refl, sym, ap, subst, ◌∙◌}
 use Rattle.cat_model.specs.Chain.{entries}
-use Rattle.cat_model.specs.Transplants.{commits_at, plan_each}
+use Rattle.cat_model.specs.Transplants.{plan_each}
 use Rattle.cat_merge.specs.declared.transplant.Step.{Step}
 use Rattle.cat_merge.specs.Planned.{AreTouched, step_of}
-use Rattle.cat_decisions.specs.Drafts.{steps_are_held}
-use Rattle.cat_decisions.proofs.Transplanted.{steps_held, transplant_drafted}
+use Rattle.cat_decisions.proofs.Transplanted.{transplant_drafted}
 use Rattle.cat_decisions.proofs.transplant.draft_transplant.Goals as goal
 
 pub plan_onto-requires : goal.plan_onto-requires
-plan_onto-requires c =
-    let state = c.args.catalogue.now in
-    let held = steps_held state c.in_ok-steps.steps.items (commits_at state.commits c.as_slice-hashes.result.now) c.contents_are_held.ensures c.in_ok-steps.ensures.exact in
-    record {
-      touched = subst (λ (l : List Step). AreTouched l) (sym c.as_slice.ensures.value) c.in_ok-steps.ensures.touched;
-      held = subst (λ (l : List Step). steps_are_held state.present l ≡ true) (sym c.as_slice.ensures.value) held;
-    }
+plan_onto-requires c = record { touched = subst (λ (l : List Step). AreTouched l) (sym c.as_slice.ensures.value) c.in_ok-steps.ensures.touched }
 
 pub returns : goal.returns
 returns c =

@@ -10,15 +10,15 @@ pub returns-clause-entry : goal.returns-clause-entry
 returns-clause-entry g c =
     let held = c.enter-held.result.value in
     let alone = c.enter-held.ensures.alone c.requires.alone in
-    let same = same_book held c.args.desk.now c.args.pass.now (record { opened = sym c.enter-held.ensures.legal.0; seen_is = sym alone.0; mark_is = sym alone.1 }) c.history.ensures.led c.history.ensures.draft in
+    let same = same_book held c.args.desk.now c.args.pass.now (record { opened = sym c.enter-held.ensures.legal.0; seen_is = sym alone.0; mark_is = sym alone.1 }) c.history.ensures.led c.history.ensures.draft c.history.ensures.base in
     c.entry_on_main-found.ensures ∙ ap (λ (b : Book). entry_of (on_main b.state) c.args.key.now) (sym same)
 
 pub returns-clause-book : goal.returns-clause-book
 returns-clause-book g c =
     let held = c.enter-held.result.value in
     let alone = c.enter-held.ensures.alone c.requires.alone in
-    let same = same_book held c.args.desk.now c.args.pass.now (record { opened = sym c.enter-held.ensures.legal.0; seen_is = sym alone.0; mark_is = sym alone.1 }) c.history.ensures.led c.history.ensures.draft in
-    let now = same_book held c.args.desk.now c.leave.new.pass (record { opened = sym c.enter-held.ensures.legal.0; seen_is = c.leave.ensures.seen.0; mark_is = c.leave.ensures.mark.0 }) c.history.ensures.led c.history.ensures.draft in
+    let same = same_book held c.args.desk.now c.args.pass.now (record { opened = sym c.enter-held.ensures.legal.0; seen_is = sym alone.0; mark_is = sym alone.1 }) c.history.ensures.led c.history.ensures.draft c.history.ensures.base in
+    let now = same_book held c.args.desk.now c.leave.new.pass (record { opened = sym c.enter-held.ensures.legal.0; seen_is = c.leave.ensures.seen.0; mark_is = c.leave.ensures.mark.0 }) c.history.ensures.led c.history.ensures.draft c.history.ensures.base in
     now ∙ sym same
 
 pub returns-clause-ready : goal.returns-clause-ready

@@ -13,7 +13,7 @@ returns-clause-ready g c =
 
 pub returns-clause-book : goal.returns-clause-book
 returns-clause-book g c =
-    from_three c.new.result _ _ _ _ (λ t desk pass number. same_book c.args.store t.0 t.1 (record { opened = desk.0; seen_is = pass.0; mark_is = pass.2 }) c.history.ensures.led c.history.ensures.draft)
+    from_three c.new.result _ _ _ _ (λ t desk pass number. same_book c.args.store t.0 t.1 (record { opened = desk.0; seen_is = pass.0; mark_is = pass.2 }) c.history.ensures.led c.history.ensures.draft c.history.ensures.base)
     c.new.ensures.desk c.new.ensures.pass c.new.ensures.number
 
 pub returns-clause-begun : goal.returns-clause-begun

@@ -15,26 +15,26 @@ use Rattle.cat_work.proofs.reading.read.Goals as goal
 pub returns-clause-ready : goal.returns-clause-ready
 returns-clause-ready g c = let held = c.enter-held.result.value in let turn : Turned c.args.desk.now c.args.pass.now c.leave.new.pass held held =
     turned c.args.desk.now c.args.pass.now c.enter-held.new.pass c.leave.new.pass held held c.enter-held.ensures.turn.1 c.enter-held.ensures.legal.0 refl c.enter-held.ensures.follows.0 c.enter-held.ensures.mark.0 c.enter-held.ensures.own c.enter-held.ensures.alone
-    c.history.ensures.led c.history.ensures.draft c.history.ensures.led c.history.ensures.draft c.leave.ensures.seen.0 c.leave.ensures.mark.0 (grows_self held.mark) c.leave.ensures.left in
+    c.history.ensures.led c.history.ensures.draft c.history.ensures.base c.history.ensures.led c.history.ensures.draft c.history.ensures.base c.leave.ensures.seen.0 c.leave.ensures.mark.0 (grows_self held.mark) c.leave.ensures.left in
     let follows = subst (Follows (number_of c.args.pass.now) (seen c.args.pass.now)) (sym turn.seen_is) turn.follows in
     ready_on c.args.desk.now c.args.pass.now c.leave.new.pass c.requires.ready c.leave.ensures.free.0 (none_still c.args.desk.now c.args.pass.now c.leave.new.pass held held c.requires.ready.none turn refl) c.leave.ensures.legal (follows.0, follows.1)
 
 pub returns-clause-grows : goal.returns-clause-grows
 returns-clause-grows g c = let held = c.enter-held.result.value in let turn : Turned c.args.desk.now c.args.pass.now c.leave.new.pass held held =
     turned c.args.desk.now c.args.pass.now c.enter-held.new.pass c.leave.new.pass held held c.enter-held.ensures.turn.1 c.enter-held.ensures.legal.0 refl c.enter-held.ensures.follows.0 c.enter-held.ensures.mark.0 c.enter-held.ensures.own c.enter-held.ensures.alone
-    c.history.ensures.led c.history.ensures.draft c.history.ensures.led c.history.ensures.draft c.leave.ensures.seen.0 c.leave.ensures.mark.0 (grows_self held.mark) c.leave.ensures.left in
+    c.history.ensures.led c.history.ensures.draft c.history.ensures.base c.history.ensures.led c.history.ensures.draft c.history.ensures.base c.leave.ensures.seen.0 c.leave.ensures.mark.0 (grows_self held.mark) c.leave.ensures.left in
     grew_in c.args.desk.now c.args.pass.now c.leave.new.pass held held turn
 
 pub returns-clause-reads : goal.returns-clause-reads
 returns-clause-reads g c = let held = c.enter-held.result.value in let turn : Turned c.args.desk.now c.args.pass.now c.leave.new.pass held held =
     turned c.args.desk.now c.args.pass.now c.enter-held.new.pass c.leave.new.pass held held c.enter-held.ensures.turn.1 c.enter-held.ensures.legal.0 refl c.enter-held.ensures.follows.0 c.enter-held.ensures.mark.0 c.enter-held.ensures.own c.enter-held.ensures.alone
-    c.history.ensures.led c.history.ensures.draft c.history.ensures.led c.history.ensures.draft c.leave.ensures.seen.0 c.leave.ensures.mark.0 (grows_self held.mark) c.leave.ensures.left in
+    c.history.ensures.led c.history.ensures.draft c.history.ensures.base c.history.ensures.led c.history.ensures.draft c.history.ensures.base c.leave.ensures.seen.0 c.leave.ensures.mark.0 (grows_self held.mark) c.leave.ensures.left in
     subst (λ (b : Book). Reads sha256 b c.args.ask.now c.read-told.result) (sym (left_by_turn c.args.desk.now c.args.pass.now c.leave.new.pass held held turn).book_is) c.read-told.ensures
 
 pub returns-clause-alone : goal.returns-clause-alone
 returns-clause-alone g c only = let held = c.enter-held.result.value in let turn : Turned c.args.desk.now c.args.pass.now c.leave.new.pass held held =
     turned c.args.desk.now c.args.pass.now c.enter-held.new.pass c.leave.new.pass held held c.enter-held.ensures.turn.1 c.enter-held.ensures.legal.0 refl c.enter-held.ensures.follows.0 c.enter-held.ensures.mark.0 c.enter-held.ensures.own c.enter-held.ensures.alone
-    c.history.ensures.led c.history.ensures.draft c.history.ensures.led c.history.ensures.draft c.leave.ensures.seen.0 c.leave.ensures.mark.0 (grows_self held.mark) c.leave.ensures.left in (
+    c.history.ensures.led c.history.ensures.draft c.history.ensures.base c.history.ensures.led c.history.ensures.draft c.history.ensures.base c.leave.ensures.seen.0 c.leave.ensures.mark.0 (grows_self held.mark) c.leave.ensures.left in (
       (left_by_turn c.args.desk.now c.args.pass.now c.leave.new.pass held held turn).book_is ∙ book_found c.args.desk.now c.args.pass.now c.leave.new.pass held held turn only,
       ap (λ (m : Mark). m.fault) (turn.mark_is ∙ (turn.alone only).1),
     )

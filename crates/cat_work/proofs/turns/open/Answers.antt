@@ -6,11 +6,11 @@ use Rattle.cat_work.proofs.turns.open.Goals as goal
 pub returns-clause-opened : goal.returns-clause-opened
 returns-clause-opened g c = let held = c.enter-held.result.value in let left = c.open_draft-opened.new.self in let turn : Turned c.args.desk.now c.args.pass.now c.leave.new.pass held left =
     turned c.args.desk.now c.args.pass.now c.enter-held.new.pass c.leave.new.pass held left c.enter-held.ensures.turn.1 c.enter-held.ensures.legal.0 c.open_draft-opened.ensures.acts.opened c.enter-held.ensures.follows.0 c.enter-held.ensures.mark.0 c.enter-held.ensures.own c.enter-held.ensures.alone
-    c.history.ensures.led c.history.ensures.draft c.history-2.ensures.led c.history-2.ensures.draft c.leave.ensures.seen.0 c.leave.ensures.mark.0 c.open_draft-opened.ensures.acts.later.grows c.leave.ensures.left in
+    c.history.ensures.led c.history.ensures.draft c.history.ensures.base c.history-2.ensures.led c.history-2.ensures.draft c.history-2.ensures.base c.leave.ensures.seen.0 c.leave.ensures.mark.0 c.open_draft-opened.ensures.acts.later.grows c.leave.ensures.left in
     opened_in g.row.K.Denot c.args.desk.now c.args.command.now c.args.pass.now c.leave.new.pass c.number.result held left c.open_draft-opened.result (c.number.ensures ∙ c.enter-held.ensures.turn.1) turn c.open_draft-opened.ensures.opened
 
 pub returns-clause-refused : goal.returns-clause-refused
 returns-clause-refused g c = let held = c.enter-held.result.value in let left = c.open_draft-opened.new.self in let turn : Turned c.args.desk.now c.args.pass.now c.leave.new.pass held left =
     turned c.args.desk.now c.args.pass.now c.enter-held.new.pass c.leave.new.pass held left c.enter-held.ensures.turn.1 c.enter-held.ensures.legal.0 c.open_draft-opened.ensures.acts.opened c.enter-held.ensures.follows.0 c.enter-held.ensures.mark.0 c.enter-held.ensures.own c.enter-held.ensures.alone
-    c.history.ensures.led c.history.ensures.draft c.history-2.ensures.led c.history-2.ensures.draft c.leave.ensures.seen.0 c.leave.ensures.mark.0 c.open_draft-opened.ensures.acts.later.grows c.leave.ensures.left in
+    c.history.ensures.led c.history.ensures.draft c.history.ensures.base c.history-2.ensures.led c.history-2.ensures.draft c.history-2.ensures.base c.leave.ensures.seen.0 c.leave.ensures.mark.0 c.open_draft-opened.ensures.acts.later.grows c.leave.ensures.left in
     refused_in g.row.K.Denot c.args.desk.now c.args.command.now c.args.pass.now c.leave.new.pass held left c.open_draft-opened.result turn c.open_draft-opened.ensures.refused

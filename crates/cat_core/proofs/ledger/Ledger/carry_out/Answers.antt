@@ -1,17 +1,14 @@
-use Rattle.std.proofs.Common.{List, Ok, Err, sym, ap, subst, ◌∙◌}
+use Rattle.std.proofs.Common.{List, Ok, sym, ap, subst, ◌∙◌}
 use Rattle.cat_model.specs.declared.log_entry.LogEntry.{LogEntry}
 use Rattle.cat_model.specs.Book.{Book}
 use Rattle.cat_state.proofs.Appended.{grows_none, stays}
 use Rattle.cat_state.specs.Kept.{Keeps}
-use Rattle.cat_core.proofs.Carried.{carried_change, carried_failure, carried_reply, change_is_logged, decided_as, may_carry, may_log, reply_logs, unrefused_there}
+use Rattle.cat_core.proofs.Carried.{carried_change, carried_failure, carried_reply, change_is_logged, may_carry, may_log, reply_logs}
 use Rattle.cat_core.proofs.Growing.{above_made, above_taking}
 use Rattle.cat_core.proofs.ledger.Ledger.carry_out.Goals as goal
 
 pub returns-in-Err-clause-call : goal.returns-in-Err-clause-call
 returns-in-Err-clause-call g c = λ command is. carried_failure c.args.self.now c.args.turn command c.take.new.self c.args.decided c.in-Err.failure c.in-Err.is c.take.ensures is
-
-pub returns-in-Err-clause-there : goal.returns-in-Err-clause-there
-returns-in-Err-clause-there g c = (decided_as c.args.self.now c.args.turn c.requires.decided.0 c.args.decided (Err c.in-Err.failure) c.in-Err.is c.requires.decided.1).there
 
 pub returns-in-Err-clause-later : goal.returns-in-Err-clause-later
 returns-in-Err-clause-later g c = above_taking c.args.self.now c.take.new.self c.args.turn.draft c.take.ensures
@@ -41,9 +38,6 @@ change-requires-clause-kept g c = λ κs lives. c.requires.kept ∙ sym (ap (λ 
 pub returns-in-Ok-Made-clause-call : goal.returns-in-Ok-Made-clause-call
 returns-in-Ok-Made-clause-call g c = λ command is.
     carried_change c.args.self.now c.args.turn command c.take.new.self c.change.new.self c.args.decided c.in-Ok-Made.making c.change.result (c.in-Ok-Made.is ∙ ap Ok c.in-Ok-Made.field-0-is) c.take.ensures c.change.ensures.ok c.change.ensures.told c.change.ensures.err c.change.ensures.unrefused is
-
-pub returns-in-Ok-Made-clause-there : goal.returns-in-Ok-Made-clause-there
-returns-in-Ok-Made-clause-there g c = unrefused_there c.change.result c.change.ensures.unrefused
 
 pub returns-in-Ok-Made-clause-later : goal.returns-in-Ok-Made-clause-later
 returns-in-Ok-Made-clause-later g c = above_made c.args.self.now c.take.new.self c.change.new.self c.args.turn c.in-Ok-Made.making c.change.result c.take.ensures c.change.ensures.ok c.change.ensures.err

@@ -32,9 +32,9 @@ returns g c =
     let laws = g.met.K.Keeper g.world.𝓛 g.world.𝓜 g.world.𝓡 ((λ s x. x), (λ x. x), (λ x. x), λ x. x) in
     let none = up_inside g.K.Keeper.down g.K.Keeper.in_flight laws.flies laws.waits c.self.inside.keeper c.self.inside.fallen c.self.invariant.0.fallen _ _ c.self.view_is refl c.requires.up in
     all_told g.K.Keeper laws.safe laws.only_now
-    c.args.caller c.self.inside.ledger c.refer-made.new.self c.self.inside.keeper c.refer-made.new.keeper c.self.inside.drafter c.self.inside.dropped c.self.inside.drafts.items c.self.inside.began
+    c.args.caller c.self.inside.ledger c.refer-made.new.self c.self.inside.keeper c.refer-made.new.keeper c.self.inside.drafter c.self.inside.dropped c.self.inside.expired c.self.inside.drafts.items c.self.inside.began
     (λ b. call_on sha256 c.args.caller b c.args.command.now c.args.moment) (right_attempt c.self.inside.ledger (in_next c.args.caller c.args.moment) c.args.command.now) 0
     (call_brings c.args.caller c.args.moment c.self.inside.ledger c.args.command.now c.requires.well_made c.requires.opens)
     c.self.inside.fallen c.tell.new.fallen _ _ c.place-place.result c.refer-made.result c.tell.result none c.tell.ensures.fallen c.self.view_is refl c.place-place.ensures c.tell.ensures.told
     (down_none g.K.Keeper.down c.self.inside.keeper c.self.inside.fallen c.self.invariant.0.fallen none)
-    c.refer-made.ensures.call c.refer-made.ensures.keeps c.refer-made.ensures.there
+    c.refer-made.ensures.call c.refer-made.ensures.keeps

@@ -14,7 +14,9 @@ use Rattle.cat_model.specs.Merges.{with_planned}
 use Rattle.cat_model.specs.State.{State, is_known}
 use Rattle.cat_state.specs.Adding.{HasCommit}
 use Rattle.cat_state.specs.Changing.{with_additions}
+use Rattle.cat_state.specs.Keeping.{IsHeldAt}
 use Rattle.cat_state.specs.Planning.{AreMadeUpon}
+use Rattle.cat_state.proofs.Added.{added_held}
 use Rattle.cat_state.proofs.Upon.{merges_known, next_adds}
 use Rattle.cat_state.proofs.catalogue.Catalogue.planned_additions.Goals as goal
 
@@ -29,6 +31,7 @@ loop-one-init c =
       known = subst (λ (s : State). IsTrue (is_known sha256 s c.args.head.now)) none c.requires.known;
       merged = subst (λ (s : State). IsTrue (list_all (λ p. is_merge_known s.commits p.merge_parent) (into_iter_items c.into_iter-one-iterator.result))) none
           (subst (λ (l : List Planned). IsTrue (list_all (λ p. is_merge_known (c.args.self.now).commits p.merge_parent) l)) items c.requires.merged);
+      held = subst (λ (s : State). IsHeldAt s c.args.head.now) none c.requires.held;
       made = subst (λ (s : State). AreMadeUpon s.present (entries s.commits c.args.head.now) (into_iter_items c.into_iter-one-iterator.result)) none
           (subst (λ (l : List Planned). AreMadeUpon (c.args.self.now).present (entries (c.args.self.now).commits c.args.head.now) l) items c.requires.made);
       room = subst (λ (s : State). length s.commits + length (into_iter_items c.into_iter-one-iterator.result) ≤ 4294967295) none
@@ -53,6 +56,7 @@ loop-one-preserved c =
       new = added.additions;
       known = added.known;
       merged = merges_known before.commits after.commits rest added.grows (and_true (is_merge_known before.commits one.merge_parent) (list_all (λ p. is_merge_known before.commits p.merge_parent) rest) merged).1;
+      held = added_held c.args.self.now c.loop-one.more c.add_upon.new.more c.in_ok-at.at (one.plan).map added (made.0).held;
       made = subst (λ (m : Map). AreMadeUpon after.present m rest) (sym added.changed)
           (subst (λ (l : Recorded Content). AreMadeUpon (l.list ++ (c.args.self.now).present) (one.plan).map rest) (sym added.contents) made.1);
       room = omega (arith, room, count);

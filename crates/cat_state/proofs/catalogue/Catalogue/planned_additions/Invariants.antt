@@ -8,6 +8,7 @@ use Rattle.cat_model.specs.Chain.{entries}
 use Rattle.cat_model.specs.Merges.{with_planned}
 use Rattle.cat_model.specs.State.{is_known}
 use Rattle.cat_state.specs.Changing.{AreNewTo, with_additions}
+use Rattle.cat_state.specs.Keeping.{IsHeldAt}
 use Rattle.cat_state.specs.Planning.{AreMadeUpon}
 use Rattle.cat_state.proofs.catalogue.Catalogue.planned_additions.Given as goal
 
@@ -20,6 +21,7 @@ invariant-loop-one l =
       new : AreNewTo l.self l.more;
       known : IsTrue (is_known sha256 state l.at);
       merged : IsTrue (list_all (λ p. is_merge_known state.commits p.merge_parent) rest);
+      held : IsHeldAt state l.at;
       made : AreMadeUpon state.present (entries state.commits l.at) rest;
       room : length state.commits + length rest ≤ 4294967295;
     }

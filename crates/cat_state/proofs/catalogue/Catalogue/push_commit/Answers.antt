@@ -21,6 +21,6 @@ returns-clause-step c = rw (c.push.ensures.list, c.in_ok-reserve.ensures.commits
 
 pub returns-clause-added : goal.returns-clause-added
 returns-clause-added c =
-    commit_more c.args.self.now c.args.more.now _ c.args.made.written.hash c.args.made.commit c.args.made.map c.requires.new c.requires.next c.requires.held c.requires.absent c.requires.below
+    commit_more c.args.self.now c.args.more.now _ c.args.made.written.hash c.args.made.commit c.args.made.map c.requires.new c.requires.next c.requires.absent c.requires.below
     (c.push.ensures.list ∙ ap (λ (l : Commits). (c.args.made.written.hash, c.args.made.commit) ∷ l) c.in_ok-reserve.ensures.commits)
     (c.push-2.ensures.list ∙ ap (λ (l : List (Hash × Map)). (c.args.made.written.hash, c.args.made.map) ∷ l) c.in_ok-reserve.ensures.maps) c.in_ok-reserve.ensures.contents

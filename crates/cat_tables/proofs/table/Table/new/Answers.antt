@@ -2,7 +2,7 @@ use Rattle.std.proofs.Common.{refl}
 use Rattle.cat_tables.proofs.table.Table.new.Goals as goal
 
 pub invariant_of-result : goal.invariant_of-result
-invariant_of-result g c = rw c.new.ensures (record { below = refl; number = refl; distinct = refl; found = λ hash. refl })
+invariant_of-result g c = rw c.new.ensures (record { below = refl; distinct = refl })
 
 pub returns : goal.returns
-returns g c = rw c.new.ensures refl
+returns g c = refl

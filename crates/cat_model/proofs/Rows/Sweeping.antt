@@ -1,0 +1,420 @@
+-- Worked cases of sweeps, and of the states that a book's entries led through.
+use Rattle.std.specs.Prelude.{◌≡◌, refl, ℕ, List, [], ◌∷◌, ◌++◌, Some, None, Ok, Err, codes, map}
+use Rattle.cat_codes.specs.Code.{u8_spelling, u16_spelling, u32_spelling, u64_spelling, i64_spelling, i32_spelling, list, ascending}
+use Rattle.cat_codes.specs.Texts.{text_code, short_text_code}
+use Rattle.cat_names.specs.Fields.{hash_code, id_code, element_code, key_code}
+use Rattle.cat_names.specs.declared.hash.Hash.{Hash}
+use Rattle.cat_names.specs.declared.hash.ContentId.{ContentId}
+use Rattle.cat_model.specs.Formats.{moment_code, kind_code, entry_code, meta_code, commit_code}
+use Rattle.cat_model.specs.Contents.{table_code, namespace_code, of_table, of_namespace, content_code}
+use Rattle.cat_model.specs.Namespaces.{emptied_fault}
+use Rattle.cat_model.specs.Judge.{changes_of, op_fault, judge}
+use Rattle.cat_model.specs.Chain.{entries}
+use Rattle.cat_model.specs.Records.{commit_bytes, content_bytes, with_commit, with_content, expired_keys}
+use Rattle.cat_model.specs.Commits.{given_ops, given_request, request_commit, commit_opening, needs_commit_room, step_commit}
+use Rattle.cat_model.specs.Moves.{needs_contents, step_create, step_assign, step_delete}
+use Rattle.cat_model.specs.Cutoffs.{live_from, live}
+use Rattle.cat_model.specs.Drafts.{Names}
+use Rattle.cat_model.specs.State.{State, first_state, fresh_id, content_hash}
+use Rattle.cat_model.specs.Calls.{Called, attempt, entry_made}
+use Rattle.cat_model.specs.Requests.{Session, request}
+use Rattle.cat_model.specs.Book.{Book, after_call}
+use Rattle.cat_model.specs.Sweeps.{since, live_since, saved, kept_contents, removed_contents, needs_sweep_room, step_sweep, sweep_entry, sweep_call}
+use Rattle.cat_model.specs.Past.{Course, course, past_of}
+use Rattle.cat_model.specs.Limits.{program_limits}
+use Rattle.cat_model.specs.declared.content.Body.{Body}
+use Rattle.cat_model.specs.declared.content.Body.TheVariants as bodies
+use Rattle.cat_model.specs.declared.content.Content.{Content}
+use Rattle.cat_model.specs.declared.cutoff.Cutoff.{Cutoff}
+use Rattle.cat_model.specs.declared.cutoff.Cutoff.TheVariants as cutoffs
+use Rattle.cat_model.specs.declared.cutoff.Pattern.{Pattern}
+use Rattle.cat_model.specs.declared.cutoff.Pattern.TheVariants.{Name, Front}
+use Rattle.cat_model.specs.declared.cutoff.Resolved.{Resolved}
+use Rattle.cat_model.specs.declared.limits.Limits.{Limits}
+use Rattle.cat_model.specs.declared.limits.Quantity.TheVariants as quantities
+use Rattle.cat_model.specs.declared.log_entry.Action.TheVariants as actions
+use Rattle.cat_model.specs.declared.log_entry.LogEntry.{LogEntry}
+use Rattle.cat_model.specs.declared.reference.Kind.TheVariants.{Branch, Tag}
+use Rattle.cat_model.specs.declared.refusal.Refusal.TheVariants.{Limit}
+use Rattle.cat_model.specs.declared.reply.Reply.TheVariants as replies
+use Rattle.cat_model.specs.declared.sweep.Sweep.{Sweep}
+use Rattle.cat_model.proofs.Rows.Script.{script}
+use Rattle.cat_model.proofs.Rows.Words.{Request, Short, quick, clock, main, dev, table, put_new, put, create, assign, delete, from_hash, after, head, told, not, short, t1, t2, m1, empty, ample}
+
+-- ---- words
+
+-- the states that accepted requests lead through
+abbrev led_from : Session → List State → List Request → Course
+led_from s past [] = record { state = s.state; past = past }
+led_from s past (wanted ∷ requests) = led_from (request quick 1 clock s wanted).after (s.state ∷ past) requests
+
+abbrev led : List Request → Course
+led = led_from empty []
+
+-- the id of the first draft's content
+abbrev id1 : ContentId
+id1 = fresh_id 1 0
+
+-- a location of the table at t1, as it is held
+abbrev held : List ℕ → Hash × Content
+held location = (content_hash quick (table id1 location), table id1 location)
+
+abbrev m2 : List ℕ
+m2 = codes "m2"
+
+abbrev m3 : List ℕ
+m3 = codes "m3"
+
+abbrev m4 : List ℕ
+m4 = codes "m4"
+
+abbrev first_two : List Request
+first_two = put_new None t1 m1 ∷ put t1 id1 m2 ∷ []
+
+-- three locations of one table, one after the other
+abbrev first_three : List Request
+first_three = put_new None t1 m1 ∷ put t1 id1 m2 ∷ put t1 id1 m3 ∷ []
+
+abbrev c1 : Hash
+c1 = head (after empty (put_new None t1 m1 ∷ []))
+
+abbrev c2 : Hash
+c2 = head (after empty first_two)
+
+abbrev c3 : Hash
+c3 = head (after empty first_three)
+
+abbrev three : Course
+three = led first_three
+
+-- these and one more
+abbrev followed_by : Request → Course
+followed_by wanted = led (first_three ++ wanted ∷ [])
+
+abbrev nothing_named : Names
+nothing_named = record { commits = []; contents = [] }
+
+abbrev sweep : ℕ → Resolved → Names → Sweep
+sweep opened policy names = record { opened = opened; policy = policy; commits = names.commits; contents = names.contents }
+
+abbrev always : Cutoff → Resolved
+always cutoff = record { default = cutoff; cutoffs = [] }
+
+-- the head of each reference alone
+abbrev heads : Resolved
+heads = always (cutoffs.Commits 1)
+
+-- by caller 7 at the moment 9, where the last draft number is 5
+abbrev swept_on : Course → Sweep → Called
+swept_on c s = sweep_call 7 c.state c.past 5 9 s
+
+abbrev location_in : Body → List ℕ
+location_in (bodies.IcebergTable t) = t.metadata_location
+location_in _ = []
+
+-- locations that are left, the newest first
+abbrev left_in : State → List (List ℕ)
+left_in state = map (λ x. location_in x.1.body) state.present
+
+-- what a sweep is told, and the locations that it leaves
+abbrev sweeps : Course → Sweep → Short × List (List ℕ)
+sweeps c s = (short (swept_on c s).said, left_in (swept_on c s).state)
+
+abbrev swept : ℕ → ℕ → ℕ → ℕ → Short
+swept place opened kept removed = told place (replies.Swept (record { kept = kept; opened = opened; removed = removed }))
+
+-- ---- states since an opening
+
+abbrev at_place : ℕ → State
+at_place place = record (first_state quick program_limits) { place = place }
+
+-- places of the states since this one, of five
+abbrev places_since : ℕ → List ℕ
+places_since opened = map (λ s. s.place) (since opened (at_place 4) (at_place 3 ∷ at_place 2 ∷ at_place 1 ∷ at_place 0 ∷ []))
+
+the_states_since_an_opening : map places_since (4 ∷ 3 ∷ 2 ∷ 0 ∷ []) ≡ (4 ∷ []) ∷ (4 ∷ 3 ∷ []) ∷ (4 ∷ 3 ∷ 2 ∷ []) ∷ (4 ∷ 3 ∷ 2 ∷ 1 ∷ 0 ∷ []) ∷ []
+the_states_since_an_opening = refl
+
+-- ---- cutoffs
+
+the_head_alone : sweeps three (sweep 3 heads nothing_named) ≡ (swept 4 3 1 2, m3 ∷ [])
+unfolding u8_spelling u16_spelling u32_spelling u64_spelling i64_spelling i32_spelling list ascending text_code short_text_code hash_code id_code element_code key_code moment_code kind_code entry_code meta_code commit_code table_code namespace_code of_table of_namespace content_code emptied_fault changes_of op_fault judge entries commit_bytes content_bytes with_commit with_content expired_keys given_ops given_request request_commit commit_opening needs_commit_room step_commit needs_contents step_create step_assign step_delete entry_made attempt script live_from live live_since saved kept_contents removed_contents needs_sweep_room step_sweep sweep_entry sweep_call past_of
+the_head_alone = refl
+
+abbrev main_by_two : Resolved
+main_by_two = record { default = cutoffs.All; cutoffs = (Name main, cutoffs.Commits 2) ∷ [] }
+
+two_commits : sweeps three (sweep 3 main_by_two nothing_named) ≡ (swept 4 3 2 1, m3 ∷ m2 ∷ [])
+unfolding u8_spelling u16_spelling u32_spelling u64_spelling i64_spelling i32_spelling list ascending text_code short_text_code hash_code id_code element_code key_code moment_code kind_code entry_code meta_code commit_code table_code namespace_code of_table of_namespace content_code emptied_fault changes_of op_fault judge entries commit_bytes content_bytes with_commit with_content expired_keys given_ops given_request request_commit commit_opening needs_commit_room step_commit needs_contents step_create step_assign step_delete entry_made attempt script live_from live live_since saved kept_contents removed_contents needs_sweep_room step_sweep sweep_entry sweep_call past_of
+two_commits = refl
+
+nothing_is_removed : sweeps three (sweep 3 (always cutoffs.All) nothing_named) ≡ (swept 4 3 3 0, m3 ∷ m2 ∷ m1 ∷ [])
+unfolding u8_spelling u16_spelling u32_spelling u64_spelling i64_spelling i32_spelling list ascending text_code short_text_code hash_code id_code element_code key_code moment_code kind_code entry_code meta_code commit_code table_code namespace_code of_table of_namespace content_code emptied_fault changes_of op_fault judge entries commit_bytes content_bytes with_commit with_content expired_keys given_ops given_request request_commit commit_opening needs_commit_room step_commit needs_contents step_create step_assign step_delete entry_made attempt script live_from live live_since saved kept_contents removed_contents needs_sweep_room step_sweep sweep_entry sweep_call past_of
+nothing_is_removed = refl
+
+-- the second commit was made at 2000000
+at_the_time_of_a_commit : sweeps three (sweep 3 (always (cutoffs.Since 2000000)) nothing_named) ≡ (swept 4 3 2 1, m3 ∷ m2 ∷ [])
+unfolding u8_spelling u16_spelling u32_spelling u64_spelling i64_spelling i32_spelling list ascending text_code short_text_code hash_code id_code element_code key_code moment_code kind_code entry_code meta_code commit_code table_code namespace_code of_table of_namespace content_code emptied_fault changes_of op_fault judge entries commit_bytes content_bytes with_commit with_content expired_keys given_ops given_request request_commit commit_opening needs_commit_room step_commit needs_contents step_create step_assign step_delete entry_made attempt script live_from live live_since saved kept_contents removed_contents needs_sweep_room step_sweep sweep_entry sweep_call past_of
+at_the_time_of_a_commit = refl
+
+one_microsecond_after_it : sweeps three (sweep 3 (always (cutoffs.Since 2000001)) nothing_named) ≡ (swept 4 3 1 2, m3 ∷ [])
+unfolding u8_spelling u16_spelling u32_spelling u64_spelling i64_spelling i32_spelling list ascending text_code short_text_code hash_code id_code element_code key_code moment_code kind_code entry_code meta_code commit_code table_code namespace_code of_table of_namespace content_code emptied_fault changes_of op_fault judge entries commit_bytes content_bytes with_commit with_content expired_keys given_ops given_request request_commit commit_opening needs_commit_room step_commit needs_contents step_create step_assign step_delete entry_made attempt script live_from live live_since saved kept_contents removed_contents needs_sweep_room step_sweep sweep_entry sweep_call past_of
+one_microsecond_after_it = refl
+
+one_microsecond_before_it : sweeps three (sweep 3 (always (cutoffs.Since 1999999)) nothing_named) ≡ (swept 4 3 2 1, m3 ∷ m2 ∷ [])
+unfolding u8_spelling u16_spelling u32_spelling u64_spelling i64_spelling i32_spelling list ascending text_code short_text_code hash_code id_code element_code key_code moment_code kind_code entry_code meta_code commit_code table_code namespace_code of_table of_namespace content_code emptied_fault changes_of op_fault judge entries commit_bytes content_bytes with_commit with_content expired_keys given_ops given_request request_commit commit_opening needs_commit_room step_commit needs_contents step_create step_assign step_delete entry_made attempt script live_from live live_since saved kept_contents removed_contents needs_sweep_room step_sweep sweep_entry sweep_call past_of
+one_microsecond_before_it = refl
+
+-- of an empty catalogue
+nothing_is_there : sweeps (led []) (sweep 0 heads nothing_named) ≡ (swept 1 0 0 0, [])
+unfolding u8_spelling u16_spelling u32_spelling u64_spelling i64_spelling i32_spelling list ascending text_code short_text_code hash_code id_code element_code key_code moment_code kind_code entry_code meta_code commit_code table_code namespace_code of_table of_namespace content_code emptied_fault changes_of op_fault judge entries commit_bytes content_bytes with_commit with_content expired_keys given_ops given_request request_commit commit_opening needs_commit_room step_commit needs_contents step_create step_assign step_delete entry_made attempt script live_from live live_since saved kept_contents removed_contents needs_sweep_room step_sweep sweep_entry sweep_call past_of
+nothing_is_there = refl
+
+-- a head shows more than its commit put
+abbrev two_tables : Course
+two_tables = led (put_new None t1 m1 ∷ put_new None t2 m2 ∷ put t1 id1 m3 ∷ [])
+
+what_older_commits_put_is_visible : sweeps two_tables (sweep 3 heads nothing_named) ≡ (swept 4 3 2 1, m3 ∷ m2 ∷ [])
+unfolding u8_spelling u16_spelling u32_spelling u64_spelling i64_spelling i32_spelling list ascending text_code short_text_code hash_code id_code element_code key_code moment_code kind_code entry_code meta_code commit_code table_code namespace_code of_table of_namespace content_code emptied_fault changes_of op_fault judge entries commit_bytes content_bytes with_commit with_content expired_keys given_ops given_request request_commit commit_opening needs_commit_room step_commit needs_contents step_create step_assign step_delete entry_made attempt script live_from live live_since saved kept_contents removed_contents needs_sweep_room step_sweep sweep_entry sweep_call past_of
+what_older_commits_put_is_visible = refl
+
+-- ---- several references
+
+-- dev at the first commit
+the_heads_of_two_references : sweeps (followed_by (create dev Branch (from_hash c1))) (sweep 4 heads nothing_named) ≡ (swept 5 4 2 1, m3 ∷ m1 ∷ [])
+unfolding u8_spelling u16_spelling u32_spelling u64_spelling i64_spelling i32_spelling list ascending text_code short_text_code hash_code id_code element_code key_code moment_code kind_code entry_code meta_code commit_code table_code namespace_code of_table of_namespace content_code emptied_fault changes_of op_fault judge entries commit_bytes content_bytes with_commit with_content expired_keys given_ops given_request request_commit commit_opening needs_commit_room step_commit needs_contents step_create step_assign step_delete entry_made attempt script live_from live live_since saved kept_contents removed_contents needs_sweep_room step_sweep sweep_entry sweep_call past_of
+the_heads_of_two_references = refl
+
+-- dev at the second
+abbrev dev_at_two : Course
+dev_at_two = followed_by (create dev Branch (from_hash c2))
+
+abbrev by_patterns : List (Pattern × Cutoff) → Sweep
+by_patterns patterns = sweep 4 (record { default = cutoffs.Commits 1; cutoffs = patterns }) nothing_named
+
+-- the second is kept by both
+a_commit_of_two_references : sweeps dev_at_two (by_patterns ((Name main, cutoffs.Commits 2) ∷ [])) ≡ (swept 5 4 2 1, m3 ∷ m2 ∷ [])
+unfolding u8_spelling u16_spelling u32_spelling u64_spelling i64_spelling i32_spelling list ascending text_code short_text_code hash_code id_code element_code key_code moment_code kind_code entry_code meta_code commit_code table_code namespace_code of_table of_namespace content_code emptied_fault changes_of op_fault judge entries commit_bytes content_bytes with_commit with_content expired_keys given_ops given_request request_commit commit_opening needs_commit_room step_commit needs_contents step_create step_assign step_delete entry_made attempt script live_from live live_since saved kept_contents removed_contents needs_sweep_room step_sweep sweep_entry sweep_call past_of
+a_commit_of_two_references = refl
+
+the_first_pattern_counts : sweeps dev_at_two (by_patterns ((Front (codes "d"), cutoffs.Commits 1) ∷ (Name dev, cutoffs.All) ∷ [])) ≡ (swept 5 4 2 1, m3 ∷ m2 ∷ [])
+unfolding u8_spelling u16_spelling u32_spelling u64_spelling i64_spelling i32_spelling list ascending text_code short_text_code hash_code id_code element_code key_code moment_code kind_code entry_code meta_code commit_code table_code namespace_code of_table of_namespace content_code emptied_fault changes_of op_fault judge entries commit_bytes content_bytes with_commit with_content expired_keys given_ops given_request request_commit commit_opening needs_commit_room step_commit needs_contents step_create step_assign step_delete entry_made attempt script live_from live live_since saved kept_contents removed_contents needs_sweep_room step_sweep sweep_entry sweep_call past_of
+the_first_pattern_counts = refl
+
+in_the_other_order : sweeps dev_at_two (by_patterns ((Name dev, cutoffs.All) ∷ (Front (codes "d"), cutoffs.Commits 1) ∷ [])) ≡ (swept 5 4 3 0, m3 ∷ m2 ∷ m1 ∷ [])
+unfolding u8_spelling u16_spelling u32_spelling u64_spelling i64_spelling i32_spelling list ascending text_code short_text_code hash_code id_code element_code key_code moment_code kind_code entry_code meta_code commit_code table_code namespace_code of_table of_namespace content_code emptied_fault changes_of op_fault judge entries commit_bytes content_bytes with_commit with_content expired_keys given_ops given_request request_commit commit_opening needs_commit_room step_commit needs_contents step_create step_assign step_delete entry_made attempt script live_from live live_since saved kept_contents removed_contents needs_sweep_room step_sweep sweep_entry sweep_call past_of
+in_the_other_order = refl
+
+each_reference_by_its_own : sweeps (followed_by (create dev Branch (from_hash c1))) (by_patterns ((Name dev, cutoffs.All) ∷ (Front [], cutoffs.Commits 2) ∷ [])) ≡ (swept 5 4 3 0, m3 ∷ m2 ∷ m1 ∷ [])
+unfolding u8_spelling u16_spelling u32_spelling u64_spelling i64_spelling i32_spelling list ascending text_code short_text_code hash_code id_code element_code key_code moment_code kind_code entry_code meta_code commit_code table_code namespace_code of_table of_namespace content_code emptied_fault changes_of op_fault judge entries commit_bytes content_bytes with_commit with_content expired_keys given_ops given_request request_commit commit_opening needs_commit_room step_commit needs_contents step_create step_assign step_delete entry_made attempt script live_from live live_since saved kept_contents removed_contents needs_sweep_room step_sweep sweep_entry sweep_call past_of
+each_reference_by_its_own = refl
+
+-- ---- names
+
+abbrev naming : List Hash → List Hash → Sweep
+naming commits contents = sweep 3 heads (record { commits = commits; contents = contents })
+
+a_content_that_is_named : sweeps three (naming [] ((held m1).0 ∷ [])) ≡ (swept 4 3 2 1, m3 ∷ m1 ∷ [])
+unfolding u8_spelling u16_spelling u32_spelling u64_spelling i64_spelling i32_spelling list ascending text_code short_text_code hash_code id_code element_code key_code moment_code kind_code entry_code meta_code commit_code table_code namespace_code of_table of_namespace content_code emptied_fault changes_of op_fault judge entries commit_bytes content_bytes with_commit with_content expired_keys given_ops given_request request_commit commit_opening needs_commit_room step_commit needs_contents step_create step_assign step_delete entry_made attempt script live_from live live_since saved kept_contents removed_contents needs_sweep_room step_sweep sweep_entry sweep_call past_of
+a_content_that_is_named = refl
+
+-- nothing that is visible at its parent alone
+a_commit_that_is_named : sweeps three (naming (c2 ∷ []) []) ≡ (swept 4 3 2 1, m3 ∷ m2 ∷ [])
+unfolding u8_spelling u16_spelling u32_spelling u64_spelling i64_spelling i32_spelling list ascending text_code short_text_code hash_code id_code element_code key_code moment_code kind_code entry_code meta_code commit_code table_code namespace_code of_table of_namespace content_code emptied_fault changes_of op_fault judge entries commit_bytes content_bytes with_commit with_content expired_keys given_ops given_request request_commit commit_opening needs_commit_room step_commit needs_contents step_create step_assign step_delete entry_made attempt script live_from live live_since saved kept_contents removed_contents needs_sweep_room step_sweep sweep_entry sweep_call past_of
+a_commit_that_is_named = refl
+
+several_names : sweeps three (naming (c2 ∷ c3 ∷ []) ((held m3).0 ∷ (held m1).0 ∷ [])) ≡ (swept 4 3 3 0, m3 ∷ m2 ∷ m1 ∷ [])
+unfolding u8_spelling u16_spelling u32_spelling u64_spelling i64_spelling i32_spelling list ascending text_code short_text_code hash_code id_code element_code key_code moment_code kind_code entry_code meta_code commit_code table_code namespace_code of_table of_namespace content_code emptied_fault changes_of op_fault judge entries commit_bytes content_bytes with_commit with_content expired_keys given_ops given_request request_commit commit_opening needs_commit_room step_commit needs_contents step_create step_assign step_delete entry_made attempt script live_from live live_since saved kept_contents removed_contents needs_sweep_room step_sweep sweep_entry sweep_call past_of
+several_names = refl
+
+-- what its parent put, and it still shows
+abbrev second_of_two_tables : Hash
+second_of_two_tables = head (after empty (put_new None t1 m1 ∷ put_new None t2 m2 ∷ []))
+
+a_commit_shows_what_older_ones_put : sweeps two_tables (naming (second_of_two_tables ∷ []) []) ≡ (swept 4 3 3 0, m3 ∷ m2 ∷ m1 ∷ [])
+unfolding u8_spelling u16_spelling u32_spelling u64_spelling i64_spelling i32_spelling list ascending text_code short_text_code hash_code id_code element_code key_code moment_code kind_code entry_code meta_code commit_code table_code namespace_code of_table of_namespace content_code emptied_fault changes_of op_fault judge entries commit_bytes content_bytes with_commit with_content expired_keys given_ops given_request request_commit commit_opening needs_commit_room step_commit needs_contents step_create step_assign step_delete entry_made attempt script live_from live live_since saved kept_contents removed_contents needs_sweep_room step_sweep sweep_entry sweep_call past_of
+a_commit_shows_what_older_ones_put = refl
+
+-- a commit's hash is no content's, nor the other way round
+names_that_name_nothing : sweeps three (naming ((held m1).0 ∷ []) (c1 ∷ [])) ≡ (swept 4 3 1 2, m3 ∷ [])
+unfolding u8_spelling u16_spelling u32_spelling u64_spelling i64_spelling i32_spelling list ascending text_code short_text_code hash_code id_code element_code key_code moment_code kind_code entry_code meta_code commit_code table_code namespace_code of_table of_namespace content_code emptied_fault changes_of op_fault judge entries commit_bytes content_bytes with_commit with_content expired_keys given_ops given_request request_commit commit_opening needs_commit_room step_commit needs_contents step_create step_assign step_delete entry_made attempt script live_from live live_since saved kept_contents removed_contents needs_sweep_room step_sweep sweep_entry sweep_call past_of
+names_that_name_nothing = refl
+
+-- ---- roots between the opening and the effect
+
+-- a tag at the first commit, made by the fourth entry and removed by the fifth
+abbrev made_and_removed : Course
+made_and_removed = led (first_three ++ create (codes "keep") Tag (from_hash c1) ∷ delete (codes "keep") None None ∷ [])
+
+a_root_that_was_made_since : sweeps made_and_removed (sweep 3 heads nothing_named) ≡ (swept 6 3 2 1, m3 ∷ m1 ∷ [])
+unfolding u8_spelling u16_spelling u32_spelling u64_spelling i64_spelling i32_spelling list ascending text_code short_text_code hash_code id_code element_code key_code moment_code kind_code entry_code meta_code commit_code table_code namespace_code of_table of_namespace content_code emptied_fault changes_of op_fault judge entries commit_bytes content_bytes with_commit with_content expired_keys given_ops given_request request_commit commit_opening needs_commit_room step_commit needs_contents step_create step_assign step_delete entry_made attempt script live_from live live_since saved kept_contents removed_contents needs_sweep_room step_sweep sweep_entry sweep_call past_of
+a_root_that_was_made_since = refl
+
+a_root_of_the_opening : sweeps made_and_removed (sweep 4 heads nothing_named) ≡ (swept 6 4 2 1, m3 ∷ m1 ∷ [])
+unfolding u8_spelling u16_spelling u32_spelling u64_spelling i64_spelling i32_spelling list ascending text_code short_text_code hash_code id_code element_code key_code moment_code kind_code entry_code meta_code commit_code table_code namespace_code of_table of_namespace content_code emptied_fault changes_of op_fault judge entries commit_bytes content_bytes with_commit with_content expired_keys given_ops given_request request_commit commit_opening needs_commit_room step_commit needs_contents step_create step_assign step_delete entry_made attempt script live_from live live_since saved kept_contents removed_contents needs_sweep_room step_sweep sweep_entry sweep_call past_of
+a_root_of_the_opening = refl
+
+a_root_that_was_removed_before : sweeps made_and_removed (sweep 5 heads nothing_named) ≡ (swept 6 5 1 2, m3 ∷ [])
+unfolding u8_spelling u16_spelling u32_spelling u64_spelling i64_spelling i32_spelling list ascending text_code short_text_code hash_code id_code element_code key_code moment_code kind_code entry_code meta_code commit_code table_code namespace_code of_table of_namespace content_code emptied_fault changes_of op_fault judge entries commit_bytes content_bytes with_commit with_content expired_keys given_ops given_request request_commit commit_opening needs_commit_room step_commit needs_contents step_create step_assign step_delete entry_made attempt script live_from live live_since saved kept_contents removed_contents needs_sweep_room step_sweep sweep_entry sweep_call past_of
+a_root_that_was_removed_before = refl
+
+-- a fourth location, and main back at the third commit
+abbrev moved_back : Course
+moved_back = led (first_three ++ put t1 id1 m4 ∷ assign main None None (from_hash c3) ∷ [])
+
+a_head_that_was_moved_away : sweeps moved_back (sweep 4 heads nothing_named) ≡ (swept 6 4 2 2, m4 ∷ m3 ∷ [])
+unfolding u8_spelling u16_spelling u32_spelling u64_spelling i64_spelling i32_spelling list ascending text_code short_text_code hash_code id_code element_code key_code moment_code kind_code entry_code meta_code commit_code table_code namespace_code of_table of_namespace content_code emptied_fault changes_of op_fault judge entries commit_bytes content_bytes with_commit with_content expired_keys given_ops given_request request_commit commit_opening needs_commit_room step_commit needs_contents step_create step_assign step_delete entry_made attempt script live_from live live_since saved kept_contents removed_contents needs_sweep_room step_sweep sweep_entry sweep_call past_of
+a_head_that_was_moved_away = refl
+
+a_head_that_was_moved_away_before : sweeps moved_back (sweep 5 heads nothing_named) ≡ (swept 6 5 1 3, m3 ∷ [])
+unfolding u8_spelling u16_spelling u32_spelling u64_spelling i64_spelling i32_spelling list ascending text_code short_text_code hash_code id_code element_code key_code moment_code kind_code entry_code meta_code commit_code table_code namespace_code of_table of_namespace content_code emptied_fault changes_of op_fault judge entries commit_bytes content_bytes with_commit with_content expired_keys given_ops given_request request_commit commit_opening needs_commit_room step_commit needs_contents step_create step_assign step_delete entry_made attempt script live_from live live_since saved kept_contents removed_contents needs_sweep_room step_sweep sweep_entry sweep_call past_of
+a_head_that_was_moved_away_before = refl
+
+-- opened on the empty catalogue: each location was once a head's
+all_heads_that_there_were : sweeps moved_back (sweep 0 heads nothing_named) ≡ (swept 6 0 4 0, m4 ∷ m3 ∷ m2 ∷ m1 ∷ [])
+unfolding u8_spelling u16_spelling u32_spelling u64_spelling i64_spelling i32_spelling list ascending text_code short_text_code hash_code id_code element_code key_code moment_code kind_code entry_code meta_code commit_code table_code namespace_code of_table of_namespace content_code emptied_fault changes_of op_fault judge entries commit_bytes content_bytes with_commit with_content expired_keys given_ops given_request request_commit commit_opening needs_commit_room step_commit needs_contents step_create step_assign step_delete entry_made attempt script live_from live live_since saved kept_contents removed_contents needs_sweep_room step_sweep sweep_entry sweep_call past_of
+all_heads_that_there_were = refl
+
+-- ---- limits
+
+abbrev limited_by : Limits → Course
+limited_by limits = record three { state = record three.state { limits = limits } }
+
+abbrev two_names : Sweep
+two_names = naming (c2 ∷ []) ((held m1).0 ∷ [])
+
+all_stays : Short → Short × List (List ℕ)
+all_stays why = (why, m3 ∷ m2 ∷ m1 ∷ [])
+
+a_full_log_comes_first : sweeps (limited_by (record ample { log = 3; names = 1 })) two_names ≡ (not (Some 3) (Limit quantities.Log 3), m3 ∷ m2 ∷ m1 ∷ [])
+unfolding u8_spelling u16_spelling u32_spelling u64_spelling i64_spelling i32_spelling list ascending text_code short_text_code hash_code id_code element_code key_code moment_code kind_code entry_code meta_code commit_code table_code namespace_code of_table of_namespace content_code emptied_fault changes_of op_fault judge entries commit_bytes content_bytes with_commit with_content expired_keys given_ops given_request request_commit commit_opening needs_commit_room step_commit needs_contents step_create step_assign step_delete entry_made attempt script live_from live live_since saved kept_contents removed_contents needs_sweep_room step_sweep sweep_entry sweep_call past_of
+a_full_log_comes_first = refl
+
+too_many_names : sweeps (limited_by (record ample { log = 4; names = 1 })) two_names ≡ (not (Some 3) (Limit quantities.Names 1), m3 ∷ m2 ∷ m1 ∷ [])
+unfolding u8_spelling u16_spelling u32_spelling u64_spelling i64_spelling i32_spelling list ascending text_code short_text_code hash_code id_code element_code key_code moment_code kind_code entry_code meta_code commit_code table_code namespace_code of_table of_namespace content_code emptied_fault changes_of op_fault judge entries commit_bytes content_bytes with_commit with_content expired_keys given_ops given_request request_commit commit_opening needs_commit_room step_commit needs_contents step_create step_assign step_delete entry_made attempt script live_from live live_since saved kept_contents removed_contents needs_sweep_room step_sweep sweep_entry sweep_call past_of
+too_many_names = refl
+
+as_many_names_as_may_be : sweeps (limited_by (record ample { log = 4; names = 2 })) two_names ≡ (swept 4 3 3 0, m3 ∷ m2 ∷ m1 ∷ [])
+unfolding u8_spelling u16_spelling u32_spelling u64_spelling i64_spelling i32_spelling list ascending text_code short_text_code hash_code id_code element_code key_code moment_code kind_code entry_code meta_code commit_code table_code namespace_code of_table of_namespace content_code emptied_fault changes_of op_fault judge entries commit_bytes content_bytes with_commit with_content expired_keys given_ops given_request request_commit commit_opening needs_commit_room step_commit needs_contents step_create step_assign step_delete entry_made attempt script live_from live live_since saved kept_contents removed_contents needs_sweep_room step_sweep sweep_entry sweep_call past_of
+as_many_names_as_may_be = refl
+
+one_name : sweeps (limited_by (record ample { names = 1 })) (naming [] ((held m2).0 ∷ [])) ≡ (swept 4 3 2 1, m3 ∷ m2 ∷ [])
+unfolding u8_spelling u16_spelling u32_spelling u64_spelling i64_spelling i32_spelling list ascending text_code short_text_code hash_code id_code element_code key_code moment_code kind_code entry_code meta_code commit_code table_code namespace_code of_table of_namespace content_code emptied_fault changes_of op_fault judge entries commit_bytes content_bytes with_commit with_content expired_keys given_ops given_request request_commit commit_opening needs_commit_room step_commit needs_contents step_create step_assign step_delete entry_made attempt script live_from live live_since saved kept_contents removed_contents needs_sweep_room step_sweep sweep_entry sweep_call past_of
+one_name = refl
+
+two_commits_are_two_names : sweeps (limited_by (record ample { names = 1 })) (naming (c1 ∷ c2 ∷ []) []) ≡ (not (Some 3) (Limit quantities.Names 1), m3 ∷ m2 ∷ m1 ∷ [])
+unfolding u8_spelling u16_spelling u32_spelling u64_spelling i64_spelling i32_spelling list ascending text_code short_text_code hash_code id_code element_code key_code moment_code kind_code entry_code meta_code commit_code table_code namespace_code of_table of_namespace content_code emptied_fault changes_of op_fault judge entries commit_bytes content_bytes with_commit with_content expired_keys given_ops given_request request_commit commit_opening needs_commit_room step_commit needs_contents step_create step_assign step_delete entry_made attempt script live_from live live_since saved kept_contents removed_contents needs_sweep_room step_sweep sweep_entry sweep_call past_of
+two_commits_are_two_names = refl
+
+two_contents_are_two_names : sweeps (limited_by (record ample { names = 1 })) (naming [] ((held m1).0 ∷ (held m2).0 ∷ [])) ≡ (not (Some 3) (Limit quantities.Names 1), m3 ∷ m2 ∷ m1 ∷ [])
+unfolding u8_spelling u16_spelling u32_spelling u64_spelling i64_spelling i32_spelling list ascending text_code short_text_code hash_code id_code element_code key_code moment_code kind_code entry_code meta_code commit_code table_code namespace_code of_table of_namespace content_code emptied_fault changes_of op_fault judge entries commit_bytes content_bytes with_commit with_content expired_keys given_ops given_request request_commit commit_opening needs_commit_room step_commit needs_contents step_create step_assign step_delete entry_made attempt script live_from live live_since saved kept_contents removed_contents needs_sweep_room step_sweep sweep_entry sweep_call past_of
+two_contents_are_two_names = refl
+
+-- ---- all that a sweep brings
+
+abbrev full : Course
+full = limited_by (record ample { log = 3 })
+
+what_a_sweep_brings : swept_on three (naming [] ((held m1).0 ∷ [])) ≡ record {
+  said = Ok (record { place = 4; reply = replies.Swept (record { kept = 2; opened = 3; removed = 1 }) });
+  logged = record { place = 4; caller = 7; draft = 0; moment = 9; action = actions.Sweep (naming [] ((held m1).0 ∷ [])); head = None } ∷ [];
+  state = record three.state { place = 4; present = held m3 ∷ held m1 ∷ [] };
+  draft = 5;
+}
+unfolding u8_spelling u16_spelling u32_spelling u64_spelling i64_spelling i32_spelling list ascending text_code short_text_code hash_code id_code element_code key_code moment_code kind_code entry_code meta_code commit_code table_code namespace_code of_table of_namespace content_code emptied_fault changes_of op_fault judge entries commit_bytes content_bytes with_commit with_content expired_keys given_ops given_request request_commit commit_opening needs_commit_room step_commit needs_contents step_create step_assign step_delete entry_made attempt script live_from live live_since saved kept_contents removed_contents needs_sweep_room step_sweep sweep_entry sweep_call past_of
+what_a_sweep_brings = refl
+
+what_a_refused_sweep_brings : swept_on full two_names ≡ record {
+  said = Err (record { place = Some 3; why = Limit quantities.Log 3 });
+  logged = [];
+  state = full.state;
+  draft = 5;
+}
+unfolding u8_spelling u16_spelling u32_spelling u64_spelling i64_spelling i32_spelling list ascending text_code short_text_code hash_code id_code element_code key_code moment_code kind_code entry_code meta_code commit_code table_code namespace_code of_table of_namespace content_code emptied_fault changes_of op_fault judge entries commit_bytes content_bytes with_commit with_content expired_keys given_ops given_request request_commit commit_opening needs_commit_room step_commit needs_contents step_create step_assign step_delete entry_made attempt script live_from live live_since saved kept_contents removed_contents needs_sweep_room step_sweep sweep_entry sweep_call past_of
+what_a_refused_sweep_brings = refl
+
+-- ---- books
+
+-- the entries of requests above older ones
+abbrev logged_on : Session → List LogEntry → List Request → List LogEntry
+logged_on s older [] = older
+logged_on s older (wanted ∷ requests) = logged_on (request quick 7 clock s wanted).after ((request quick 7 clock s wanted).logged ++ older) requests
+
+-- the book of these requests after these ones, whose entries it doesn't have
+abbrev book_from : List Request → List Request → Book
+book_from earlier requests = record {
+  state = (after (after empty earlier) requests).state;
+  draft = (after (after empty earlier) requests).draft;
+  log = logged_on (after empty earlier) [] requests;
+  base = (after empty earlier).state;
+}
+
+abbrev swept_in : Book → Sweep → Called
+swept_in book s = sweep_call 7 book.state (past_of quick book) book.draft 9 s
+
+abbrev sweeps_in : Book → Sweep → Short × List (List ℕ)
+sweeps_in book s = (short (swept_in book s).said, left_in (swept_in book s).state)
+
+abbrev places : Book → List ℕ
+places book = map (λ s. s.place) (past_of quick book)
+
+-- a tag at the second commit, made by the fourth entry and removed by the fifth
+abbrev kept_for_a_while : List Request
+kept_for_a_while = create (codes "keep") Tag (from_hash c2) ∷ delete (codes "keep") None None ∷ []
+
+abbrev before_sweeps : Book
+before_sweeps = book_from [] (first_three ++ kept_for_a_while)
+
+-- opened before the tag was removed
+abbrev first_sweep : Sweep
+first_sweep = sweep 4 heads nothing_named
+
+abbrev once_swept : Book
+once_swept = after_call before_sweeps (swept_in before_sweeps first_sweep)
+
+places_before_a_sweep : places before_sweeps ≡ 4 ∷ 3 ∷ 2 ∷ 1 ∷ 0 ∷ []
+unfolding u8_spelling u16_spelling u32_spelling u64_spelling i64_spelling i32_spelling list ascending text_code short_text_code hash_code id_code element_code key_code moment_code kind_code entry_code meta_code commit_code table_code namespace_code of_table of_namespace content_code emptied_fault changes_of op_fault judge entries commit_bytes content_bytes with_commit with_content expired_keys given_ops given_request request_commit commit_opening needs_commit_room step_commit needs_contents step_create step_assign step_delete entry_made attempt script live_from live live_since saved kept_contents removed_contents needs_sweep_room step_sweep sweep_entry sweep_call past_of
+places_before_a_sweep = refl
+
+places_after_a_sweep : places once_swept ≡ 5 ∷ 4 ∷ 3 ∷ 2 ∷ 1 ∷ 0 ∷ []
+unfolding u8_spelling u16_spelling u32_spelling u64_spelling i64_spelling i32_spelling list ascending text_code short_text_code hash_code id_code element_code key_code moment_code kind_code entry_code meta_code commit_code table_code namespace_code of_table of_namespace content_code emptied_fault changes_of op_fault judge entries commit_bytes content_bytes with_commit with_content expired_keys given_ops given_request request_commit commit_opening needs_commit_room step_commit needs_contents step_create step_assign step_delete entry_made attempt script live_from live live_since saved kept_contents removed_contents needs_sweep_room step_sweep sweep_entry sweep_call past_of
+places_after_a_sweep = refl
+
+-- the place of a state, the heads of its references, its commits, and its locations
+abbrev shape : State → ℕ × (List (List ℕ × Hash) × (List Hash × List (List ℕ)))
+shape state = (state.place, (map (λ r. (r.name, r.head)) state.references, (map (λ x. x.0) state.commits, left_in state)))
+
+entries_lead_to_the_state : shape (course quick (first_state quick program_limits) once_swept.log).state ≡ (6, ((main, c3) ∷ [], (c3 ∷ c2 ∷ c1 ∷ [], m3 ∷ m2 ∷ [])))
+unfolding u8_spelling u16_spelling u32_spelling u64_spelling i64_spelling i32_spelling list ascending text_code short_text_code hash_code id_code element_code key_code moment_code kind_code entry_code meta_code commit_code table_code namespace_code of_table of_namespace content_code emptied_fault changes_of op_fault judge entries commit_bytes content_bytes with_commit with_content expired_keys given_ops given_request request_commit commit_opening needs_commit_room step_commit needs_contents step_create step_assign step_delete entry_made attempt script live_from live live_since saved kept_contents removed_contents needs_sweep_room step_sweep sweep_entry sweep_call past_of
+entries_lead_to_the_state = refl
+
+the_first_sweep : sweeps_in before_sweeps first_sweep ≡ (swept 6 4 2 1, m3 ∷ m2 ∷ [])
+unfolding u8_spelling u16_spelling u32_spelling u64_spelling i64_spelling i32_spelling list ascending text_code short_text_code hash_code id_code element_code key_code moment_code kind_code entry_code meta_code commit_code table_code namespace_code of_table of_namespace content_code emptied_fault changes_of op_fault judge entries commit_bytes content_bytes with_commit with_content expired_keys given_ops given_request request_commit commit_opening needs_commit_room step_commit needs_contents step_create step_assign step_delete entry_made attempt script live_from live live_since saved kept_contents removed_contents needs_sweep_room step_sweep sweep_entry sweep_call past_of
+the_first_sweep = refl
+
+-- opened before the first one's entry
+a_second_sweep : sweeps_in once_swept (sweep 4 heads nothing_named) ≡ (swept 7 4 2 0, m3 ∷ m2 ∷ [])
+unfolding u8_spelling u16_spelling u32_spelling u64_spelling i64_spelling i32_spelling list ascending text_code short_text_code hash_code id_code element_code key_code moment_code kind_code entry_code meta_code commit_code table_code namespace_code of_table of_namespace content_code emptied_fault changes_of op_fault judge entries commit_bytes content_bytes with_commit with_content expired_keys given_ops given_request request_commit commit_opening needs_commit_room step_commit needs_contents step_create step_assign step_delete entry_made attempt script live_from live live_since saved kept_contents removed_contents needs_sweep_room step_sweep sweep_entry sweep_call past_of
+a_second_sweep = refl
+
+a_second_sweep_after_the_first : sweeps_in once_swept (sweep 6 heads nothing_named) ≡ (swept 7 6 1 1, m3 ∷ [])
+unfolding u8_spelling u16_spelling u32_spelling u64_spelling i64_spelling i32_spelling list ascending text_code short_text_code hash_code id_code element_code key_code moment_code kind_code entry_code meta_code commit_code table_code namespace_code of_table of_namespace content_code emptied_fault changes_of op_fault judge entries commit_bytes content_bytes with_commit with_content expired_keys given_ops given_request request_commit commit_opening needs_commit_room step_commit needs_contents step_create step_assign step_delete entry_made attempt script live_from live live_since saved kept_contents removed_contents needs_sweep_room step_sweep sweep_entry sweep_call past_of
+a_second_sweep_after_the_first = refl
+
+-- neither names nor longer cutoffs bring them back
+what_was_removed_stays_so : sweeps_in once_swept (sweep 1 (always cutoffs.All) (record { commits = c1 ∷ []; contents = (held m1).0 ∷ [] })) ≡ (swept 7 1 2 0, m3 ∷ m2 ∷ [])
+unfolding u8_spelling u16_spelling u32_spelling u64_spelling i64_spelling i32_spelling list ascending text_code short_text_code hash_code id_code element_code key_code moment_code kind_code entry_code meta_code commit_code table_code namespace_code of_table of_namespace content_code emptied_fault changes_of op_fault judge entries commit_bytes content_bytes with_commit with_content expired_keys given_ops given_request request_commit commit_opening needs_commit_room step_commit needs_contents step_create step_assign step_delete entry_made attempt script live_from live live_since saved kept_contents removed_contents needs_sweep_room step_sweep sweep_entry sweep_call past_of
+what_was_removed_stays_so = refl
+
+contents_after_each_entry : map left_in (past_of quick (after_call once_swept (swept_in once_swept (sweep 6 heads nothing_named)))) ≡ (m3 ∷ m2 ∷ []) ∷ (m3 ∷ m2 ∷ m1 ∷ []) ∷ (m3 ∷ m2 ∷ m1 ∷ []) ∷ (m3 ∷ m2 ∷ m1 ∷ []) ∷ (m2 ∷ m1 ∷ []) ∷ (m1 ∷ []) ∷ [] ∷ []
+unfolding u8_spelling u16_spelling u32_spelling u64_spelling i64_spelling i32_spelling list ascending text_code short_text_code hash_code id_code element_code key_code moment_code kind_code entry_code meta_code commit_code table_code namespace_code of_table of_namespace content_code emptied_fault changes_of op_fault judge entries commit_bytes content_bytes with_commit with_content expired_keys given_ops given_request request_commit commit_opening needs_commit_room step_commit needs_contents step_create step_assign step_delete entry_made attempt script live_from live live_since saved kept_contents removed_contents needs_sweep_room step_sweep sweep_entry sweep_call past_of
+contents_after_each_entry = refl
+
+-- the first three entries are no longer there
+a_book_from_a_later_state : places (book_from first_three kept_for_a_while) ≡ 4 ∷ 3 ∷ []
+unfolding u8_spelling u16_spelling u32_spelling u64_spelling i64_spelling i32_spelling list ascending text_code short_text_code hash_code id_code element_code key_code moment_code kind_code entry_code meta_code commit_code table_code namespace_code of_table of_namespace content_code emptied_fault changes_of op_fault judge entries commit_bytes content_bytes with_commit with_content expired_keys given_ops given_request request_commit commit_opening needs_commit_room step_commit needs_contents step_create step_assign step_delete entry_made attempt script live_from live live_since saved kept_contents removed_contents needs_sweep_room step_sweep sweep_entry sweep_call past_of
+a_book_from_a_later_state = refl
+
+a_book_without_entries : places (book_from first_three []) ≡ []
+unfolding u8_spelling u16_spelling u32_spelling u64_spelling i64_spelling i32_spelling list ascending text_code short_text_code hash_code id_code element_code key_code moment_code kind_code entry_code meta_code commit_code table_code namespace_code of_table of_namespace content_code emptied_fault changes_of op_fault judge entries commit_bytes content_bytes with_commit with_content expired_keys given_ops given_request request_commit commit_opening needs_commit_room step_commit needs_contents step_create step_assign step_delete entry_made attempt script live_from live live_since saved kept_contents removed_contents needs_sweep_room step_sweep sweep_entry sweep_call past_of
+a_book_without_entries = refl
