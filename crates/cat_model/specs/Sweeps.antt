@@ -1,5 +1,8 @@
 -- Sweeps: what they keep of the contents that are present, what they remove, and their step.
-use Rattle.std.specs.Prelude.{ℕ, ◌+◌, ◌-◌, List, [], ◌∷◌, ◌++◌, length, take, filter, None, Ok, Err, Bool, not}
+use Rattle.std.specs.Prelude.{ℕ, ◌+◌, ◌-◌, List, [], ◌∷◌, ◌++◌, length, take, filter, fold, None, Ok, Err, Bool, not}
+use Rattle.std.specs.Cmp.Lexicographic.{slice_cmp}
+use Rattle.std.specs.Ordering.{nat_cmp}
+use Rattle.std.specs.declared.cmp.Ordering.{Ordering}
 use Rattle.std.specs.List.{flat_map}
 use Rattle.cat_names.specs.declared.hash.Hash.{Hash}
 use Rattle.cat_model.specs.declared.content.Content.{Content}
@@ -14,6 +17,7 @@ use Rattle.cat_model.specs.Calls.{Called, told_at, unchanged_by}
 use Rattle.cat_model.specs.Chain.{Commits}
 use Rattle.cat_model.specs.Cutoffs.{live, visible}
 use Rattle.cat_model.specs.Drafts.{Names}
+use Rattle.cat_model.specs.KeySets.{with_one}
 use Rattle.cat_model.specs.Moves.{needs_log}
 use Rattle.cat_model.specs.Refusing.{◌>>=◌, needs_at_most, Outcome, Tested}
 use Rattle.cat_model.specs.State.{State}
@@ -51,6 +55,18 @@ unfoldable pub removed_contents : List Hash → List (Hash × Content) → List 
 removed_contents saved present = filter (λ x. not (is_saved saved x)) present
 
 -- ---- its step
+
+-- the order of hashes: that of their bytes
+abbrev hash_cmp : Hash → Hash → Ordering
+hash_cmp a b = slice_cmp nat_cmp a.bytes b.bytes
+
+-- hashes ascending, each once
+abbrev pub hash_set : List Hash → List Hash
+hash_set hashes = fold (with_one hash_cmp) [] hashes
+
+-- the sweep that is logged of one that was opened at this place, with this policy and these names
+abbrev pub sweep_of : ℕ → Resolved → Names → Sweep
+sweep_of place policy names = record { opened = place; policy = policy; commits = hash_set names.commits; contents = hash_set names.contents }
 
 abbrev pub names_in : Sweep → Names
 names_in s = record { commits = s.commits; contents = s.contents }

@@ -84,6 +84,30 @@ impl SharedCatalogue {
         sharing(alloc, next)
     }
 
+    /// Has the keeper keep an entry, and then puts another catalogue in the place of this one; or
+    /// changes nothing.
+    fn keep<K: Keeper>(
+        &mut self,
+        alloc: Global,
+        keeper: &mut K,
+        entry: &LogEntry,
+        next: Arc<Catalogue>,
+    ) -> Result<(), Unmade>
+        requires logged { IsTrue (is_logged sha256 entry.now) }
+        requires up { K.down keeper.old ≡ None }
+        requires few { K.kept keeper.old < 4294967295 }
+        ensures ok { OnOk result (self.new ≡ catalogue_in next) }
+        ensures err { OnErr result (self.new ≡ self.old) }
+        ensures unrefused { IfErr result IsUnrefused }
+        ensures more { OnOk result (K.kept keeper.new ≡ K.kept keeper.old + 1) }
+        ensures as_many { OnErr result (K.kept keeper.new ≡ K.kept keeper.old) }
+        ensures keeps { Keeps K.Keeper keeper.old keeper.new (entry.now ∷ []) result }
+    {
+        append(alloc, keeper, entry)?;
+        self.catalogue = next;
+        Ok(())
+    }
+
     /// Makes the catalogue after a change, has the keeper keep the entry of the change, and then puts
     /// the new catalogue in the place of the old one, which can't fail and takes no memory; or changes
     /// nothing. Views keep the old one.
@@ -106,9 +130,45 @@ impl SharedCatalogue {
         ensures keeps { Keeps K.Keeper keeper.old keeper.new (entry.now ∷ []) result }
     {
         let next = self.next(alloc, change)?;
-        append(alloc, keeper, entry)?;
-        self.catalogue = next;
-        Ok(())
+        self.keep(alloc, keeper, entry, next)
+    }
+
+    /// The catalogue after a sweep, in memory that can be shared.
+    fn next_swept(&self, alloc: Global, hashes: &[Hash]) -> Result<Arc<Catalogue>, NoMemory>
+        requires place { self.now.place < 4294967295 }
+        requires spared { IsTrue
+            (heads_pass (spares_at self.now.commits hashes.now) self.now.references) }
+        ensures { IfOk result (λ next. catalogue_in next ≡ sweeping self.now hashes.now) }
+    {
+        let next = self.get().swept(alloc, hashes)?;
+        sharing(alloc, next)
+    }
+
+    /// Makes the catalogue after a sweep, without the contents of these hashes, has the keeper keep
+    /// the entry of the sweep, and then puts the new catalogue in the place of the old one, which
+    /// can't fail and takes no memory; or changes nothing. Views keep the old one.
+    pub fn make_sweep<K: Keeper>(
+        &mut self,
+        alloc: Global,
+        keeper: &mut K,
+        entry: &LogEntry,
+        hashes: &[Hash],
+    ) -> Result<(), Unmade>
+        requires place { self.old.place < 4294967295 }
+        requires spared { IsTrue
+            (heads_pass (spares_at self.old.commits hashes.now) self.old.references) }
+        requires logged { IsTrue (is_logged sha256 entry.now) }
+        requires up { K.down keeper.old ≡ None }
+        requires few { K.kept keeper.old < 4294967295 }
+        ensures ok { OnOk result (self.new ≡ sweeping self.old hashes.now) }
+        ensures err { OnErr result (self.new ≡ self.old) }
+        ensures unrefused { IfErr result IsUnrefused }
+        ensures more { OnOk result (K.kept keeper.new ≡ K.kept keeper.old + 1) }
+        ensures as_many { OnErr result (K.kept keeper.new ≡ K.kept keeper.old) }
+        ensures keeps { Keeps K.Keeper keeper.old keeper.new (entry.now ∷ []) result }
+    {
+        let next = self.next_swept(alloc, hashes)?;
+        self.keep(alloc, keeper, entry, next)
     }
 
     /// Puts the catalogue after a sweep in the place of the old one: without the contents of these
@@ -120,8 +180,7 @@ impl SharedCatalogue {
         ensures ok { OnOk result (self.new ≡ sweeping self.old hashes.now) }
         ensures err { OnErr result (self.new ≡ self.old) }
     {
-        let swept = self.get().swept(alloc, hashes)?;
-        self.catalogue = sharing(alloc, swept)?;
+        self.catalogue = self.next_swept(alloc, hashes)?;
         Ok(())
     }
 
