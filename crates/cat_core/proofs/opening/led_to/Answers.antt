@@ -49,8 +49,3 @@ loop-i-preserved g c = record {
       c.args.keeper.now c.loop-i.keeper c.add_payload.new.keeper c.loop-i.invariant.stays c.add_payload.ensures.stays;
   level = c.in_ok-add_payload.ensures.level (no_fault _ _) ∙ c.loop-i.invariant.level;
 }
-
-pub returns-clause-led : goal.returns-clause-led
-returns-clause-led g c =
-    let laws = g.met.K.Keeper g.world.𝓛 g.world.𝓜 g.world.𝓡 ((λ s x. x), (λ x. x), (λ x. x), λ x. x) in
-    all_read (g.K.Keeper.told c.args.keeper.now) c.args.limits c.loop-i.i (g.K.Keeper.kept c.args.keeper.now) c.loop-i.replay.ledger (laws.counted c.args.keeper.now) (omega arith) c.loop-i.invariant.led
