@@ -593,9 +593,12 @@ class Catalogue:
 
     def need_contents(self, changes):
         """Refused where an entry that is shown or set has no content any more."""
-        gone = {key for key, entry in changes if entry is not None and entry[2] not in self.contents}
+        gone = {(key, entry[2]) for key, entry in changes if entry is not None and entry[2] not in self.contents}
         if gone:
-            raise Refused("EXPIRED", "contents expired", (sorted(gone, key=key_order), self.place))
+            keys = sorted({key for key, _ in gone}, key=key_order)
+            refused = Refused("EXPIRED", "contents expired", (keys, self.place))
+            refused.gone = {content_hash for _, content_hash in gone}
+            raise refused
 
     def accept(self, name, commits, reply):
         self.keep(commits)

@@ -5,10 +5,12 @@
 
 Each session starts a new journal, sends requests one by one to `nessie script`,
 and compares each reply's bytes with the rules'. The time of a commit is asked of
-the program, by a history of the commit that its reply names. At times the program
-is ended and started again on the same journal, in some sessions behind sweeps that
-the rules write into it. At the end the journal's bytes and the line of `nessie check`
-are compared too, and a row of reads that is sent at once.
+the program, by a history of the commit that its reply names; that of a sweep stands
+in the journal. At times the program is ended and started again on the same journal,
+in some sessions behind sweeps that `nessie gc` makes, or that the rules write into
+it with what no single caller can come to: places and names of others. At the end the
+journal's bytes and the line of `nessie check` are compared too, and a row of reads
+that is sent at once.
 The first difference of each kind is printed, with the request and both replies.
 With --serve the requests go over TCP to `nessie serve`, on one connection.
 """
@@ -45,7 +47,7 @@ class Program:
     """A running `nessie script`, talked to request by request."""
 
     def __init__(self, program, path, before=None, serve=False):
-        self.serve = serve
+        self.serve, self.path = serve, path
         if serve:
             self.child = served.Child(program, path, WAIT)
         else:
@@ -99,6 +101,13 @@ class Program:
             self.child.wait()
         self.child.stdin.close()
         self.child.stdout.close()
+
+
+def last_moment(path):
+    """The moment of a journal's last entry."""
+    with open(path, "rb") as f:
+        found = f.read()
+    return journal.moment_at(found, journal.gates(found)[-2])
 
 
 def line_of(c):
@@ -181,23 +190,41 @@ class Comparison:
             self.sessions += 1
 
     def sweeps(self, maker, path):
-        """Sweeps that stand in the journal when it is opened again. The program makes none."""
-        c = maker.c
+        """Sweeps that stand in the journal when it is opened again."""
         for _ in range(maker.rng.choice([0, 1, 1, 2])):
-            with open(path, "rb") as f:
-                found = f.read()
-            moment = journal.moment_at(found, journal.gates(found)[-2]) if c.log else 0
-            command = maker.sweep()
-            removed = c.sweep(*command, moment)[1]
-            with open(path, "wb") as f:
-                f.write(journal.appended(found, c.log[-1]))
+            maker.pick([self.sweep_by_words, self.sweep_by_hand])(maker, path)
+
+    def sweep_by_words(self, maker, path):
+        """A sweep that the program makes for its words, where it takes them."""
+        c = maker.c
+        words, before = maker.policy_words(), len(c.log)
+        got = subprocess.run([self.options.program, "gc", path, *words], stdout=subprocess.PIPE)
+        moment = last_moment(path) if got.returncode == 0 else 0
+        wanted = replies.collected(c, words, moment)
+        if (got.stdout, got.returncode) != wanted:
+            self.difference("gc", words, None, wanted, (got.stdout, got.returncode))
+        if len(c.log) > before:
             self.lines.append(line_of(c))
-            got = subprocess.run([self.options.program, "check", path], stdout=subprocess.PIPE)
-            if (got.stdout, got.returncode) != (self.lines[-1], 0):
-                self.difference("a sweep", command, None, (self.lines[-1], 0), (got.stdout, got.returncode))
-            self.note((command, moment, got.stdout))
-            self.extra["sweeps"] += 1
-            self.extra["contents that sweeps removed"] += removed
+        self.note((words, moment, got.stdout, got.returncode))
+        self.extra["gc, status %d" % wanted[1]] += 1
+
+    def sweep_by_hand(self, maker, path):
+        """A sweep that the rules write, from a policy that was resolved and with names of others' drafts."""
+        c = maker.c
+        with open(path, "rb") as f:
+            found = f.read()
+        moment = journal.moment_at(found, journal.gates(found)[-2]) if c.log else 0
+        command = maker.sweep()
+        removed = c.sweep(*command, moment)[1]
+        with open(path, "wb") as f:
+            f.write(journal.appended(found, c.log[-1]))
+        self.lines.append(line_of(c))
+        got = subprocess.run([self.options.program, "check", path], stdout=subprocess.PIPE)
+        if (got.stdout, got.returncode) != (self.lines[-1], 0):
+            self.difference("a sweep", command, None, (self.lines[-1], 0), (got.stdout, got.returncode))
+        self.note((command, moment, got.stdout))
+        self.extra["sweeps"] += 1
+        self.extra["contents that sweeps removed"] += removed
 
     def step(self, seed, number, maker, side, program):
         kind, method, target, fields, body = maker.one()
@@ -221,7 +248,7 @@ class Comparison:
         if not self.same(kind, (seed, number), side, wanted, got):
             # The two may stand at different states from here on.
             return method == "GET"
-        if moment is not None:
+        if self.new_head is not None:
             target = b"/api/v2/trees/@%s/history" % self.new_head.encode()
             for rest in (b"?max-records=1&fetch=ALL",):
                 request = b"GET " + target + rest + b" HTTP/1.1\r\n\r\n"
@@ -265,8 +292,11 @@ class Comparison:
         return False
 
     def moment_of(self, program, got, target):
-        """When the call's commit was made, where the program's reply names a new one."""
+        """When the call's entry was made, where the program's reply names a new commit, or tells of a sweep."""
+        self.new_head = None
         path = target.partition(b"?")[0]
+        if got.startswith(b"HTTP/1.1 200") and path == b"/gc/v1/sweep":
+            return last_moment(program.path)
         if not got.startswith(b"HTTP/1.1 200") or not path.endswith((b"/commit", b"/merge", b"/transplant")):
             return None
         value = json.loads(got.partition(b"\r\n\r\n")[2])

@@ -453,6 +453,10 @@ class Row(compare.Comparison):
                 (("drill", "--seed", "+1", "--commits", "0"), usage), (("drill", "--seed", "", "--commits", "0"), usage),
                 (("drill", "--seed", "1a", "--commits", "0"), usage), (("drill", "--seed", "1", "--commits", "0", "x"), usage),
                 (("drill", "--seed", "1", "--seed", "1", "--commits", "0"), usage), (("script", "--x", "a"), usage),
+                (("gc",), usage), (("gc", "a"), usage), (("gc", "a", "0"), usage), (("gc", "a", "-1"), usage), (("gc", "a", "1", "main"), usage),
+                (("gc", "a", "1", "main=0"), usage), (("gc", "a", "1", "=1"), usage), (("gc", "a", "1", "main=1=1"), usage),
+                (("gc", "a", "1", "--workers", "2"), usage), (("gc", "a", "1", "main=1", "--help"), usage), (("gc", "--help"), usage),
+                (("gc", "a", "P1M"), usage), (("gc", "a", "1", "b*=1", *["b*=1"] * 1000), usage), (("GC", "a", "1"), usage),
                 (("help",), usage), (("--version",), usage), (("script", "--help"), usage), (("Script", "a"), usage)):
             got = subprocess.run([self.options.program, *words], stdout=subprocess.PIPE, stdin=subprocess.DEVNULL,
                                  cwd=os.path.dirname(self.path))
@@ -476,22 +480,25 @@ class Row(compare.Comparison):
             if ((got.stdout or b""), got.returncode) != (wanted, status):
                 self.difference((self.name, what), None, words, (wanted, status), (got.stdout, got.returncode))
 
-        none = os.path.join(folder, "none", "j")
-        for word in ("script", "check"):
-            run("no folder, " + word, (word, none), fault, 2, request)
-            run("a folder, " + word, (word, folder), fault, 2, request)
-        run("a full output, script", ("script", self.path), b"", 6, request, True)
-        run("a full output, no request", ("script", self.path), b"", 0, b"", True)
-        run("a full output, check", ("check", self.path), b"", 6, b"", True)
-        run("a full output, drill", ("drill", "--seed", "1", "--commits", "1"), b"", 6, b"", True)
-        run("a full output, usage", ("x",), b"", 1, b"", True)
-        run("a full output, no folder", ("check", none), b"", 6, b"", True)
         class Folder:
             def __init__(self):
                 self.fd = os.open(folder, os.O_RDONLY)
 
             def fileno(self):
                 return self.fd
+        none = os.path.join(folder, "none", "j")
+        for word, *more in (("script",), ("check",), ("gc", "NONE")):
+            run("no folder, " + word, (word, none, *more), fault, 2, request)
+            run("a folder, " + word, (word, folder, *more), fault, 2, request)
+        run("a full output, script", ("script", self.path), b"", 6, request, True)
+        run("a full output, no request", ("script", self.path), b"", 0, b"", True)
+        run("a full output, check", ("check", self.path), b"", 6, b"", True)
+        swept = self.path + "-swept"
+        run("a full output, gc", ("gc", swept, "NONE"), b"", 6, b"", True)
+        run("no input, gc", ("gc", swept, "NONE"), b"kept 0 removed 0 place 2\n", 0, Folder())
+        run("a full output, drill", ("drill", "--seed", "1", "--commits", "1"), b"", 6, b"", True)
+        run("a full output, usage", ("x",), b"", 1, b"", True)
+        run("a full output, no folder", ("check", none), b"", 6, b"", True)
         run("no input, script", ("script", self.path), b"", 5, Folder())
         run("no input, check", ("check", self.path), b"entries 0 references 1 commits 0 contents 0 head %s\n"
             % NO_ANCESTOR.hex().encode(), 0, Folder())
@@ -566,6 +573,12 @@ class Row(compare.Comparison):
             if rng.random() < 0.5:
                 self.ask(method, "/api/v2/" + path + query, body, [] if encoding is None else [("Content-Encoding", encoding)])
                 self.fresh_program()
+        for method, query, encoding, body in itertools.product(
+                ("POST", "GET", "PUT", "DELETE", "HEAD"), ("", "?defaultCutoff=0", "?max-records=x"), (None, "gzip", "identity"),
+                (b'{"defaultCutoff":"9"}', b'{"defaultCutoff":"0"}', b"{}", b"")):
+            for path in ("/gc/v1/sweep", "/gc/v1/sweep/", "/gc/v1"):
+                self.ask(method, path + query, body, [] if encoding is None else [("Content-Encoding", encoding)])
+                self.fresh_program()
         for path, query in itertools.product(
                 ("trees/main", "trees/none", "trees/a..b", "trees/main@" + unknown, "trees/@" + unknown, "trees/@" + old,
                  "trees/main@" + off), ("", "x=", "max-records=x", "page-token=e.%s.t" % unknown, "page-token=e.%s.t" % old,
@@ -609,6 +622,8 @@ class Row(compare.Comparison):
             ("PUT", "/api/v2/trees/main@" + "a" * 64, {"type": "BRANCH", "name": "main", "hash": at}),
             ("PUT", "/api/v2/trees/main@" + "a" * 64, {"type": "DETACHED", "hash": at, "name": "x", "metadata": {}}),
             ("POST", "/api/v2/trees/main/contents", {"requestedKeys": [key, {"elements": ["n"]}]}),
+            ("POST", "/gc/v1/sweep", {"defaultCutoff": "NONE", "cutoffs": [{"pattern": "main", "cutoff": "9", "z": 1},
+                                                                           {"pattern": "d*", "cutoff": "P1D"}], "z": {}}),
             ("POST", "/api/v2/trees/main/history/merge",
              dict(modes, fromRefName="dev", fromHash=dev, commitMeta=meta)),
             ("POST", "/api/v2/trees/main/history/transplant",
@@ -645,8 +660,9 @@ class Row(compare.Comparison):
                 ("PUT", "trees/dev", {"type": "DETACHED", "hash": NO_ANCESTOR.hex()}), ("DELETE", "trees/dev", b""),
                 ("POST", "trees/main/history/commit", refused), ("HEAD", "config", b""), ("HEAD", "nowhere", b""),
                 ("GET", "nowhere", b""), ("PATCH", "trees", b"x"), ("GET", "trees/main/contents/t", b""),
-                ("GET", "trees/a..b", b""), ("GET", "trees/none", b"")):
-            self.ask(method, "/api/v2/" + target, body, close, close=True)
+                ("GET", "trees/a..b", b""), ("GET", "trees/none", b""), ("POST", "/gc/v1/sweep", b"{}"),
+                ("POST", "/gc/v1/sweep", b"")):
+            self.ask(method, target if target[0] == "/" else "/api/v2/" + target, body, close, close=True)
             self.end()
             self.program = compare.Program(self.options.program, self.path)
             self.c.opened()
@@ -684,6 +700,7 @@ class Row(compare.Comparison):
             c = rules.Catalogue()
             side = replies.Session(c)
             maker = random_requests.Requests(random.Random(seed), c)
+            maker.durations = False  # when a call was made that left no entry is told nowhere
             self.program = program = compare.Program(self.options.program, path, before)
             after = 0
             lines = [compare.line_of(c)]
@@ -718,6 +735,114 @@ class Row(compare.Comparison):
             self.extra["journals after a fault, entry %s" % ("gone" if got.stdout == lines[0] else "kept")] += 1
             if got.stdout not in lines or got.returncode:
                 self.difference((self.name, "check"), size, None, lines, (got.stdout, got.returncode))
+
+    # Sweeps.
+
+    def sweep(self, default=None, *rules):
+        body = {} if default is None else {"defaultCutoff": default}
+        if rules:
+            body["cutoffs"] = [{"pattern": p, "cutoff": c} for p, c in rules]
+        return self.ask("POST", "/gc/v1/sweep", body)
+
+    def three(self):
+        """Three values of one table; the hashes of the commits."""
+        out = []
+        for value in ("m1", "m2", "m3"):
+            own = self.c.entries(self.c.references["main"][1]).get(("t1",))
+            self.commit("main", table(("t1",), value, own and own[1]))
+            out.append(self.head())
+        return out
+
+    def collect(self, *words):
+        """A sweep by the words of `gc`, between two sessions."""
+        self.end()
+        before = len(self.c.log)
+        got = subprocess.run([self.options.program, "gc", self.path, *words], stdout=subprocess.PIPE)
+        moment = compare.last_moment(self.path) if got.returncode == 0 else 0
+        wanted = replies.collected(self.c, words, moment)
+        self.compared += 1
+        if (got.stdout, got.returncode) != wanted:
+            self.difference((self.name, "gc"), None, words[:9], wanted, (got.stdout, got.returncode))
+        if len(self.c.log) > before:
+            self.lines.append(compare.line_of(self.c))
+        self.program = compare.Program(self.options.program, self.path)
+        self.c.opened()
+
+    def row_sweeps(self):
+        """What is read, made and moved after sweeps by the route and by words."""
+        self.sweep()
+        first, second, third = self.three()
+        self.create("side", at=NO_ANCESTOR.hex())
+        self.sweep("NONE", ("main", "2"))
+        for at in (first, second, third):
+            self.get("trees/main@%s/contents/t1" % at)
+            self.get("trees/main@%s/contents?key=t1&key=t2" % at)
+            self.create("old", at=at, kind="TAG")
+            self.ask("DELETE", "/api/v2/trees/old")
+            self.merge("side", "main", at, dryRun=True)
+        self.get("trees/main/history?fetch=ALL")
+        self.sweep("1")
+        self.sweep("1")
+        self.ask("PUT", "/api/v2/trees/side", {"type": "DETACHED", "hash": second})
+        self.transplant("side", "main", [first, second])
+        self.get("trees/main@%s/contents/t1" % second)
+        own = self.c.entries(self.c.references["main"][1])[("t1",)][1]
+        self.commit("main", table(("t1",), "m1", own))
+        self.get("trees/main@%s/contents/t1" % first)
+        self.collect("1")
+        self.get("trees/main@%s/contents/t1" % first)
+        self.collect("NONE")
+        self.collect("P1D", "main=1", "*=NONE")
+        self.collect("1")
+        self.get("trees")
+        self.end()
+
+    def row_many_patterns(self):
+        self.three()
+        for count in (999, 1000, 1001):
+            self.sweep("2", *[("b*", "1")] * count)
+        self.collect("2", *["b*=1"] * 1000)
+        self.collect("2", *["b*=1"] * 1001)
+        # The first that matches counts, also where it is the last.
+        self.sweep("2", *[("b*", "1")] * 999 + [("main", "1")])
+        self.end()
+
+    def row_patterns(self):
+        """For each pattern whether it matches: only then less than all stays."""
+        names = ["dev", "dev/a", "Dev", "d", "rel/1.0", "w-x_y", "m" * 128]
+        for pattern in ["main", "mai", "main*", "main/", "m*", "*", "**", "*n", "", "ma*n", "Main", "M*", "dev/*", "dev", "d*", "rel/1.*", "rel.", "rel.*",
+                        "rel/*", "1*", "a..*", "a..b", "w-x_*", "m" * 128, "m" * 128 + "*", "m" * 129, "m" * 129 + "*", "\u00e9*", "main ", " main", "-"]:
+            for name in names:
+                if name not in self.c.references:
+                    self.create(name.replace("/", "%2F"), at=NO_ANCESTOR.hex())
+            for name in names + ["main"]:
+                own = self.c.entries(self.c.references[name][1]).get(("t",))
+                where = name.replace("/", "%2F")
+                self.commit(where, table(("t",), "v%d" % self.c.place, own and own[1]))
+                own = self.c.entries(self.c.references[name][1])[("t",)]
+                self.commit(where, table(("t",), "v%d" % self.c.place, own[1]))
+            self.sweep("NONE", (pattern, "1"), ("*", "NONE"))
+            self.fresh_program()
+        self.end()
+
+    def row_cutoffs(self):
+        """Each cutoff on three commits, by the route and by words: a duration or an instant that falls on a commit's time too."""
+        self.three()
+        chain = [self.c.commits[h].time for h in self.c.chain(self.c.references["main"][1])[:-1]]
+        near = [replies.write_instant(t + d) for t in chain for d in (-1, 0, 1)]
+        for text in random_requests.DURATIONS + random_requests.BAD_CUTOFFS + random_requests.INSTANTS + near + [
+                "NONE", "none", "nONE", "1", "2", "3", "4", "4294967295", "P1W1D", "P1043497W", "P1043498W", "P19998Y", "P0Y0M0W0D", "PT175307616H",
+                "PT175307617H", "PT18446744073709551615S", "PT18446744073709551616S", "PT000000000000000000001S", "PT0000000000000000000001S",
+                "PT2562047788015215H", "PT2562047788015216H", "PT9223372036854775807S", "PT0.000000999S", "PT0.000001S", "P1DT0S", "P0DT", "PT1S1M",
+                "PT1M1S", "PT1M1M", "P1Y1D", "P0M1D", "P1D\u00e9", "P1DT1H1M1.123456789S", "P1DT1H1M1,S", "PT,1S", "PT1.H", "P 1D", "P1D\n"]:
+            if "\n" not in text:
+                self.collect(text, "main=NONE")
+            self.sweep("NONE", ("nobody", text))
+            self.fresh_program()
+        for text in near:
+            self.three()
+            self.sweep(text)
+        self.end()
 
     # Journals that the rules write, and the program opens.
 

@@ -7,7 +7,7 @@ from catalogue import (
     BRANCH, TAG, ICEBERG_TABLE, ICEBERG_VIEW, DELTA_LAKE_TABLE, NAMESPACE, NORMAL, FORCE, DROP,
     ALL, COMMITS, SINCE, NO_ANCESTOR, is_child, key_path)
 from instants import GREATEST
-from replies import write_uuid
+from replies import write_instant, write_uuid
 
 KEYS = [("a",), ("b",), ("a", "b"), ("a", "b", "c"), ("a.b",), ("a.b", "c"), ("a", "b.c"), ("t",),
         ("n",), ("n", "t"), ("n", "\u00e9 x"), ("n", "m"), ("n", "m", "t%2E"), ("t0",), ("T",), ("a!",),
@@ -29,6 +29,12 @@ INSTANTS = ["2024-02-03T04:05:06.1234567Z", "2024-02-29T23:59:60Z", "2023-02-29T
             "9999-12-30T22:00:00.999999Z", "9999-12-31T23:59:59Z", "2024-02-03T04:05:06,5-00:00",
             "2024-02-03T04:05:06.1234567890Z", "2000-02-29T12:00:00.000001-11:59",
             "2024-02-03T04:05:61Z", "2024-04-31T00:00:00Z", "2024-02-03", " 2024-02-03T04:05:06Z"]
+
+DURATIONS = ["PT0S", "PT0.02S", "PT0.1S", "PT0.3S", "PT1S", "PT0,05s", "PT2.5S", "P0D", "P1D", "P1W", "PT0.0001H", "PT0H0M0.2S",
+             "P0Y", "P0Y0M0W0DT0.4S", "P1DT1S", "PT0.000001M", "P7304484D"]
+BAD_CUTOFFS = ["", "0", "0000000000", "4294967296", "00000000001", "00000000002", "00000000009", "04294967295", "-1", "+1", "1 ", " 1", "1.0", "0x1", "NONE ", "none.", "all", "P",
+               "PT", "P1M", "P1Y", "P1Y2D", "P1D1W", "P1D1D", "P1DT", "p1d", "-P1D", "+P1D", "P-1D", "PT1.5H2M", "P1.5D", "P7304485D",
+               "PT0.1234567891S", "PT1", "P1", "PT1D", "P1H", "PT.5S", "1 day", "PT1S ", "\u0661"]
 
 
 class Raw:
@@ -53,6 +59,8 @@ class Requests:
         self.sweeping = sweeping
         # In some sessions branches mostly grow and are merged into each other, also from older commits.
         self.merging = rng.random() < 0.35
+        # Whether policies may ask for durations, which depend on the moment of the call.
+        self.durations = True
 
     def chance(self, p):
         return self.rng.random() < p
@@ -482,6 +490,51 @@ class Requests:
         commits = self.some_hashes(sorted(c.commits)[-40:] + [NO_ANCESTOR])
         return opened, (self.cutoff(), patterns), commits, self.some_hashes(sorted(seen) + [bytes(32)])
 
+    def cutoff_text(self):
+        """A cutoff as it is asked for."""
+        r = self.rng.random()
+        if r < 0.1:
+            return self.pick(["NONE", "NONE", "none", "NonE"])
+        if r < 0.55:
+            return self.pick(["1", "1", "1", "2", "2", "3", "6", "0000000001", "4294967295"])
+        if r < 0.7 and self.durations:
+            return self.pick(DURATIONS)
+        if r < 0.86:
+            times = [c.time for c in self.c.commits.values()][-10:] + [0, GREATEST - 1]
+            s = write_instant(self.pick(times) + self.pick([0, 0, 1]))
+            return self.pick([s, s, s[:-1] + "+00:00", s.replace("T", " "), s[:-1] + "9z"])
+        return self.pick(BAD_CUTOFFS if r < 0.97 else INSTANTS)
+
+    def pattern_text(self):
+        if self.chance(0.97):
+            return self.pattern()
+        return self.pick(BAD_NAMES + ["**", "a*b", "*a", "1*", "a..*", "a.*", "a/*", "m" * 129 + "*", "\u00e9*", "a *"])
+
+    def some_rules(self):
+        return [(self.pattern_text(), self.cutoff_text()) for _ in range(self.weighted([(0, 5), (1, 3), (2, 2), (4, 1)]))]
+
+    def policy_body(self):
+        out = {}
+        if self.chance(0.85):
+            out["defaultCutoff"] = self.cutoff_text()
+        elif self.chance(0.3):
+            out["defaultCutoff"] = None
+        rules = self.some_rules()
+        if rules or self.chance(0.4):
+            out["cutoffs"] = [{"pattern": p, "cutoff": c} for p, c in rules]
+            if rules and self.chance(0.04):
+                out["cutoffs"] = self.pick([1000, 1001]) * out["cutoffs"][:1]
+        elif self.chance(0.2):
+            out["cutoffs"] = None
+        return out
+
+    def policy_words(self):
+        """What follows the journal's name among the words of `gc`."""
+        out = [self.cutoff_text()] + [p + "=" + c for p, c in self.some_rules()]
+        if self.chance(0.03):
+            out.append(self.pick(["main", "", "=", "=1", "main=", "main=1=1", "main=1,dev=1", "help", "main =1"]))
+        return out
+
     # Whole requests: method, target, fields, body.
 
     def query(self, pairs):
@@ -625,11 +678,15 @@ class Requests:
         return ("POST", "/api/v2/trees/" + self.reference(True, 0.2) + "/history/transplant"
                 + self.query([]), [], self.body_bytes(self.transplant_body()))
 
+    def a_sweep(self):
+        return "POST", "/gc/v1/sweep" + self.query([]), [], self.body_bytes(self.policy_body())
+
     def an_oddity(self):
         if self.chance(0.5):
             target = self.pick([
                 "/", "/api", "/api/v2", "/api/v2/", "/api/v2/trees/", "/api/v2/config/", "/api/v1/trees",
                 "/api/v2/%63onfig", "/api/v2/trees//entries", "/api/v2/trees/main/", "/gc/v1/sweep",
+                "/gc/v1/sweep/", "/gc/v1/", "/gc/v2/sweep", "/api/v2/gc/v1/sweep", "/gc/v1/Sweep", "/gc/v1/sweep?x",
                 "/api/v2/trees/main/history/", "/api/v2/trees/main/diff", "/api/v2/Config", "*",
                 "/api/v2/trees/main/contents/", "/api/v2/trees/main/contents/a/b", "//api/v2/config",
                 "/api/v2/trees/rel/1.0", "http://h/api/v2/config", "/api/v2/config#x", "/api/v2/config?",
@@ -639,7 +696,7 @@ class Requests:
             return self.pick(["GET", "GET", "POST", "PUT", "DELETE", "HEAD"]), target, [], b""
         target = self.pick([self.a_config, self.a_list, self.a_get, self.an_entries, self.a_history,
                             self.a_contents, self.a_content, self.a_create, self.a_commit, self.a_merge,
-                            self.a_transplant])()[1]
+                            self.a_transplant, self.a_sweep])()[1]
         method = self.pick(["GET", "POST", "PUT", "DELETE", "HEAD", "HEAD", "PATCH", "OPTIONS", "TRACE",
                             "get", "X-Y"])
         return method, target, [], b"" if self.chance(0.7) else b"{}"
@@ -651,7 +708,7 @@ class Requests:
             ("config", 1), ("list", 4 * rare), ("get", 3), ("entries", 10), ("history", 9), ("contents", 7 * rare),
             ("content", 6 * rare), ("create", 9 if rare == 1 or len(self.c.references) < 4 else 2), ("assign", 6 * rare),
             ("delete", 5 * rare), ("commit", 34), ("merge", 20 if rare == 1 else 45), ("transplant", 13 * rare),
-            ("oddity", 5 * rare)])
+            ("sweep", 4 if self.sweeping else 0.3), ("oddity", 5 * rare)])
         method, target, fields, body = getattr(self, ("an_" if kind in ("entries", "assign", "oddity")
                                                       else "a_") + kind)()
         if self.chance(0.02):

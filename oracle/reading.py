@@ -5,7 +5,7 @@ from catalogue import (
     COMMITS, SINCE, Catalogue, Operation, Refused, key_order, u64)
 from instants import GREATEST
 from journal import CUTOFFS, HEADER, KINDS, MODES, payload
-from replies import NoReading, is_name, key_of, need, need_hashes, need_operations
+from replies import NoReading, is_name, is_pattern, key_of, need, need_hashes, need_operations
 
 KIND_OF, TYPE_OF, MODE_OF, CUTOFF_OF = (
     {number: name for name, number in table.items()} for table in (KINDS, TYPE_BYTES, MODES, CUTOFFS))
@@ -18,12 +18,6 @@ class Unopened(Exception):
     def __init__(self, line):
         super().__init__(line)
         self.line = b"nessie: %s\n" % line
-
-
-def is_pattern(s):
-    """A name, or a star behind what a name may begin with."""
-    front = s[:-1]
-    return is_name(front) or is_name(front + "a") if s.endswith("*") else is_name(s)
 
 
 class Reader:

@@ -1,4 +1,4 @@
-"""Texts and bytes: requests read to what they want, replies as they are written.
+"""Texts and bytes: requests and words read to what they want, replies as they are written.
 
 `Session(catalogue).answer(request, moment)` takes one request of the bytes
 (method, target, fields, body) and gives the reply's bytes.
@@ -8,14 +8,15 @@ import json
 import re
 
 import instants
+import policies
 
 from catalogue import (
-    BRANCH, TAG, ICEBERG_TABLE, ICEBERG_VIEW, DELTA_LAKE_TABLE, NAMESPACE, NORMAL, FORCE, DROP,
+    BRANCH, TAG, ICEBERG_TABLE, ICEBERG_VIEW, DELTA_LAKE_TABLE, NAMESPACE, NORMAL, FORCE, DROP, MOST_PATTERNS,
     NO_ANCESTOR, DEFAULT_BRANCH, Operation, Refused, bad, key_order, key_path)
 
 STATUS = {
     "BAD_REQUEST": 400, "REFERENCE_NOT_FOUND": 404, "REFERENCE_ALREADY_EXISTS": 409,
-    "CONTENT_NOT_FOUND": 404, "REFERENCE_CONFLICT": 409, "EXPIRED": 409, "LIMIT": 409, "COLLISION": 500,
+    "CONTENT_NOT_FOUND": 404, "REFERENCE_CONFLICT": 409, "EXPIRED": 409, "SWEEP_OPEN": 409, "LIMIT": 409, "COLLISION": 500,
     "FAULT": 503, "DOWN": 503, "NO_MEMORY": 507, "NO_ROUTE": 404, "WRONG_METHOD": 405,
     "TOO_LARGE": 413, "ENCODING": 415,
 }
@@ -38,6 +39,12 @@ def read_hash(s):
 
 def is_name(s):
     return bool(NAME.match(s)) and s[-1] not in "./" and ".." not in s and len(s) <= 128
+
+
+def is_pattern(s):
+    """A name, or a star behind what a name may begin with."""
+    front = s[:-1]
+    return is_name(front) or is_name(front + "a") if s.endswith("*") else is_name(s)
 
 
 def key_of(elements):
@@ -318,6 +325,60 @@ def modes(v):
     return default, found
 
 
+# Policies of collection.
+
+def need_patterns(pairs):
+    need(len(pairs) <= MOST_PATTERNS)
+
+
+def a_cutoff(s):
+    found = policies.cutoff(a_text(s))
+    need(found is not None)
+    return found
+
+
+def a_pattern(s):
+    need(is_pattern(a_text(s)))
+    return s
+
+
+def a_policy(v):
+    v = an_object(v)
+    default = v.get("defaultCutoff")
+    default = a_cutoff("NONE" if default is None else default)
+    given = v.get("cutoffs")
+    pairs = []
+    for item in [] if given is None else required_list(given):
+        item = an_object(item)
+        pairs.append((a_pattern(item.get("pattern")), a_cutoff(item.get("cutoff"))))
+    need_patterns(pairs)
+    return default, pairs
+
+
+def policy_of_words(default, rules):
+    """The policy of the words behind a journal's name."""
+    pairs = []
+    for rule in rules:
+        pattern, sign, cutoff = rule.partition("=")
+        need(sign == "=")
+        pairs.append((a_pattern(pattern), a_cutoff(cutoff)))
+    need_patterns(pairs)
+    return a_cutoff(default), pairs
+
+
+def collected(catalogue, words, moment):
+    """The line of `gc` on a catalogue that nothing else changes, and its status."""
+    try:
+        policy = policies.resolved(policy_of_words(words[0], words[1:]), moment)
+    except NoReading:
+        return b"nessie: usage\n", 1
+    try:
+        kept, removed = catalogue.sweep(catalogue.place, policy, [], [], moment)
+    except Refused as r:
+        return b"nessie: limit %d\n" % r.details[1], 9
+    return b"kept %d removed %d place %d\n" % (kept, removed, catalogue.place), 0
+
+
 # Paths and queries.
 
 def percent_decoded(b):
@@ -345,6 +406,7 @@ ROUTES = [
     ("commit", rb"/api/v2/trees/([^/]+)/history/commit\Z", ("POST",)),
     ("merge", rb"/api/v2/trees/([^/]+)/history/merge\Z", ("POST",)),
     ("transplant", rb"/api/v2/trees/([^/]+)/history/transplant\Z", ("POST",)),
+    ("sweep", rb"/gc/v1/sweep\Z", ("POST",)),
 ]
 
 
@@ -459,6 +521,8 @@ def refusal_json(r):
     if r.kind == "EXPIRED":
         out["errorDetails"] = {"keys": [key_json(k) for k in r.details[0]], "openedPlace": r.details[1],
                                "type": "EXPIRED"}
+    if r.kind == "SWEEP_OPEN":
+        out["errorDetails"] = {"place": r.details, "type": "SWEEP_OPEN"}
     if r.kind == "DOWN":
         out["errorDetails"] = {"faults": r.details, "type": "DOWN"}
     if r.kind == "LIMIT":
@@ -483,6 +547,9 @@ class Session:
     def __init__(self, catalogue):
         self.catalogue = catalogue
         self.faults = None
+        # Where the next sweep was opened, and the commits and contents that drafts named meanwhile, where
+        # other callers came between; None: it is opened at the place it finds, and nobody is between.
+        self.between = None
 
     def answer(self, method, target, fields, body, moment, close=False):
         """The reply to one request; `moment` is what the clock says if it is asked."""
@@ -513,7 +580,7 @@ class Session:
         for name, value in fields:
             if name.lower() == "content-encoding" and value.lower() != "identity":
                 raise Refused("ENCODING", "encoding not supported")
-        changing = method in ("PUT", "DELETE") or self.route in ("commit", "merge", "transplant")
+        changing = method in ("PUT", "DELETE") or self.route in ("commit", "merge", "transplant", "sweep")
         place = [decoded(p) for p in parts]
         where = key = None
         if place:
@@ -725,4 +792,14 @@ class Session:
             return self.merge_reply(self.catalogue.transplant(
                 where[0], where[1], from_name, hashes, lambda k: of_keys.get(k, default),
                 dry_run, as_result, moment, command))
+        return do
+
+    def post_sweep(self, where, key, query, body, moment):
+        policy = a_policy(read_json(body))
+
+        def do():
+            opened, commits, contents = self.between or (self.catalogue.place, [], [])
+            kept, removed = self.catalogue.sweep(
+                opened, policies.resolved(policy, moment), commits, contents, moment)
+            return {"kept": kept, "openedPlace": opened, "removed": removed}
         return do

@@ -1,5 +1,5 @@
 #!/usr/bin/env python3
-"""Shows that recorded replies, and what `check` told after sweeps, tell the rules from wrong ones.
+"""Shows that recorded replies, and what `check` and `gc` told of sweeps, tell the rules from wrong ones.
 
     sensitivity.py RECORD
 
@@ -67,8 +67,8 @@ EDITS = [
     ("catalogue.py", "        self.need_contents(self.entries(target).items())\n        own", "        own"),
     ("catalogue.py", "        self.need_contents(o for p in plans for o in p.ops)\n", ""),
     ("catalogue.py", "self.need_contents(o for p in plans for o in p.ops)\n        return dry_run or", "if dry_run:\n            return True\n        self.need_contents(o for p in plans for o in p.ops)\n        return"),
-    ("catalogue.py", "sorted(gone, key=key_order)", "sorted(gone, key=key_order, reverse=True)"),
-    ("catalogue.py", "(sorted(gone, key=key_order), self.place)", "(sorted(gone, key=key_order), self.place + 1)"),
+    ("catalogue.py", "for key, _ in gone}, key=key_order)", "for key, _ in gone}, key=key_order, reverse=True)"),
+    ("catalogue.py", "(keys, self.place)", "(keys, self.place + 1)"),
     ("replies.py", "and (front is None or k[:len(front)] == front)", "and (front is None or k[:len(front)] == front and k != front)"),
     ("replies.py", "and (front is None or k[:len(front)] == front)", "and (front is None or key_path(k).startswith(key_path(front)))"),
     ("replies.py", "key_order(k) <= key_order(greatest)", "key_order(k) < key_order(greatest)"),
@@ -88,6 +88,19 @@ EDITS = [
     ("replies.py", "meta[\"message\"] = \"Merge %s into %s\" % (from_name, where[0])", "meta[\"message\"] = \"\""),
     ("replies.py", "e.replace(\"\\x1d\", \".\").replace(\"\\x00\", \".\")", "e.replace(\"\\x1d\", \".\")"),
     ("replies.py", "s[-1] not in \"./\"", "s[-1] not in \".\""),
+    ("replies.py", "a_cutoff(\"NONE\" if default is None", "a_cutoff(\"1\" if default is None"),
+    ("replies.py", "return is_name(front) or is_name(front + \"a\") if", "return is_name(front) if"),
+    ("replies.py", "    need_patterns(pairs)\n    return default, pairs", "    return default, pairs"),
+    ("policies.py", "text.upper() == \"NONE\"", "text == \"NONE\""),
+    ("policies.py", "if 1 <= int(text) <= MOST_COMMITS", "if int(text) <= MOST_COMMITS"),
+    ("policies.py", "if 1 <= int(text) <= MOST_COMMITS", "if 1 <= int(text)"),
+    ("policies.py", "[0-9]{1,10}", "[0-9]{1,11}"),
+    ("policies.py", " or name in \"YM\" and number", ""),
+    ("policies.py", "if unit <= last:", "if unit == last:"),
+    ("policies.py", "or ended or", "or"),
+    ("policies.py", "(not times if clock else not dates)", "not dates and not times"),
+    ("policies.py", "max(moment - given[1], 0)", "moment"),
+    ("policies.py", "if text.startswith(\"P\"):", "if text[:1] in \"Pp\":"),
     ("instants.py", "second = min(self.field(0, 60), 59)", "second = self.field(0, 59)"),
     ("instants.py", "nanos // 1000 if 0 <= nanos", "(nanos + 500) // 1000 if 0 <= nanos"),
 ]
@@ -95,7 +108,7 @@ EDITS = [
 
 def first_difference(recorded):
     """The first recorded reply that the rules, as imported now, don't give."""
-    for name in ("catalogue", "instants", "replies"):
+    for name in ("catalogue", "instants", "policies", "replies"):
         sys.modules.pop(name, None)
     rules = importlib.import_module("catalogue")
     replies = importlib.import_module("replies")
@@ -112,6 +125,11 @@ def first_difference(recorded):
                 if len(what) == 3:
                     command, moment, told = what
                     if b" contents %d " % c.sweep(*command, moment)[0] not in told:
+                        return count
+                    continue
+                if len(what) == 4:
+                    words, moment, *told = what
+                    if replies.collected(c, words, moment) != tuple(told):
                         return count
                     continue
                 method, target, fields, body, moment, got = what
@@ -131,7 +149,7 @@ def main():
     untold = 0
     for name, old, new in [("catalogue.py", "", "")] + EDITS:
         folder = tempfile.mkdtemp()
-        for f in ("catalogue.py", "instants.py", "replies.py"):
+        for f in ("catalogue.py", "instants.py", "policies.py", "replies.py"):
             shutil.copy(os.path.join(here, f), folder)
         path = os.path.join(folder, name)
         with open(path) as f:

@@ -97,15 +97,21 @@ def check_statuses():
     case("a commit and a read", run(["script", journal], commit("a") + GET), 0, [200, 200])
     tell("and its journal", entries(journal) == 1, "1 entry")
     case("no request", run(["script", journal]), 0, b"")
-    for words in ([], ["script"], ["check", journal, "x"], ["--help"], ["drill", "--seed", "-1", "--commits", "1"], [b"check", b"\xff"], ["serve", journal], ["serve", journal, "127.0.0.1:0", "--workers", "65"]):
+    for words in ([], ["script"], ["check", journal, "x"], ["gc", journal], ["gc", journal, "0"], ["gc", journal, "1", "main"], ["gc", path_of("none yet"), "1", "main=P1M"], ["--help"], ["drill", "--seed", "-1", "--commits", "1"], [b"check", b"\xff"], ["serve", journal], ["serve", journal, "127.0.0.1:0", "--workers", "65"]):
         case(f"the words {words}", run(words), 1, b"nessie: usage\n")
+    tell("and no journal is made for a policy without a reading", not os.path.exists(path_of("none yet")))
     held = content_of(journal)
+    collected = file_of("collected", held)
+    case("a collection of a journal", run(["gc", collected, "NONE", "main=1"]), 0, b"kept 1 removed 0 place 2\n")
+    case("a collection of a new journal", run(["gc", path_of("collected new"), "1"]), 0, b"kept 0 removed 0 place 1\n")
+    tell("and their journals", (entries(collected), entries(path_of("collected new"))) == (2, 1), "2 and 1 entries")
     for what, content, line in (
         ("another version", NEW[:11] + b"\x09" + NEW[12:], b"nessie: version 9\n"),
         ("a torn entry", NEW[:16] + b"\x01", b"nessie: damaged at 16\n"),
         ("an entry with another hash", held[:-2] + bytes([held[-2] ^ 1]) + held[-1:], b"nessie: illegal entry 1\n"),
     ):
         case(what, run(["script", file_of("other", content)], commit("b")), 3, line)
+        case(f"{what}, for a collection", run(["gc", path_of("other"), "1"]), 3, line)
         tell("and the file stays as it is", content_of(path_of("other")) == content)
     folder = os.open(room.name, os.O_RDONLY)
     case("a read that fails", run(["script", journal], folder), 5, b"")
@@ -113,6 +119,8 @@ def check_statuses():
     with open("/dev/full", "wb") as full:
         case("a write that fails", run(["script", journal], GET, stdout=full), 6, b"")
         case("a line that can't be written", run(["check", journal], stdout=full), 6, b"")
+        case("a line of a collection that can't be written", run(["gc", collected, "1"], stdout=full), 6, b"")
+        tell("and its journal", entries(collected) == 3, "3 entries")
     case("bytes that are no request", run(["script", journal], GET + b"x\r\n\r\n"), 8, [200, 400])
     large = b"POST /api/v2/trees/main/history/commit HTTP/1.1\r\nContent-Length: 1048577\r\n\r\n"
     case("a body that is too large", run(["script", journal], large), 8, [413])
@@ -124,7 +132,7 @@ def check_statuses():
     taken.close()
     tell("and the journal stays as it is", content_of(journal) == held)
     case("a journal that can't be read, and an address that is none", run(["serve", file_of("other", NEW[:16] + b"\x01"), "nowhere"]), 3, b"nessie: damaged at 16\n")
-    leave_out("status 9", "no command collects")
+    leave_out("status 9", "it wants 4,294,967,295 entries")
 
 
 def check_memory():
@@ -147,6 +155,7 @@ def check_faults():
     """Where the disk fails: the line stays, and standard error says why."""
     none = path_of("none/journal")
     case("no such folder", run(["check", none]), 2, FAULT, said(none, "No such file or directory (os error 2)"))
+    case("no such folder for a collection", run(["gc", none, "1"]), 2, FAULT, said(none, "No such file or directory (os error 2)"))
     case("a folder as the file", run(["script", room.name], GET), 2, FAULT, said(room.name, "Is a directory (os error 21)"))
     if not IS_ROOT:
         return leave_out("another user's files", "wants root")
@@ -182,6 +191,7 @@ def check_two():
         held = content_of(path)
         case("script beside script", run(["script", path], commit("b")), 2, FAULT, line)
         case("check beside script", run(["check", path]), 2, FAULT, line)
+        case("gc beside script", run(["gc", path, "1"]), 2, FAULT, line)
         tell("and the file stays as it is", content_of(path) == held)
         first.stdin.write(commit("b"))
         first.stdin.close()
@@ -240,6 +250,9 @@ def check_syncs():
     (status, output, _), calls = traced(["script", path], commit("b"))
     word = steps(calls, path)
     tell("a commit to it", status == 0 and replies(output) == [200] and re.fullmatch("lswswsr+", word), word)
+    (status, output, _), calls = traced(["gc", file_of("traced too", content_of(path)), "NONE"], b"")
+    word = steps(calls, path_of("traced too"))
+    tell("a collection", (status, output) == (0, b"kept 2 removed 0 place 3\n") and re.fullmatch("lswswsr+", word), word)
     for error in ("EOPNOTSUPP", "ENOLCK"):
         got, _ = traced(["check", path], b"", f"flock:error={error}:when=1")
         tell(f"no locks there, {error}", got[0] == 0 and got[1].startswith(b"entries 2 "), f"status {got[0]}")
@@ -285,6 +298,27 @@ def check_injected(start):
             case(f"from {start} entries, {name} {number} is interrupted", got, 0, [200, 200, 200])
 
 
+def check_injected_collection():
+    """Each call of the system fails once, while a journal of one entry is collected: there is the entry or none, and a line tells so."""
+    old, path = content_of(path_of("first")), path_of("injected")
+
+    def play(*injected):
+        file_of("injected", old)
+        return traced(["gc", path, "1"], b"", *injected)
+
+    line = b"kept 1 removed 0 place 2\n"
+    got, calls = play()
+    case("a collection, no call fails", got, 0, line)
+    for name, number in ordinals(calls, path):
+        status, output, error = play(f"{name}:error=EIO:when={number}")[0]
+        wanted = (6, b"", b"") if name == "write" else (2, FAULT, said(path, "Input/output error (os error 5)"))
+        now = entries(path)
+        passed = (status, output, error) == wanted and now in ((2,) if name == "write" else (1, 2))
+        tell(f"a collection, {name} {number} fails", passed, f"status {status}, {output.decode().strip()}, then {now} entries")
+        if name in ("write", "pread64", "pwrite64"):
+            case(f"a collection, {name} {number} is interrupted", play(f"{name}:error=EINTR:when={number}")[0], 0, line)
+
+
 def check_full():
     place = path_of("small")
     os.mkdir(place)
@@ -312,6 +346,7 @@ if shutil.which("strace") and subprocess.run(["strace", "-o", path_of("trace"), 
     check_syncs()
     check_injected(0)
     check_injected(1)
+    check_injected_collection()
 else:
     leave_out("syncs and failing calls", "strace is missing, or may not trace")
 check_full()

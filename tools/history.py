@@ -3,13 +3,18 @@
 
     history.py [--seed 1] [--seconds 30] [--clients 8] [--workers N] [--attempts 8] [--kill-every 3] [--program FILE] [--spoil]
 
-N clients, on as many workers unless another number is named, commit, merge, transplant, move branches and read for that
+N clients, on as many workers unless another number is named, commit, merge, transplant, move branches, collect and read for that
 many seconds. The server is killed by SIGKILL at random moments, so many seconds apart in the mean (0: never), and
 started again on the same journal. At the end the journal's entries are made again one by one by the plain rules of
 `oracle/`, and it is checked that:
 
 - each accepted reply is the rules' reply to that entry's call, and the entry is what was asked for;
 - each other reply is the rules' reply on the state at the place that it tells;
+- each collection kept and removed as many contents as the rules say, by where its entry says that it was opened and what drafts
+  named until it settled; that may be so: it was opened behind all that had been told, and has the names of each draft whose entry
+  came between, and commits that somebody named;
+- a collection that was refused met another one that was open, and contents that are told as expired were gone already where the
+  reply says that the call began;
 - each entry without a reply is the call of a request whose connection was cut by a kill;
 - places rise within each client, and no reply is older than one that had come before its request was sent;
 - nothing that was answered is lost by a kill, and what the journal held at a kill it holds to the end.
@@ -21,6 +26,7 @@ import multiprocessing
 import os
 import pickle
 import random
+import re
 import subprocess
 import sys
 import time
@@ -28,7 +34,7 @@ import time
 HERE = os.path.dirname(os.path.abspath(__file__))
 sys.path[:0] = [os.path.join(HERE, part) for part in ("histories", "clients", "../oracle")]
 
-from check import Check, Life, payloads_of
+from check import Check, Life, opened_in, payloads_of
 from clients import run_client
 from compare import line_of
 from serving import TOP, Server
@@ -110,6 +116,13 @@ def ways_to_spoil(record, payloads):
     if record[middle].target.endswith(b"/commit"):
         yield "another moment in an entry", record, payloads[:at] + [payloads[at][:20] + bytes([payloads[at][20] ^ 1]) + payloads[at][21:]] + payloads[at + 1:]
     yield "two entries change places", record, payloads[:at] + [payloads[at + 1], payloads[at]] + payloads[at + 2:]
+    sweep = next((number for number in made if record[number].collects and opened_in(payloads[record[number].place - 1]) > 0), None)
+    if sweep is not None:
+        raw = re.sub(rb'"removed":(\d+)', lambda found: b'"removed":%d' % (int(found[1]) + 1), record[sweep].raw)
+        yield "a collection that removed one more", changed(sweep, raw=raw), payloads
+        at = record[sweep].place - 1
+        opened = opened_in(payloads[at])
+        yield "a collection that was opened before", record, payloads[:at] + [payloads[at][:21] + (opened - 1).to_bytes(4, "big") + payloads[at][25:]] + payloads[at + 1:]
     cut = next((number for number, sent in enumerate(record) if sent.raw is None), None)
     if cut is not None:
         yield "a connection that ended with no kill", changed(cut, opened=record[cut].ended + 10 ** 12, ended=record[cut].ended + 10 ** 12), payloads

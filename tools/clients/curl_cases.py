@@ -1,4 +1,4 @@
-"""`curl`: the tour of README (a table, a branch, a conflict, a merge), and the forms that it can send."""
+"""`curl`: the tour of README (a table, a branch, a conflict, a merge, a collection), and the forms that it can send."""
 import json
 import shutil
 import subprocess
@@ -40,6 +40,7 @@ def tour(cases, server):
     status, _ = ask(server, "POST", "/trees/main/history/commit", commit("append", put("orders", "s3://lake/orders/3.json", 3, orders)))
     cases.same("curl: the same table is changed on main", 200, status)
     merge(cases, server, tried["targetBranch"]["hash"])
+    collect(cases, server, made["targetBranch"]["hash"])
 
 
 def merge(cases, server, source):
@@ -56,6 +57,19 @@ def merge(cases, server, source):
     cases.same("curl: the table is the branch's", "s3://lake/orders/2.json", found["content"]["metadataLocation"])
     status, _ = ask(server, "DELETE", "/trees/trial")
     cases.same("curl: the branch is removed", 200, status)
+
+
+def collect(cases, server, first):
+    """Of four contents main's head shows two; the others were the first value of its table, and the one that the merge replaced."""
+    status, found = ask(server, "GET", f"/trees/main@{first}/contents/orders")
+    cases.same("curl: the first value is read", (200, "s3://lake/orders/1.json"), (status, found["content"]["metadataLocation"]))
+    body = '{"defaultCutoff":"P30D","cutoffs":[{"pattern":"main","cutoff":"1"}]}'
+    text, (status, _) = curl("--data-binary", body, server.base.replace("/api/v2", "/gc/v1/sweep"))
+    cases.same("curl: a collection", (200, {"kept": 2, "openedPlace": 6, "removed": 2}), (status, json.loads(text)))
+    status, gone = ask(server, "GET", f"/trees/main@{first}/contents/orders")
+    cases.same("curl: the first value is gone", (404, "content expired"), (status, gone["message"]))
+    status, refused = ask(server, "POST", "/trees?name=old&type=BRANCH", json.dumps({"type": "DETACHED", "hash": first}))
+    cases.same("curl: a branch there is refused", (409, [{"elements": ["orders"]}], 7), (status, refused["errorDetails"]["keys"], refused["errorDetails"]["openedPlace"]))
 
 
 def forms(cases, server):

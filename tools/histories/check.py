@@ -1,6 +1,7 @@
 """Checks what clients saw against the journal's one history, by the plain rules of `oracle/`."""
 import bisect
 import collections
+import json
 import os
 import sys
 
@@ -8,6 +9,8 @@ sys.path.insert(0, os.path.join(os.path.dirname(os.path.abspath(__file__)), ".."
 
 import catalogue as rules
 import journal
+import policies
+import reading
 import replies
 
 
@@ -34,6 +37,27 @@ def fields_of(payload):
     return int.from_bytes(payload[1:5], "big"), int.from_bytes(payload[5:13], "big"), int.from_bytes(payload[13:21], "big")
 
 
+def is_sweep(payload):
+    return payload[:1] == bytes([journal.KINDS["sweep"]])
+
+
+def opened_in(payload):
+    """Where a sweep was opened, by its entry."""
+    return int.from_bytes(payload[21:25], "big")
+
+
+def named_by(entry):
+    """The commits and the contents that the draft of an entry had named."""
+    what, command = entry[0], entry[4]
+    if what == "merge":
+        return {command[3]}, set()
+    if what == "transplant":
+        return set(command[3]), set()
+    if what == "commit":
+        return set(), {content_hash for _, _, content_hash in command[4].values()}
+    return set(), set()
+
+
 def copy_of(state):
     """The same state, for a call that may change it. Maps are held by the hashes of their commits, and are shared."""
     copy = rules.Catalogue()
@@ -55,6 +79,9 @@ class Check:
         self.record, self.payloads, self.lives, self.attempts = record, payloads, lives, attempts
         self.state = rules.Catalogue()
         self.heads = []  # at each place, the heads of the references
+        self.there = collections.defaultdict(list)  # of each content, the places at which it came and went
+        self.sweeps = [sent for sent in record if sent.collects]
+        self.sources = {bytes.fromhex(found) for sent in record for found in self.sources_in(sent)}
         self.counts = collections.Counter()
         self.differences = []
 
@@ -73,6 +100,14 @@ class Check:
                 break
         return self.differences
 
+    @staticmethod
+    def sources_in(sent):
+        """The commits that a merge or a transplant names."""
+        if not sent.target.endswith((b"/merge", b"/transplant")):
+            return []
+        body = json.loads(sent.body)
+        return [body["fromHash"]] if "fromHash" in body else body.get("hashesToTransplant", [])
+
     # Orders.
 
     def places_rise(self):
@@ -90,10 +125,15 @@ class Check:
         for ended, place in ends:
             times.append(ended)
             highest.append(max(place, highest[-1] if highest else 0))
+        self.times, self.highest = times, highest
         for sent, place in told:
-            had = bisect.bisect_left(times, sent.began)
-            if had and place < highest[had - 1]:
-                self.differs("a reply is older than one that had come:", place, "after", highest[had - 1], sent.name)
+            if place < self.told_before(sent):
+                self.differs("a reply is older than one that had come:", place, "after", self.told_before(sent), sent.name)
+
+    def told_before(self, sent):
+        """The highest place that anybody was told before the request was sent."""
+        had = bisect.bisect_left(self.times, sent.began)
+        return self.highest[had - 1] if had else 0
 
     def cuts_have_a_kill(self):
         for sent in self.record:
@@ -126,17 +166,29 @@ class Check:
             for sent in [self.made[place]] if place in self.made else self.others[place]:
                 self.differs("answered, and lost:", place, "of", len(self.payloads), sent.name)
 
-    def answered(self, state, sent, moment=0, draft=0):
+    def answered(self, state, sent, moment=0, draft=0, between=None):
         if draft:
             state.draft = draft - 1
         session = replies.Session(state)
-        return session.answer(sent.method, sent.target, [], sent.body, moment, close=sent.index == 1000), session.outcome
+        session.between = between
+        wanted = session.answer(sent.method, sent.target, [], sent.body, moment, close=sent.index == 1000)
+        self.refused = getattr(session, "refused", None)
+        return wanted, session.outcome
+
+    def refusal(self, sent, refused):
+        value = replies.refusal_json(refused)
+        return replies.rendered(value["status"], replies.write_json(value), self.state.place, close=sent.index == 1000)
 
     def other(self, sent):
         """A reply that made no entry, on the state at its place."""
         place = self.state.place
+        if sent.collects and sent.status == 409:
+            self.sweep_open(sent)
+            return
         wanted, outcome = self.answered(copy_of(self.state) if sent.changes else self.state, sent)
-        if wanted == sent.raw:
+        if outcome == "EXPIRED" and wanted != sent.raw and b'"EXPIRED"' in sent.raw:
+            self.expired(sent, sent.json["errorDetails"]["openedPlace"])
+        elif wanted == sent.raw:
             self.counts[("change: " if sent.changes else "read: ") + outcome] += 1
         elif sent.status == 507:
             self.counts["no memory"] += 1
@@ -144,6 +196,34 @@ class Check:
             self.retries(sent, sent.json["errorDetails"]["heads"], outcome)
         else:
             self.differs("another reply at place", place, sent.name, "\n   rules   ", wanted, "\n   program ", sent.raw)
+
+    def expired(self, sent, opened):
+        """A draft was opened at that place, and the contents weren't there at it either."""
+        refused = self.refused
+        refused.details = refused.details[0], opened
+        self.counts["change: EXPIRED, opened before"] += 1
+        fits = self.told_before(sent) <= opened <= self.state.place and self.refusal(sent, refused) == sent.raw
+        if not fits or any(self.was_there(content, opened) for content in refused.gone):
+            self.differs("contents expired, and shouldn't have:", sent.name, "\n   program ", sent.raw)
+
+    def was_there(self, content, place):
+        came_and_went = self.there[content]
+        return bisect.bisect_right(came_and_went, place) % 2 == 1
+
+    def sweep_open(self, sent):
+        """A collection was refused: another client's, opened where the reply says, hadn't settled yet."""
+        place, opened = self.state.place, (sent.json.get("errorDetails") or {}).get("place")
+        self.counts["change: SWEEP_OPEN"] += 1
+        fits = opened is not None and opened <= place
+        fits = fits and self.refusal(sent, rules.Refused("SWEEP_OPEN", "sweep open", opened)) == sent.raw
+        if not fits or not any(self.is_open(other, place, opened) for other in self.sweeps if other.client != sent.client and other.began <= sent.ended and sent.began <= other.ended):
+            self.differs("no other collection was open:", sent.name, "\n   program ", sent.raw)
+
+    def is_open(self, other, place, opened):
+        """Whether another client's collection may have been open at a place, having been opened at one before."""
+        if other.raw is None or other.status == 507:
+            return True
+        return other.accepted and other.place > place and opened_in(self.payloads[other.place - 1]) == opened
 
     def retries(self, sent, heads, outcome):
         """A call that gave up: each head is its branch's at its place, and each differs from the one before."""
@@ -167,7 +247,14 @@ class Check:
         if sent is None:
             self.differs("entry", place, "is nobody's:", payload.hex())
             return False
-        wanted, outcome = self.answered(self.state, sent, moment, draft)
+        before, between = set(self.state.contents), None
+        if is_sweep(payload):
+            between = self.between(place, payload, sent)
+            if between is None:
+                return False
+        wanted, outcome = self.answered(self.state, sent, moment, draft, between)
+        for content in before ^ set(self.state.contents):
+            self.there[content].append(place)
         if self.state.place != place:
             self.differs("entry", place, "isn't accepted by the rules:", outcome, sent.name)
             return False
@@ -178,10 +265,47 @@ class Check:
         self.counts["entry: " + self.state.log[-1][0] + ("" if sent.raw else ", without its reply")] += 1
         return True
 
+    def between(self, place, payload, sent):
+        """Where a sweep was opened, and what drafts named until it settled; that this may be so is checked."""
+        try:
+            command = reading.Reader(payload).entry()[4]
+        except replies.NoReading:
+            self.differs("a sweep has no reading:", payload.hex())
+            return None
+        opened, _, commits, contents = command
+        life = self.life_of_entry(place)
+        least = max(self.told_before(sent), self.lives[life - 1].entries if life else 0)
+        if not sent.collects or not least <= opened < place:
+            self.differs("a sweep at", place, "was opened at", opened, "and not from", least, "on:", sent.name)
+            return None
+        if not all(self.state.known(commit) for commit in commits) or not set(commits) <= self.sources:
+            self.differs("a sweep at", place, "has a commit that nobody named:", sent.name)
+        for entry in self.state.log[opened:]:
+            of_commits, of_contents = named_by(entry)
+            if not of_commits <= set(commits) or not of_contents <= set(contents):
+                self.differs("a sweep at", place, "lacks a name of the draft of entry", entry[1])
+        if opened + 1 < place:
+            self.counts["sweeps with entries of others between"] += 1
+        self.counts["names of drafts in sweeps"] += len(commits) + len(contents)
+        return opened, commits, contents
+
+    def is_policy_of(self, sent, payload, moment):
+        """Whether a sweep's entry has the policy that a request asked for."""
+        try:
+            asked = replies.a_policy(replies.read_json(sent.body))
+            return policies.resolved(asked, moment) == reading.Reader(payload).entry()[4][1]
+        except replies.NoReading:
+            return False
+
     def unanswered(self, place, payload, draft, moment):
         """The request that was cut off whose call this entry is."""
         waiting = self.open[self.life_of_entry(place)]
         for sent in waiting:
+            if is_sweep(payload) or sent.collects:
+                if is_sweep(payload) and sent.collects and self.is_policy_of(sent, payload, moment):
+                    waiting.remove(sent)
+                    return sent
+                continue
             trial = copy_of(self.state)
             self.answered(trial, sent, moment, draft)
             if trial.place == place and journal.payload(trial.log[-1], moment) == payload:

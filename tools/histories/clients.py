@@ -1,4 +1,4 @@
-"""Clients that commit, merge, move branches and read at random, each a process with a connection of its own."""
+"""Clients that commit, merge, move branches, collect and read at random, each a process with a connection of its own."""
 import collections
 import json
 import os
@@ -15,6 +15,7 @@ from serving import NO_ANCESTOR, Ended, Link
 KEYS = [(f"k{number}",) for number in range(10)] + [("n",), ("n", "a"), ("n", "b"), ("n", "m"), ("n", "m", "c")]
 SPACES = {("n",), ("n", "m")}
 MODES = ["NORMAL", "NORMAL", "FORCE", "DROP"]
+CUTOFFS = ["1", "1", "1", "2", "4", "NONE", "PT0.2S", "PT2S"]
 LIMIT = 1000
 
 
@@ -82,7 +83,7 @@ class Requests:
                 out.append({"type": "DELETE" if what < 0.9 else "UNCHANGED", "key": {"elements": list(key)}})
         return out
 
-    # Each gives a method, a target below /api/v2 and a body.
+    # Each gives a method, a target, below /api/v2 unless it is a collection's, and a body.
 
     def commit(self):
         self.told += 1
@@ -124,6 +125,12 @@ class Requests:
     def delete(self):
         return "DELETE", f"/trees/{self.where(self.known(self.names[3:] + self.tags), 0.5)}", None
 
+    def collect(self):
+        """What is kept of the chains: a few commits, or what isn't older than a moment ago, or all."""
+        patterns = self.rng.sample(self.names + self.tags + ["b*", "own*", "*"], self.rng.choice([0, 0, 1, 2]))
+        cutoffs = [{"pattern": pattern, "cutoff": self.rng.choice(CUTOFFS)} for pattern in patterns]
+        return "POST", "/gc/v1/sweep", {"defaultCutoff": self.rng.choice(CUTOFFS), "cutoffs": cutoffs}
+
     def listing(self):
         return "GET", "/trees" + self.rng.choice(["", "?max-records=3"]), None
 
@@ -145,13 +152,15 @@ class Requests:
         return "GET", f"/trees/{self.where(self.any_name())}/contents/{'.'.join(self.rng.choice(KEYS))}", None
 
     def odd(self):
-        return self.rng.choice([("GET", "/nowhere", None), ("POST", "/config", {}), ("POST", "/trees/main/history/commit", {}), ("GET", "/trees/main@x", None)])
+        return self.rng.choice([("GET", "/nowhere", None), ("POST", "/config", {}), ("POST", "/trees/main/history/commit", {}), ("GET", "/trees/main@x", None),
+                                ("POST", "/gc/v1/sweep", {"defaultCutoff": "0"})])
 
     def one(self):
-        kinds = {"commit": 34, "merge": 11, "transplant": 5, "create": 4, "assign": 4, "restart": 0.4, "delete": 2, "listing": 4, "tree": 6,
+        kinds = {"commit": 34, "merge": 11, "transplant": 5, "create": 4, "assign": 4, "restart": 0.4, "delete": 2, "collect": 1, "listing": 4, "tree": 6,
                  "entries": 9, "history": 8, "contents": 4, "content": 8, "odd": 1}
         method, target, body = getattr(self, self.rng.choices(list(kinds), list(kinds.values()))[0])()
-        return method, b"/api/v2" + target.encode(), b"" if body is None else json.dumps(body).encode()
+        target = target if target.startswith("/gc/") else "/api/v2" + target
+        return method, target.encode(), b"" if body is None else json.dumps(body).encode()
 
     def learn(self, sent):
         """Takes heads, hashes and ids from a reply."""

@@ -42,6 +42,11 @@ class Sent(NamedTuple):
         return self.method in ("PUT", "DELETE") or self.method == "POST" and not path.endswith(b"/contents")
 
     @property
+    def collects(self):
+        """Whether it asks for a collection."""
+        return self.method == "POST" and self.target == b"/gc/v1/sweep"
+
+    @property
     def accepted(self):
         """Whether its reply says that an entry was made."""
         if self.raw is None or not self.changes or self.status != 200:

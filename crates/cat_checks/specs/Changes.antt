@@ -8,4 +8,5 @@ abbrev pub tells_change : Reply → Bool
 tells_change (replies.Reference reference) = true
 tells_change (replies.Committed committed) = true
 tells_change (replies.Merged merged) = merged.was_applied
+tells_change (replies.Swept swept) = true
 tells_change _ = false

@@ -61,6 +61,7 @@ counts fell level s book line statuses.NoMemory same opened is p = absurd p
 counts fell level s book line statuses.ReadFault same opened is p = absurd p
 counts fell level s book line statuses.ListenerFault same opened is p = absurd p
 counts fell level s book line statuses.Cut same opened is p = absurd p
+counts fell level s book line statuses.Limit same opened is p = absurd p
 
 -- what the check says, once the disk is back at its path
 module _ {D : Type 0} (told : D → Option (List ℕ)) (may_leave : D → List ℕ → Type 0) (moment : D → ℕ) (left_since : D → ℕ → List ℕ → Type 0) (place mid place' : Option (Option D)) (disk again : D)

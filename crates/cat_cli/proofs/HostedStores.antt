@@ -148,7 +148,7 @@ limits_by : (o : Option Book) (place : ℕ) (rest : Book → Result Book ℕ) (e
 limits_by None place rest end limits first more e = absurd cc
 limits_by (Some b) place rest end limits first more e = more b e ∙ first b refl
 
-limits_of : (book end : Book) (place : ℕ) (ps : List (List ℕ)) → replayed sha256 book place ps ≡ Ok end → end.state.limits ≡ book.state.limits
+pub limits_of : (book end : Book) (place : ℕ) (ps : List (List ℕ)) → replayed sha256 book place ps ≡ Ok end → end.state.limits ≡ book.state.limits
 limits_of book end place [] e = let same : book ≡ end = cc in ap (λ (b : Book). b.state.limits) (sym same)
 limits_of book end place (p ∷ ps) e =
     limits_by _ (place + 1) (λ next. replayed sha256 next (place + 1) ps) end book.state.limits (λ b is. next_limits book b _ is) (λ b is. limits_of b end (place + 1) ps is) e

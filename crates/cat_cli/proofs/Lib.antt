@@ -7,3 +7,5 @@ pub mod Ran
 pub mod Counted
 pub mod HostedStores
 pub mod ServedRuns
+pub mod Gathered
+pub mod Commands

@@ -148,6 +148,7 @@ refused_fault w h statuses.NoMemory before now p = absurd p
 refused_fault w h statuses.ReadFault before now p = absurd p
 refused_fault w h statuses.ListenerFault before now p = absurd p
 refused_fault w h statuses.Cut before now p = absurd p
+refused_fault w h statuses.Limit before now p = absurd p
 
 pub refused_known : (held after : Option (List ℕ)) (status : Status) (before now : ℕ) → FaultKnown held status after before now → RefusedKnown whys.Fault held status after before now
 refused_known held after status before now told w e = let x = told w e in (x.0, x.1, refused_fault w x.0 status before now x.2)
@@ -184,6 +185,7 @@ refuses fell level s why statuses.Usage reason cause spares ends p = absurd p
 refuses fell level s why statuses.ReadFault reason cause spares ends p = absurd p
 refuses fell level s why statuses.ListenerFault reason cause spares ends p = absurd p
 refuses fell level s why statuses.Cut reason cause spares ends p = absurd p
+refuses fell level s why statuses.Limit reason cause spares ends p = absurd p
 
 pub refuses_known : (fell level : Type 0) (why : Unopened) (status : Status) (held after journal left : Option (List ℕ)) (images : Images) (before now : ℕ) (w : List ℕ)
     → IsReason journal why → (why ≡ whys.Fault → fell) → ((why ≡ whys.Fault → ⊥) → level) → EndsAtFault why status → StandsFor journal left → Spared journal left images → RefusedKnown why held status after before now → held ≡ Some w

@@ -21,7 +21,7 @@ use Rattle.cat_cli.proofs.Opened.{begins_at, left_at}
 use Rattle.cat_cli.proofs.Surviving.{survives, survives_at, tells_of}
 
 -- the entries of a log that grew
-log_of : (payloads : List (List ℕ)) (before after news : List LogEntry) → payloads ≡ spellings (reverse before) → after ≡ news ++ before → spellings (reverse after) ≡ payloads ++ spellings (reverse news)
+pub log_of : (payloads : List (List ℕ)) (before after news : List LogEntry) → payloads ≡ spellings (reverse before) → after ≡ news ++ before → spellings (reverse after) ≡ payloads ++ spellings (reverse news)
 log_of payloads before after news is grew =
     ap (λ (l : List LogEntry). spellings (reverse l)) grew
     ∙ ap spellings (reverse-append news before)

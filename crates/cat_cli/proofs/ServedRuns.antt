@@ -95,6 +95,7 @@ refused_for fell level journal why statuses.Usage reason cause spares ends = abs
 refused_for fell level journal why statuses.ReadFault reason cause spares ends = absurd ends
 refused_for fell level journal why statuses.ListenerFault reason cause spares ends = absurd ends
 refused_for fell level journal why statuses.Cut reason cause spares ends = absurd ends
+refused_for fell level journal why statuses.Limit reason cause spares ends = absurd ends
 
 -- no append failed where none is counted
 none_counted : (fault : Option FailedAppend) (most : ℕ) → IfSome fault (λ f. CountedBy most f.count) → most ≡ 0 → fault ≡ None

@@ -7,3 +7,4 @@ pub mod Stores
 pub mod Hosting
 pub mod HostingLaws
 pub mod Serving
+pub mod Collecting

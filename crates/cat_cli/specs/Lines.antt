@@ -32,6 +32,14 @@ unfoldable pub counts_line : ℕ → ℕ → ℕ → ℕ → List ℕ → List �
 counts_line entries references commits contents head =
     codes "entries " ++ (decimal entries ++ (codes " references " ++ (decimal references ++ (codes " commits " ++ (decimal commits ++ (codes " contents " ++ (decimal contents ++ (codes " head " ++ (head ++ codes "\n")))))))))
 
+-- what a collection did: how many contents it kept and removed, and the place of its entry
+unfoldable pub swept_line : ℕ → ℕ → ℕ → List ℕ
+swept_line kept removed place = codes "kept " ++ (decimal kept ++ (codes " removed " ++ (decimal removed ++ (codes " place " ++ (decimal place ++ codes "\n")))))
+
+-- why there was none: the catalogue may have so much and no more
+unfoldable pub limit_line : ℕ → List ℕ
+limit_line number = codes "nessie: limit " ++ (decimal number ++ codes "\n")
+
 -- how much a catalogue holds: the entries of its log, the references, the commits, the contents, and the head of `main`
 abbrev pub check_line : Book → List ℕ
 check_line book =

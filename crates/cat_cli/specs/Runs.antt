@@ -3,9 +3,10 @@ use Rattle.std.specs.Prelude.{ℕ, ◌<◌, ◌≤◌, ◌≡◌, ◌⊎◌, Lis
 use Rattle.cat_io.specs.Causes.{Rose}
 use Rattle.cat_model.specs.declared.log_entry.LogEntry.{LogEntry}
 use Rattle.cat_model.specs.Book.{Book}
-use Rattle.std.specs.Option.{option_map}
+use Rattle.std.specs.Option.{option_and_then, option_map}
 use Rattle.cat_state.specs.Kept.{spelling, spellings}
-use Rattle.cat_words.specs.Asked.{Task, script, check, drill, serve}
+use Rattle.cat_policy.specs.Policies.{policy_of}
+use Rattle.cat_words.specs.Asked.{Task, asked, check, drill, gc, script, serve}
 use Rattle.cat_serve.specs.declared.ending.Session.{Session as End}
 use Rattle.cat_serve.specs.declared.ending.Session.TheVariants as ends
 use Rattle.cat_cli.specs.declared.unopened.Unopened.{Unopened}
@@ -27,6 +28,7 @@ code_of statuses.ReadFault = 5
 code_of statuses.WriteFault = 6
 code_of statuses.ListenerFault = 7
 code_of statuses.Cut = 8
+code_of statuses.Limit = 9
 
 -- the sink took all that was to be written
 abbrev pub tells_all : Status → Bool
@@ -35,6 +37,7 @@ tells_all statuses.Cut = true
 tells_all statuses.ReadFault = true
 tells_all statuses.DiskFault = true
 tells_all statuses.ListenerFault = true
+tells_all statuses.Limit = true
 tells_all _ = false
 
 -- no fault of the disks is to be told
@@ -44,6 +47,7 @@ spares_disks statuses.Usage = true
 spares_disks statuses.Unreadable = true
 spares_disks statuses.Cut = true
 spares_disks statuses.ListenerFault = true
+spares_disks statuses.Limit = true
 spares_disks _ = false
 
 -- the listener's count of faults is as it was
@@ -53,10 +57,23 @@ spares_listener statuses.WriteFault = false
 spares_listener statuses.ListenerFault = false
 spares_listener _ = true
 
+-- what is asked for, where the words of a collection are a policy
+abbrev pub judged : Task → Option Task
+judged (script journal) = Some (script journal)
+judged (check journal) = Some (check journal)
+judged (gc journal default rules) = option_map (λ _. gc journal default rules) (policy_of default rules)
+judged (drill seed commits) = Some (drill seed commits)
+judged (serve journal address workers attempts connections) = Some (serve journal address workers attempts connections)
+
+-- the command of the words
+abbrev pub command_of : List (List ℕ) → Option Task
+command_of words = option_and_then judged (asked words)
+
 -- the journal of a command
 abbrev pub journal_of : Task → Option (List ℕ)
 journal_of (script journal) = Some journal
 journal_of (check journal) = Some journal
+journal_of (gc journal default rules) = Some journal
 journal_of (drill seed commits) = None
 journal_of (serve journal address workers attempts connections) = Some journal
 
@@ -101,7 +118,7 @@ RefusesSo fell level s status = Refuses fell level s status × StandsFor s.journ
 
 -- a session on a catalogue, before its first request: it answers 1,000 at most
 abbrev pub start : Book → List ℕ → List ℕ → Point
-start book bytes written = record { left = 1000; standing = record { book = book; readings = 0; fallen = None }; bytes = bytes; written = written }
+start book bytes written = record { left = 1000; standing = record { session = record { book = book; readings = 0 }; fallen = None }; bytes = bytes; written = written }
 
 -- a session on the journal's catalogue ended so, and the journal has its entries; where an append failed, to is so of the count of faults that is told of it; and to_come is so of how many readings were taken
 pub record Ran (to : ℕ → Type 0) (clock : Readings) (to_come : ℕ → Type 0) (bytes : List ℕ) (unread : Option (List ℕ)) (s : Seen) (end : End) : Type 0 where
@@ -111,11 +128,11 @@ pub record Ran (to : ℕ → Type 0) (clock : Readings) (to_come : ℕ → Type 
   pub last : Standing
   pub ends : Ends clock (start book bytes s.written) end s.held last unread
   pub added : List LogEntry
-  pub grows : last.book.log ≡ reverse added ++ book.log
+  pub grows : last.session.book.log ≡ reverse added ++ book.log
   pub keeps : IfSome s.left (Holds (payloads ++ spellings added) (option_map (λ (f : Fallen). spelling f.entry) last.fallen))
   pub crash : Survives s.journal s.left s.images payloads (spellings added) (option_map (λ (f : Fallen). spelling f.entry) last.fallen)
   pub cause : IfSome last.fallen (λ f. to f.count)
-  pub reads_on : to_come last.readings
+  pub reads_on : to_come last.session.readings
 
 -- the same where the source and the sink tell what they have, by some readings: the clock's own, where it tells them
 abbrev pub RanKnown : (ℕ → Type 0) → Option Readings → Option Readings → Option (List ℕ) → Option (List ℕ) → Option (List ℕ) → Option (List ℕ) → ℕ → ℕ → Option (List ℕ) → Option (List ℕ) → Images → End → Type 0

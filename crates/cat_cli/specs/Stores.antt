@@ -8,7 +8,7 @@ use Rattle.cat_serve.specs.Sessions.{AreAhead, Readings, ReadsOn, Fallen, Standi
 
 -- what a session left of a store: the log of its last standing, and a keeper that is down where an append failed
 pub record IsLeftSo {K : Type 0} (down : K → Option ℕ) (in_flight : K → Option (List ℕ)) (last : Standing) (store : Stored K) : Type 0 where
-  pub log_is : store.book.log ≡ last.book.log
+  pub log_is : store.book.log ≡ last.session.book.log
   pub down_is : down store.keeper ≡ option_map (λ (f : Fallen). f.count) last.fallen
   pub flies : in_flight store.keeper ≡ option_map (λ (f : Fallen). spelling f.entry) last.fallen
 
@@ -17,4 +17,4 @@ abbrev pub RunsKnown : {K : Type 0} → (K → Option ℕ) → (K → Option (Li
 RunsKnown down in_flight store ahead bytes unread held end store' now after =
     (b w : List ℕ) → bytes ≡ Some b → held ≡ Some w
     → (clock : Readings) × AreAhead ahead clock
-    × (h : List ℕ) × (after ≡ Some h) × (last : Standing) × Ends clock (start store.book b w) end h last unread × IsLeftSo down in_flight last store' × ReadsOn ahead now last.readings
+    × (h : List ℕ) × (after ≡ Some h) × (last : Standing) × Ends clock (start store.book b w) end h last unread × IsLeftSo down in_flight last store' × ReadsOn ahead now last.session.readings

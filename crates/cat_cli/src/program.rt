@@ -4,17 +4,21 @@ ghost use Rattle.std.specs.Prelude.{◌≡◌, ◌≢◌, ◌≤◌, ◌⊎◌, 
 ghost use Rattle.std.specs.Option.{option_and_then};
 ghost use Rattle.cat_io.specs.Causes.{Rose};
 ghost use Rattle.cat_io.specs.Places.{OthersStay};
-ghost use Rattle.cat_words.specs.Asked.{IsFew, asked, check, drill, script, serve};
+ghost use Rattle.cat_words.specs.Asked.{IsFew, asked, check, drill, gc, script, serve};
+ghost use Rattle.cat_policy.specs.declared.policy.Policy.{Policy};
+ghost use Rattle.cat_policy.specs.Policies.{policy_of};
 ghost use Rattle.cat_drill.specs.Drill.{drill_line};
 ghost use Rattle.cat_serve.specs.Workers.{ends_of};
+ghost use Rattle.cat_cli.specs.Collecting.{CollectsKnown};
 ghost use Rattle.cat_cli.specs.Hosting.{CountStays, heard_of};
 ghost use Rattle.cat_cli.specs.Journals.{DisksFell, IsBack, RoseBy, told_at};
 ghost use Rattle.cat_cli.specs.Lines.{no_memory_line, usage_line};
-ghost use Rattle.cat_cli.specs.Runs.{ChecksKnown, DrillsKnown, SaysKnown, TellsKnown, ends_drill, journal_of, spares_disks, spares_listener, tells_all};
+ghost use Rattle.cat_cli.specs.Runs.{ChecksKnown, DrillsKnown, SaysKnown, TellsKnown, command_of, ends_drill, journal_of, spares_disks, spares_listener, tells_all};
 ghost use Rattle.cat_cli.specs.Serving.{ServesKnown};
 ghost use Rattle.cat_cli.specs.Surviving.{images_at};
 
 use crate::checking::check;
+use crate::collecting::gc;
 use crate::scripting::script;
 use crate::serving::{ServeOptions, serve};
 use crate::status::Status;
@@ -33,7 +37,10 @@ use std::thread::Threads;
 /// a seed in memory, without disks, source or clock, and writes one line. `serve` opens the journal,
 /// and then listens: so many workers answer the requests of so many connections at once, and nothing
 /// goes to the sink, unless the listener fails or memory runs out before. What goes wrong on a
-/// connection ends that one alone.
+/// connection ends that one alone. `gc` opens the journal and removes the contents that nothing keeps
+/// under the policy of its words, as its cutoffs are at one reading of the clock: the journal has one
+/// entry more, and one line tells how many contents were kept and removed. No disk is opened for words
+/// that aren't a policy.
 #[allow(clippy::too_many_arguments)]
 pub fn run<R: Threads + Wait + Sync, O: Disks, S: Source, K: Sink, C: Clock + Drop, L: Listener>(
     rt: &R,
@@ -46,13 +53,13 @@ pub fn run<R: Threads + Wait + Sync, O: Disks, S: Source, K: Sink, C: Clock + Dr
     listener: &mut L,
 ) -> Status
     // The status for usage comes exactly where the words aren't a command's, want of memory aside.
-    ensures usage { result ≡ Status.Usage → asked (map (λ word. word.now) words.now) ≡ None }
-    ensures refused { asked (map (λ word. word.now) words.now) ≡ None
+    ensures usage { result ≡ Status.Usage → command_of (map (λ word. word.now) words.now) ≡ None }
+    ensures refused { command_of (map (λ word. word.now) words.now) ≡ None
         → (result ≡ Status.Usage) ⊎ (result ≡ Status.NoMemory) }
     ensures usage_line { result ≡ Status.Usage
         → TellsKnown usage_line (K.held sink.old) (K.held sink.new) (K.faults sink.old)
         (K.faults sink.new) }
-    ensures memory_line { asked (map (λ word. word.now) words.now) ≡ None
+    ensures memory_line { command_of (map (λ word. word.now) words.now) ≡ None
         → result ≡ Status.NoMemory
         → TellsKnown no_memory_line (K.held sink.old) (K.held sink.new) (K.faults sink.old)
         (K.faults sink.new) }
@@ -80,6 +87,23 @@ pub fn run<R: Threads + Wait + Sync, O: Disks, S: Source, K: Sink, C: Clock + Dr
         (told_at O.D.told (O.at_path disks.new journal))
         (images_at O.D.may_leave O.D.moment O.D.left_since (O.at_path disks.old journal)
         (O.at_path disks.new journal)) }
+    // A collection adds the entry of one sweep to the journal, that of the catalogue as it was opened, under the policy of the words at one reading of the clock, and what it writes is the line of its reply. It is refused for a limit exactly where the rules refuse that sweep so. A crash at any moment leaves a journal with the old entries, with or without this one, or what one might have left before.
+    ensures collected { (journal default : List ℕ) (rules : List (List ℕ)) (policy : Policy)
+        → asked (map (λ word. word.now) words.now) ≡ Some (gc journal default rules)
+        → policy_of default rules ≡ Some policy
+        → CollectsKnown
+        (DisksFell (O.refuses disks.old journal) O.D.faults (O.at_path disks.new journal)
+        (O.faults disks.old) (O.faults disks.new)) (O.faults disks.new ≡ O.faults disks.old)
+        (clock.new ≡ clock.old) policy (C.ahead clock.old) (C.ahead clock.new)
+        (record {
+          held = K.held sink.old;
+          after = K.held sink.new;
+          before = K.faults sink.old;
+          now = K.faults sink.new;
+        }) (told_at O.D.told (O.at_path disks.old journal))
+        (told_at O.D.told (O.at_path disks.new journal))
+        (images_at O.D.may_leave O.D.moment O.D.left_since (O.at_path disks.old journal)
+        (O.at_path disks.new journal)) result }
     // What a drill writes is the line of the catalogue that its seed and its steps make.
     ensures drilled { (seed commits : ℕ)
         → asked (map (λ word. word.now) words.now) ≡ Some (drill seed commits)
@@ -138,10 +162,10 @@ pub fn run<R: Threads + Wait + Sync, O: Disks, S: Source, K: Sink, C: Clock + Dr
         → option_and_then journal_of (asked (map (λ word. word.now) words.now)) ≡ Some journal
         → IsBack (O.at_path disks.old journal) (O.at_path disks.new journal)
         × OthersStay journal (O.at_path disks.old) (O.at_path disks.new) }
-    ensures untouched { option_and_then journal_of (asked (map (λ word. word.now) words.now))
+    ensures untouched { option_and_then journal_of (command_of (map (λ word. word.now) words.now))
         ≡ None
         → disks.new ≡ disks.old }
-    // Only a script reads the source, only a script or serving the clock, and only serving listens.
+    // Only a script reads the source, only a script, serving or a collection the clock, and only serving listens.
     ensures still { ((journal : List ℕ)
         → asked (map (λ word. word.now) words.now) ≡ Some (script journal)
         → ⊥)
@@ -153,6 +177,9 @@ pub fn run<R: Threads + Wait + Sync, O: Disks, S: Source, K: Sink, C: Clock + Dr
         → asked (map (λ word. word.now) words.now)
         ≡ Some (serve journal address workers attempts connections)
         → ⊥)
+        → ((journal default : List ℕ) (rules : List (List ℕ))
+        → command_of (map (λ word. word.now) words.now) ≡ Some (gc journal default rules)
+        → ⊥)
         → clock.new ≡ clock.old }
     ensures listener { ((journal address : List ℕ) (workers attempts connections : ℕ)
         → asked (map (λ word. word.now) words.now)
@@ -163,6 +190,13 @@ pub fn run<R: Threads + Wait + Sync, O: Disks, S: Source, K: Sink, C: Clock + Dr
     match asked_of(alloc, words) {
         Ok(Asked::Script(journal)) => script(rt, alloc, journal, disks, source, sink, clock),
         Ok(Asked::Check(journal)) => check(alloc, journal, disks, sink),
+        Ok(
+            Asked::Gc {
+                journal,
+                default,
+                rules,
+            },
+        ) => gc(rt, alloc, journal, default, &rules, disks, sink, clock),
         Ok(Asked::Drill { seed, commits }) => drilled(rt, alloc, seed, commits, sink),
         Ok(
             Asked::Serve {

@@ -23,9 +23,13 @@ use cat_work::{hold, release};
 use std::alloc::Global;
 use std::marker::{Brand, Send};
 use std::sync::Wait;
+use std::thread::Threads;
 
 /// How often a call is tried on a branch that others move.
 const ATTEMPTS: u32 = 8;
+
+/// How many workers mark what a collection keeps.
+pub(crate) const MARKERS: u32 = 2;
 
 // The status after a session, by whether the disk failed.
 fn status_of(end: Session, failed: bool) -> Status
@@ -43,7 +47,7 @@ fn status_of(end: Session, failed: bool) -> Status
 
 // A session on a store, through a desk with one pass, after which the store comes back. Where memory
 // runs out before the session begins, it comes back as it was.
-fn hold_session<R: Wait, K0: Keeper, S: Source, K: Sink, C: Clock>(
+fn hold_session<R: Threads + Wait + Sync, K0: Keeper, S: Source, K: Sink, C: Clock>(
     rt: &R,
     alloc: Global,
     store: Store<K0>,
@@ -75,7 +79,10 @@ fn hold_session<R: Wait, K0: Keeper, S: Source, K: Sink, C: Clock>(
     match hold(alloc, store) {
         Ok((desk, mut pass)) => {
             let mut gate = NoGate {};
-            let settings = Settings { attempts: ATTEMPTS };
+            let settings = Settings {
+                attempts: ATTEMPTS,
+                markers: MARKERS,
+            };
             let end = serve_connection(
                 rt, alloc, &desk, &mut pass, source, sink, clock, &mut gate, settings,
             );
@@ -89,7 +96,14 @@ fn hold_session<R: Wait, K0: Keeper, S: Source, K: Sink, C: Clock>(
 
 // A session on the catalogue of the journal of a disk, and how it ended; or why none was held. The
 // disk comes back. It is watched what a crash might have left of it since it was given here.
-fn session_on<B: Since + Send, R: Wait, D: Disk + Send, S: Source, K: Sink, C: Clock>(
+fn session_on<
+    B: Since + Send,
+    R: Threads + Wait + Sync,
+    D: Disk + Send,
+    S: Source,
+    K: Sink,
+    C: Clock,
+>(
     rt: &R,
     alloc: Global,
     disk: D,
@@ -134,7 +148,7 @@ fn session_on<B: Since + Send, R: Wait, D: Disk + Send, S: Source, K: Sink, C: C
 
 /// One session, on the catalogue of the journal.
 #[allow(clippy::too_many_arguments)]
-pub(crate) fn script<R: Wait, O: Disks, S: Source, K: Sink, C: Clock>(
+pub(crate) fn script<R: Threads + Wait + Sync, O: Disks, S: Source, K: Sink, C: Clock>(
     rt: &R,
     alloc: Global,
     path: &str,

@@ -18,6 +18,7 @@ ghost use Rattle.cat_cli.specs.Serving.{Hosted, OpenedOnly, ServesKnown, IsToldO
 ghost use Rattle.cat_cli.specs.Surviving.{IsBegun, Spared, images_at, images_of};
 
 use crate::journal::{disk_of, store_on};
+use crate::scripting::MARKERS;
 use crate::status::Status;
 use crate::telling::{tell_listener_fault, tell_no_memory};
 use crate::unopened::{Unopened, refuse};
@@ -81,6 +82,7 @@ fn serve_at<R: Threads + Wait + Sync, K0: Keeper, L: Listener, C: Clock + Drop>(
 {
     let settings = Settings {
         attempts: options.attempts,
+        markers: MARKERS,
     };
     match listener.listen(options.address, options.connections) {
         Ok(()) => serve_all(

@@ -6,9 +6,10 @@ ghost use Rattle.cat_cli.specs.Runs.{code_of};
 /// How a run ended.
 #[derive(Clone, Copy, Debug, PartialEq, Eq, Drop)]
 pub enum Status {
-    /// The input was read to its end, or to a request that closes; or the listener's connections ended.
+    /// The input was read to its end, or to a request that closes; or the listener's connections ended;
+    /// or the command's line was told.
     Done,
-    /// The words aren't the command's.
+    /// The words aren't the command's, or those of a collection aren't a policy.
     Usage,
     /// A disk failed, or the disks did.
     DiskFault,
@@ -23,6 +24,8 @@ pub enum Status {
     ListenerFault,
     /// The session ended before its input: after its last request, or at bytes that are no request.
     Cut,
+    /// A collection was refused, as the catalogue has no room for its entry.
+    Limit,
 }
 
 impl Status {
@@ -40,6 +43,7 @@ impl Status {
             Status::WriteFault => 6,
             Status::ListenerFault => 7,
             Status::Cut => 8,
+            Status::Limit => 9,
         }
     }
 }

@@ -45,7 +45,7 @@ held_without t (x ∷ xs) =
 next_greatest : (n m : ℕ) → m ≡ n + 1 → max n m ≡ m
 next_greatest n m e = omega (arith, e)
 
-abbrev held_for : Ticket → Command → drafts.OpenDraft
+abbrev pub held_for : Ticket → Command → drafts.OpenDraft
 held_for t c = record { opening = opening_at t; names = names_of sha256 t.number c }
 
 -- what is held of it is what it names
@@ -74,28 +74,7 @@ pub step_held : {K : Type 0} (members : Ghosts K) (book after : Book) (keeper : 
 step_held {K} members book after keeper fallen began number takes was =
     subst (λ (b : Book). IsInStep members b keeper fallen began) (sym takes) record { payloads = was.payloads; number = was.number; fallen = was.fallen; later = was.later; rose = was.rose; counted = was.counted }
 
--- what is left then
-pub held_as : {K : Type 0} (book after : Book) (keeper : K) (fault : Option FailedAppend) (drafter : ℕ) (dropped expired : Option Ticket) (xs ys : List OpenDraft) (began : ℕ) (t : Ticket) (c : Command) (x : Stored K) → after ≡ taking book t.number → t.number ≡ book.draft + 1 → map draft_held ys ≡ map draft_held xs ++ held_for t c ∷ []
-    → record { book = book; keeper = keeper; mark = held_mark book.draft drafter dropped expired fault; left_open = held_open xs; began = began } ≡ x
-    → record { book = after; keeper = keeper; mark = held_mark after.draft t.caller dropped expired fault; left_open = held_open ys; began = began } ≡ holding x t c
-held_as {K} book after keeper fault drafter dropped expired xs ys began t c x takes next is x_is =
-    let taken : after ≡ record book { draft = t.number } = takes ∙ ap (λ (m : ℕ). record book { draft = m }) (next_greatest book.draft t.number next) in
-    let before : Stored K = record { book = book; keeper = keeper; mark = held_mark book.draft drafter dropped expired fault; left_open = held_open xs; began = began } in
-    let after_is : Stored K = record { book = after; keeper = keeper; mark = held_mark after.draft t.caller dropped expired fault; left_open = held_open ys; began = began } in
-    let there : after_is ≡ holding before t c = λ i. record { book = taken i; keeper = keeper; mark = held_mark (taken i).draft t.caller dropped expired fault; left_open = record { drafts = is i; sweep = None }; began = began } in
-    there ∙ ap (λ (z : Stored K). holding z t c) x_is
-
 -- ---- one less
-
--- what is left then
-pub closed_as : {K : Type 0} (book : Book) (keeper : K) (mark : Mark) (xs ys : List OpenDraft) (began : ℕ) (d : Draft) (x : Stored K) → map draft_held ys ≡ without (opening_in d) (map draft_held xs)
-    → record { book = book; keeper = keeper; mark = mark; left_open = held_open xs; began = began } ≡ x
-    → record { book = book; keeper = keeper; mark = mark; left_open = held_open ys; began = began } ≡ record x { left_open = closed x d }
-closed_as {K} book keeper mark xs ys began d x is x_is =
-    let before : Stored K = record { book = book; keeper = keeper; mark = mark; left_open = held_open xs; began = began } in
-    let after_is : Stored K = record { book = book; keeper = keeper; mark = mark; left_open = held_open ys; began = began } in
-    let there : after_is ≡ record before { left_open = closed before d } = λ i. record { book = book; keeper = keeper; mark = mark; left_open = record { drafts = is i; sweep = None }; began = began } in
-    there ∙ ap (λ (z : Stored K). record z { left_open = closed z d }) x_is
 
 pub sound_seen : {K : Type 0} (s x : Stored K) → s ≡ x → IsSound s.book s.began s.left_open.drafts → IsSound x.book x.began x.left_open.drafts
 sound_seen {K} s x same sound = subst (λ (z : Stored K). IsSound z.book z.began z.left_open.drafts) same sound

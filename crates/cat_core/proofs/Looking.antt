@@ -60,7 +60,7 @@ any_back f (x ∷ xs) =
     ap (list_any f) (reverse_onto xs x []) ∙ list_any-append f (reverse xs) (x ∷ []) ∙ (λ i. any_back f xs i || or_none (f x) i) ∙ or_turned (list_any f xs) (f x)
 
 -- the last ones, whichever comes first
-any_last : {A : Type 0} (f : A → Bool) (xs : List A) (n place : ℕ) → n + place ≡ length xs → list_any f (take n (reverse xs)) ≡ list_any f (drop place xs)
+pub any_last : {A : Type 0} (f : A → Bool) (xs : List A) (n place : ℕ) → n + place ≡ length xs → list_any f (take n (reverse xs)) ≡ list_any f (drop place xs)
 any_last f xs n place whole =
     let parts : reverse xs ≡ reverse (drop place xs) ++ reverse (take place xs) = ap reverse (sym (take-append-drop place xs)) ∙ reverse-append (take place xs) (drop place xs) in
     let long : length (reverse (drop place xs)) ≡ n = omega (arith, length-reverse (drop place xs), length-drop place xs, whole) in
@@ -122,7 +122,7 @@ live_later older newer cutoff head are adds known =
 
 -- ---- what is live at one of the states
 
-adds_on : {A : Type 0} (a b c : List A) → Adds a b → Adds b c → Adds a c
+pub adds_on : {A : Type 0} (a b c : List A) → Adds a b → Adds b c → Adds a c
 adds_on {A} a b c p q = (q.0 ++ p.0, q.1 ∙ ap (λ (l : List A). q.0 ++ l) p.1 ∙ sym (append_assoc q.0 p.0 a))
 
 same_or : (x b t rest : Bool) → (b ≡ true → (x || t) ≡ true) → (t ≡ true → b ≡ true) → (x || (b || rest)) ≡ (x || (t || rest))
@@ -134,17 +134,17 @@ same_or false false false rest f g = refl
 
 module _ (now : Commits) (are : AreLinked now) (policy : Resolved) (hash : Hash) where
   -- it is live from the reference now
-  abbrev is_live : Reference → Bool
+  abbrev pub is_live : Reference → Bool
   is_live r = is_among (live_at now policy r) hash
 
-  live_then : (s : State) → Adds s.commits now → heads_pass (is_known s.commits) s.references ≡ true → is_among (live s policy) hash ≡ list_any is_live s.references
+  pub live_then : (s : State) → Adds s.commits now → heads_pass (is_known s.commits) s.references ≡ true → is_among (live s policy) hash ≡ list_any is_live s.references
   unfolding live
   live_then s adds heads =
       any_of_lists (λ r. live_from s.commits (cutoff_for policy r.name) r.head) s.references hash
       ∙ any_same (λ r. is_known s.commits r.head) (λ r. is_among (live_from s.commits (cutoff_for policy r.name) r.head) hash) is_live s.references
       (λ r known. ap (λ (l : List Hash). is_among l hash) (sym (live_later s.commits now (cutoff_for policy r.name) r.head are adds known))) heads
 
-  abbrev is_live_then : State → Bool
+  abbrev pub is_live_then : State → Bool
   is_live_then s = is_among (live s policy) hash
 
   live_back : (s : State) (past : List State) (taken : List (Option Reference)) (n : ℕ) → Adds s.commits now → heads_pass (is_known s.commits) s.references ≡ true → AreTaken s past taken
@@ -167,7 +167,7 @@ module _ (now : Commits) (are : AreLinked now) (policy : Resolved) (hash : Hash)
   all_taken_are [] = refl
   all_taken_are (t ∷ taken) = among_both (live_if now policy t) (live_taken now policy taken) hash ∙ (λ i. taken_is t i || all_taken_are taken i)
 
-  since_is : (states : List State) → is_among (live_since states policy) hash ≡ list_any is_live_then states
+  pub since_is : (states : List State) → is_among (live_since states policy) hash ≡ list_any is_live_then states
   unfolding live_since
   since_is states = any_of_lists (λ s. live s policy) states hash
 

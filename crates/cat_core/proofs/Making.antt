@@ -20,7 +20,9 @@ use Rattle.cat_state.specs.Kept.{Keeps, spelling}
 use Rattle.cat_core.specs.Making.{Runs}
 use Rattle.cat_core.specs.PlainLaws.{IsOther}
 use Rattle.cat_core.specs.declared.tickets.Fallen.{Fallen}
+use Rattle.cat_core.specs.declared.tickets.ClosedSweep.{ClosedSweep}
 use Rattle.cat_core.specs.declared.tickets.OpenDraft.{OpenDraft}
+use Rattle.cat_core.specs.declared.tickets.OpenSweep.{OpenSweep}
 use Rattle.cat_core.specs.declared.tickets.Ticket.{Ticket}
 use Rattle.cat_core.specs.Drafts.{IsRefused, Refers, Refuses}
 use Rattle.cat_core.specs.Kept.{IsTold}
@@ -113,34 +115,34 @@ module _ {K : Type 0} (members : Ghosts K)
     (safe : (k : K) (ps : List (List ℕ)) (c : Option (List (List ℕ))) → members.down k ≡ None → members.told k ≡ Some ps → members.may_leave k c → c ≡ Some ps)
     (only_now : (k : K) (c : Option (List (List ℕ))) → members.left_since k (members.moment k) c → members.may_leave k c) where
   -- a store as it is held
-  abbrev pub stored_at : Book → K → Option Fallen → ℕ → Option Ticket → Option Ticket → List OpenDraft → ℕ → Stored K
-  stored_at book keeper fallen drafter dropped expired held began = record { book = book; keeper = keeper; mark = held_mark book.draft drafter dropped expired (failed fallen (members.in_flight keeper)); left_open = held_open held; began = began }
+  abbrev pub stored_at : Book → K → Option Fallen → ℕ → Option Ticket → Option Ticket → List OpenDraft → Option OpenSweep → Option ClosedSweep → ℕ → Stored K
+  stored_at book keeper fallen drafter dropped expired held sweep closed began = record { book = book; keeper = keeper; mark = held_mark book.draft drafter dropped expired sweep closed (failed fallen (members.in_flight keeper)); left_open = held_open held sweep; began = began }
 
-  module _ (caller : ℕ) (before after : Book) (old new : K) (drafter : ℕ) (dropped expired : Option Ticket) (held : List OpenDraft) (began : ℕ) (call : Book → Called) (right : LogsRight (call before)) (number : ℕ) (is : IsCallIn caller number before (call before)) where
+  module _ (caller : ℕ) (before after : Book) (old new : K) (drafter : ℕ) (dropped expired : Option Ticket) (held : List OpenDraft) (sweep : Option OpenSweep) (closed : Option ClosedSweep) (began : ℕ) (call : Book → Called) (right : LogsRight (call before)) (number : ℕ) (is : IsCallIn caller number before (call before)) where
     abbrev called : Called
     called = call before
 
     abbrev s : Stored K
-    s = stored_at before old None drafter dropped expired held began
+    s = stored_at before old None drafter dropped expired held sweep closed began
 
     abbrev left : Option Fallen → Stored K
-    left fallen = stored_at after new fallen drafter dropped expired held began
+    left fallen = stored_at after new fallen drafter dropped expired held sweep closed began
 
     -- the book is as it was
     stays_as : after ≡ before → left None ≡ record s { keeper = new; left_open = s.left_open }
-    stays_as same = λ i. stored_at (same i) new None drafter dropped expired held began
+    stays_as same = λ i. stored_at (same i) new None drafter dropped expired held sweep closed began
 
     goes_as : after ≡ after_call before called → left None ≡ record s { book = after_call before called; keeper = new; left_open = s.left_open }
     goes_as same =
         let n : after.draft ≡ before.draft = ap (λ (b : Book). b.draft) same ∙ is.draft in
-        λ i. record { book = same i; keeper = new; mark = held_mark (n i) drafter dropped expired None; left_open = held_open held; began = began }
+        λ i. record { book = same i; keeper = new; mark = held_mark (n i) drafter dropped expired sweep closed None; left_open = held_open held sweep; began = began }
 
     as_before : after.state ≡ before.state → after.log ≡ before.log → after.base ≡ before.base → after.draft ≡ before.draft → after ≡ before
     as_before state log base draft = λ i. record { state = state i; draft = draft i; log = log i; base = base i }
 
     falls_as : (payload : List ℕ) → members.in_flight new ≡ Some payload → after ≡ before
         → left (Some (record { caller = caller; count = members.faults new })) ≡ record s { keeper = new; mark = record (s.mark) { fault = Some (record { caller = caller; count = members.faults new; payload = payload }) }; left_open = s.left_open }
-    falls_as payload flies same = λ i. record { book = same i; keeper = new; mark = held_mark (same i).draft drafter dropped expired (failed (Some (record { caller = caller; count = members.faults new })) (flies i)); left_open = held_open held; began = began }
+    falls_as payload flies same = λ i. record { book = same i; keeper = new; mark = held_mark (same i).draft drafter dropped expired sweep closed (failed (Some (record { caller = caller; count = members.faults new })) (flies i)); left_open = held_open held sweep; began = began }
 
     refers_as : (made : Result Told Unmade) → Runs called before after made → Keeps members old new called.logged made
         → Refers called caller s (left (fallen_by caller (members.faults new) None made)) (told_at before.state.place made)
@@ -170,7 +172,7 @@ module _ {K : Type 0} (members : Ghosts K)
 
     -- all that is told
     pub all_told : (fallen after_fallen : Option Fallen) (x y : Stored K) (place : ℕ) (made : Result Told Unmade) (result : Result Told Refused) → fallen ≡ None → after_fallen ≡ fallen_by caller (members.faults new) fallen made
-        → stored_at before old fallen drafter dropped expired held began ≡ x → left after_fallen ≡ y → place ≡ before.state.place → result ≡ told_at place made → members.down old ≡ None
+        → stored_at before old fallen drafter dropped expired held sweep closed began ≡ x → left after_fallen ≡ y → place ≡ before.state.place → result ≡ told_at place made → members.down old ≡ None
         → Runs called before after made → Keeps members old new called.logged made
         → IsTold members caller x y (call x.book) result
     all_told fallen after_fallen x y place made result none fell x_is y_is place_is result_is up runs keeps =
@@ -182,7 +184,7 @@ module _ {K : Type 0} (members : Ghosts K)
         } in
         let answer : told_at before.state.place made ≡ result = ap (λ (p : ℕ). told_at p made) (sym place_is) ∙ sym result_is in
         let last : ended ≡ y = ap left (sym (fell ∙ ap (λ (f : Option Fallen). fallen_by caller (members.faults new) f made) none)) ∙ y_is in
-        let first : s ≡ x = ap (λ (f : Option Fallen). stored_at before old f drafter dropped expired held began) (sym none) ∙ x_is in
+        let first : s ≡ x = ap (λ (f : Option Fallen). stored_at before old f drafter dropped expired held sweep closed began) (sym none) ∙ x_is in
         subst (λ (z : Stored K). IsTold members caller z y (call z.book) result) first
         (subst (λ (z : Stored K). IsTold members caller s z (call before) result) last
         (subst (λ (r : Result Told Refused). IsTold members caller s ended (call before) r) answer whole))

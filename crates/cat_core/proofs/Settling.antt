@@ -169,7 +169,7 @@ draft_refused called s d r Encoding s' is = inr is
 
 -- ---- settling
 
-up_not_down : {K : Type 0} (s : Stored K) (count : ℕ) → IsUp s → IsDownAt s count → ⊥
+pub up_not_down : {K : Type 0} (s : Stored K) (count : ℕ) → IsUp s → IsDownAt s count → ⊥
 up_not_down s count up down = up_of down.0 (sym up ∙ down.1)
 
 err_not_ok : (t : Tested) (why : Refusal) → t ≡ Err why → t ≡ Ok tt → ⊥
@@ -179,10 +179,10 @@ module _ {K : Type 0} (members : Ghosts K)
     (safe : (k : K) (ps : List (List ℕ)) (c : Option (List (List ℕ))) → members.down k ≡ None → members.told k ≡ Some ps → members.may_leave k c → c ≡ Some ps)
     (only_now : (k : K) (c : Option (List (List ℕ))) → members.left_since k (members.moment k) c → members.may_leave k c) where
   -- the keeper wasn't touched
-  still : (k k' : K) → k' ≡ k → Stayed members k k'
+  pub still : (k k' : K) → k' ≡ k → Stayed members k k'
   still k k' same = subst (λ (x : K). Stayed members k x) (sym same) (stays members safe only_now k)
 
-  still_leaves : (k k' : K) (logged : List LogEntry) → k' ≡ k → members.down k ≡ None → Leaves members k k' logged
+  pub still_leaves : (k k' : K) (logged : List LogEntry) → k' ≡ k → members.down k ≡ None → Leaves members k k' logged
   still_leaves k k' logged same up = leaves_any members safe only_now k k' logged up (still k k' same).crash
 
   module _ (s s' : Stored K) (d : Draft) (built : Built) (at : ℕ) (is_up : IsUp s → members.down s.keeper ≡ None) where

@@ -93,7 +93,7 @@ first_by : (b : Bool) (y : Hash × Commit) (above older : Commits) (head : Hash)
 first_by true y above older head x rest same more e = let own : y ≡ x = cc in ap (λ (z : Hash × Commit). z.0) (sym own) ∙ same_is y.0 head same
 first_by false y above older head x rest same more e = more e
 
-chain_first : (commits : Commits) (head : Hash) (x : Hash × Commit) (rest : Commits) → chain commits head ≡ x ∷ rest → x.0 ≡ head
+pub chain_first : (commits : Commits) (head : Hash) (x : Hash × Commit) (rest : Commits) → chain commits head ≡ x ∷ rest → x.0 ≡ head
 chain_first [] head x rest e = absurd cc
 chain_first (y ∷ older) head x rest e = first_by (same_hash y.0 head) y (chain older y.1.parent) (chain older head) head x rest refl (chain_first older head x rest) e
 

@@ -53,11 +53,11 @@ or_either true b e false d f g = absurd (let no : false ≡ true = f refl in cc)
 or_either false b e true d f g = refl
 or_either false b e false d f g = g e
 
-or_more : (a b : Bool) → b ≡ true → (a || b) ≡ true
+pub or_more : (a b : Bool) → b ≡ true → (a || b) ≡ true
 or_more true b e = refl
 or_more false b e = e
 
-or_here : (a b : Bool) → a ≡ true → (a || b) ≡ true
+pub or_here : (a b : Bool) → a ≡ true → (a || b) ≡ true
 or_here true b e = refl
 or_here false b e = absurd cc
 
@@ -170,20 +170,20 @@ found_name (x ∷ xs) name why r e = by (bytes_eq x.name name) refl e (found_nam
 
 -- ---- steps, by their tests in turn
 
-abbrev OkIs : {A : Type 0} → (A → Type 0) → Result A Refusal → Type 0
+abbrev pub OkIs : {A : Type 0} → (A → Type 0) → Result A Refusal → Type 0
 OkIs P (Ok x) = P x
 OkIs P (Err why) = Unit {0}
 
-bind : {A B : Type 0} (P : B → Type 0) (r : Result A Refusal) (f : A → Result B Refusal) → ((x : A) → r ≡ Ok x → OkIs P (f x)) → OkIs P (r >>= f)
+pub bind : {A B : Type 0} (P : B → Type 0) (r : Result A Refusal) (f : A → Result B Refusal) → ((x : A) → r ≡ Ok x → OkIs P (f x)) → OkIs P (r >>= f)
 bind P (Ok x) f h = h x refl
 bind P (Err why) f h = tt
 
-goes : {A B : Type 0} (Q : A → Type 0) (P : B → Type 0) (r : Result A Refusal) (f : A → Result B Refusal) → OkIs Q r → ((x : A) → Q x → OkIs P (f x)) → OkIs P (r >>= f)
+pub goes : {A B : Type 0} (Q : A → Type 0) (P : B → Type 0) (r : Result A Refusal) (f : A → Result B Refusal) → OkIs Q r → ((x : A) → Q x → OkIs P (f x)) → OkIs P (r >>= f)
 goes Q P (Ok x) f q h = h x q
 goes Q P (Err why) f q h = tt
 
 -- the references are these
-abbrev Has : List Reference → State → Type 0
+abbrev pub Has : List Reference → State → Type 0
 Has references b = b.references ≡ references
 
 kept_has : (references : List Reference) (a : State) (b : Bool) (why : Refusal) → Has references a → OkIs (Has references) (if b then Ok a else Err why)
@@ -194,7 +194,7 @@ added_has : (references : List Reference) (a more : State) (hash : Hash) (kept :
 added_has references a more hash None bytes p q = q
 added_has references a more hash (Some kept) bytes p q = kept_has references a (bytes_eq kept bytes) _ p
 
-commit_has : (digest : Digest) (references : List Reference) (a : State) (c : Commit) → Has references a → OkIs (Has references) (with_commit digest a c)
+pub commit_has : (digest : Digest) (references : List Reference) (a : State) (c : Commit) → Has references a → OkIs (Has references) (with_commit digest a c)
 unfolding with_commit
 commit_has digest references a c has =
     let hash = commit_hash digest c in
@@ -206,14 +206,14 @@ content_has digest references a c has =
     let hash = content_hash digest c in
     added_has references a (record a { present = (hash, c) ∷ a.present }) hash (content_bytes a hash) ((content_code).spell c) has has
 
-contents_have : (digest : Digest) (references : List Reference) (a : State) (contents : List Content) → Has references a → OkIs (Has references) (with_contents digest a contents)
+pub contents_have : (digest : Digest) (references : List Reference) (a : State) (contents : List Content) → Has references a → OkIs (Has references) (with_contents digest a contents)
 contents_have digest references a [] has = has
 contents_have digest references a (c ∷ contents) has = goes (Has references) (Has references) (with_content digest a c) _ (content_has digest references a c has) (λ b h. contents_have digest references b contents h)
 
-abbrev MadeHas : List Reference → Hash × State → Type 0
+abbrev pub MadeHas : List Reference → Hash × State → Type 0
 MadeHas references made = made.1.references ≡ references
 
-planned_have : (digest : Digest) (references : List Reference) (moment : ℕ) (a : State) (head : Hash) (ps : List Planned) → Has references a → OkIs (MadeHas references) (with_planned digest moment a head ps)
+pub planned_have : (digest : Digest) (references : List Reference) (moment : ℕ) (a : State) (head : Hash) (ps : List Planned) → Has references a → OkIs (MadeHas references) (with_planned digest moment a head ps)
 planned_have digest references moment a head [] has = has
 planned_have digest references moment a head (p ∷ ps) has =
     let commit : Commit = planned_commit a.commits head moment p in
@@ -223,7 +223,7 @@ planned_have digest references moment a head (p ∷ ps) has =
 abbrev Steps : List ℕ → State → State × Reply → Type 0
 Steps name a x = KeepsOthers name a.references x.0.references
 
-named_is : (a : State) (name : List ℕ) (r : Reference) → named a name ≡ Ok r → r.name ≡ name
+pub named_is : (a : State) (name : List ℕ) (r : Reference) → named a name ≡ Ok r → r.name ≡ name
 named_is a name r e = found_name a.references name _ r e
 
 create_takes : (digest : Digest) (a : State) (c : Create) → OkIs (Steps c.name a) (step_create digest a c)

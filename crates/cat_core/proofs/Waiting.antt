@@ -1,13 +1,15 @@
 -- Drafts that are open: what opening and closing one does to them, and to those of other callers.
-use Rattle.std.proofs.Common.{◌≡◌, ◌≢◌, ◌≤◌, ◌<◌, ℕ, ◌+◌, List, [], ◌∷◌, ◌++◌, Bool, true, false, cond, ◌&&◌, nat_eq, refl, sym, ap, ◌∙◌, subst, inl, inr, ⊎_elim, arith, eq-eqb, ne_eqb}
+use Rattle.std.proofs.Common.{◌≡◌, ◌≢◌, ◌≤◌, ◌<◌, ℕ, ◌+◌, List, [], ◌∷◌, ◌++◌, Option, Some, None, Bool, true, false, cond, ◌&&◌, nat_eq, refl, sym, ap, ◌∙◌, subst, inl, inr, ⊎_elim, arith, eq-eqb, ne_eqb}
 use Rattle.std.proofs.lemmas.List.{append-nil}
 use Rattle.std.proofs.lemmas.Map.Views.{exact_unsigned_eq}
 use Rattle.cat_checks.specs.HistoryLaws.{AreAtMost, new_above}
 use Rattle.cat_checks.specs.Legal.{draft_is_new}
+use Rattle.cat_names.specs.declared.hash.Hash.{Hash}
 use Rattle.cat_model.specs.declared.log_entry.LogEntry.{LogEntry}
-use Rattle.cat_model.specs.Drafts.{LeavesOthers, Open, OpenDraft, Opening, drafts_of, open_of}
+use Rattle.cat_model.specs.Drafts.{Awaits, IsNamed, LeavesOthers, Names, Open, OpenDraft, OpenSweep, Opening, SweepAwaits, drafts_of, open_of, sweep_of}
 use Rattle.cat_model.specs.TurnLaws.{stays_self}
 use Rattle.cat_core.specs.Drafts.{IsOpen, without}
+use Rattle.cat_core.specs.Noting.{and_names, noting}
 use Rattle.cat_core.specs.Stored.{AreWaiting, IsNumberOfNone, IsWaiting}
 
 -- ---- those of other callers
@@ -49,8 +51,21 @@ closed_others o (x ∷ xs) m ne =
 leaves_drafts : (caller : ℕ) (a : Open) (ds : List OpenDraft) → ((m : ℕ) → m ≢ caller → drafts_of m ds ≡ drafts_of m a.drafts) → LeavesOthers caller a (record a { drafts = ds })
 leaves_drafts caller a ds h = λ m ne. record { drafts = h m ne; sweep = (stays_self (open_of m a)).sweep }
 
-pub leaves_opened : (a : Open) (d : OpenDraft) → LeavesOthers d.opening.caller a (record a { drafts = a.drafts ++ d ∷ [] })
-leaves_opened a d = leaves_drafts d.opening.caller a _ (opened_others a.drafts d)
+named_still : (hash : Hash) (xs ys : List Hash) → IsNamed hash xs → IsNamed hash (xs ++ ys)
+named_still hash [] ys is = absurd is
+named_still hash (x ∷ xs) ys is = ⊎_elim (λ (first : x ≡ hash). inl first) (λ (later : IsNamed hash xs). inr (named_still hash xs ys later)) is
+
+-- an open sweep that a draft gave more names
+awaits_noted : (names : Names) (m : ℕ) (held : Option OpenSweep) → SweepAwaits (sweep_of m held) (sweep_of m (noting names held))
+awaits_noted names m None = tt
+awaits_noted names m (Some o) = by (nat_eq o.opening.caller m)
+  where
+    by : (b : Bool) → SweepAwaits (cond b (Some o) None) (cond b (Some (record o { names = and_names o.names names })) None)
+    by true = record { same = refl; commits = λ hash is. named_still hash o.names.commits names.commits is; contents = λ hash is. named_still hash o.names.contents names.contents is }
+    by false = tt
+
+pub leaves_opened : (a : Open) (d : OpenDraft) → LeavesOthers d.opening.caller a (record { drafts = a.drafts ++ d ∷ []; sweep = noting d.names a.sweep })
+leaves_opened a d = λ m ne. record { drafts = opened_others a.drafts d m ne; sweep = awaits_noted d.names m a.sweep }
 
 pub leaves_closed : (a : Open) (o : Opening) → LeavesOthers o.caller a (record a { drafts = without o a.drafts })
 leaves_closed a o = leaves_drafts o.caller a _ (closed_others o a.drafts)

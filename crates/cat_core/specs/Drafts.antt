@@ -22,6 +22,7 @@ use Rattle.cat_core.specs.declared.draft.Draft.{Draft}
 use Rattle.cat_core.specs.declared.draft.Settled.{Settled}
 use Rattle.cat_core.specs.declared.draft.Settled.TheVariants as settled
 use Rattle.cat_core.specs.declared.tickets.Ticket.{Ticket}
+use Rattle.cat_core.specs.Noting.{noting}
 use Rattle.cat_core.specs.Stored.{IsDownAt, IsUp, Stored, opening_at}
 
 -- ---- drafts
@@ -52,7 +53,7 @@ abbrev pub with_opened : {K : Type 0} → Stored K → Draft → Stored K
 with_opened s d = record s {
   book = record (s.book) { draft = d.number };
   mark = record (s.mark) { draft = d.number; drafter = d.caller };
-  left_open = record (s.left_open) { drafts = s.left_open.drafts ++ open_draft_of d ∷ [] };
+  left_open = record { drafts = s.left_open.drafts ++ open_draft_of d ∷ []; sweep = noting (names_of sha256 d.number (command_in d)) s.left_open.sweep };
 }
 
 abbrev pub dropping : {K : Type 0} → Stored K → Draft → Stored K
@@ -63,7 +64,7 @@ abbrev pub holding : {K : Type 0} → Stored K → Ticket → Command → Stored
 holding s t c = record s {
   book = record (s.book) { draft = t.number };
   mark = record (s.mark) { draft = t.number; drafter = t.caller };
-  left_open = record (s.left_open) { drafts = s.left_open.drafts ++ record { opening = opening_at t; names = names_of sha256 t.number c } ∷ [] };
+  left_open = record { drafts = s.left_open.drafts ++ record { opening = opening_at t; names = names_of sha256 t.number c } ∷ []; sweep = noting (names_of sha256 t.number c) s.left_open.sweep };
 }
 
 -- what the call brings in its draft

@@ -6,9 +6,11 @@ pub mod PlainLaws
 pub mod UsualLaws
 pub mod LoggedLaws
 pub mod Stored
+pub mod Noting
 pub mod Drafts
 pub mod Made
 pub mod Kept
 pub mod Opening
 pub mod Whole
 pub mod Sweeping
+pub mod Sweeps

@@ -1,22 +1,31 @@
 -- What a store holds, with what keeps its log.
-use Rattle.std.specs.Prelude.{◌≡◌, ◌≤◌, ◌<◌, ℕ, List, [], ◌∷◌, Option, Some, None, true, IfSome, map, reverse}
+use Rattle.std.specs.Prelude.{◌≡◌, ◌≤◌, ◌<◌, ℕ, ◌-◌, Bool, List, [], ◌∷◌, length, take, Option, Some, None, true, IfSome, IsTrue, map, reverse}
+use Rattle.std.specs.List.{list_all}
 use Rattle.std.specs.Option.{option_map}
 use Rattle.sha2.specs.Sha256.{sha256}
 use Rattle.cat_io.specs.Causes.{Rose}
 use Rattle.cat_checks.specs.Histories.{IsLegalFrom, book_at}
 use Rattle.cat_checks.specs.HistoryLaws.{AreAtMost}
-use Rattle.cat_checks.specs.Legal.{draft_is_new}
+use Rattle.cat_checks.specs.Legal.{draft_is_new, most_patterns}
+use Rattle.cat_frames.specs.Sweeps.{resolved_is_logged}
 use Rattle.cat_keeper.specs.declared.keeper.Keeper.{Ghosts}
 use Rattle.cat_model.specs.declared.log_entry.LogEntry.{LogEntry}
 use Rattle.cat_model.specs.Book.{Book}
 use Rattle.cat_model.specs.Drafts as drafts
 use Rattle.cat_model.specs.Drafts.{Open, Opening}
+use Rattle.cat_model.specs.Mark as marks
 use Rattle.cat_model.specs.Mark.{FailedAppend, Mark}
-use Rattle.cat_model.specs.State.{first_state}
+use Rattle.cat_model.specs.State.{State, first_state, is_known}
+use Rattle.cat_model.specs.Past.{past_of}
 use Rattle.cat_model.specs.Turns.{Opened, Snapshot}
+use Rattle.cat_graph.specs.Linked as linked
+use Rattle.cat_tables.specs.References.{heads_pass}
 use Rattle.cat_state.specs.Kept.{spellings}
+use Rattle.cat_names.specs.declared.hash.Hash.{Hash}
+use Rattle.cat_core.specs.declared.tickets.ClosedSweep.{ClosedSweep}
 use Rattle.cat_core.specs.declared.tickets.Fallen.{Fallen}
 use Rattle.cat_core.specs.declared.tickets.OpenDraft.{OpenDraft}
+use Rattle.cat_core.specs.declared.tickets.OpenSweep.{OpenSweep}
 use Rattle.cat_core.specs.declared.tickets.Ticket.{Ticket}
 
 -- a book, what keeps its log, the mark and what is open beside the log, and the keeper's count of faults as the store was opened
@@ -57,6 +66,11 @@ abbrev pub MayBeDown : {K : Type 0} → Stored K → Option ℕ → Type 0
 MayBeDown s None = IsUp s
 MayBeDown s (Some count) = IsDownAt s count
 
+-- the mark tells of the open sweep, and its number isn't below that of the last one that was closed
+abbrev pub IsMarked : Mark → Option drafts.OpenSweep → Type 0
+IsMarked m None = m.sweep ≡ None
+IsMarked m (Some o) = (m.sweep ≡ Some o.opening) × (marks.closed_number m.closed ≤ o.opening.number)
+
 -- ---- how it is held
 
 abbrev pub opening_at : Ticket → Opening
@@ -71,12 +85,31 @@ failed (Some f) (Some payload) = Some (record { caller = f.caller; count = f.cou
 failed (Some f) None = None
 failed None payload = None
 
--- of a sweep nothing is known yet
-abbrev pub held_mark : ℕ → ℕ → Option Ticket → Option Ticket → Option FailedAppend → Mark
-held_mark draft drafter dropped expired fault = record { fault = fault; sweep = None; closed = None; draft = draft; drafter = drafter; dropped = option_map opening_at dropped; expired = option_map opening_at expired }
+abbrev pub sweep_held : OpenSweep → drafts.OpenSweep
+sweep_held s = record {
+  opening = opening_at s.ticket;
+  policy = s.policy;
+  names = record { commits = s.commits.items; contents = s.contents.items };
+  drained = s.drained;
+  given = record { commits = take s.given_commits s.commits.items; contents = take s.given_contents s.contents.items };
+}
 
-abbrev pub held_open : List OpenDraft → Open
-held_open left_open = record { drafts = map draft_held left_open; sweep = None }
+abbrev pub closed_held : ClosedSweep → marks.ClosedSweep
+closed_held c = record { opening = opening_at c.ticket; names = c.names }
+
+abbrev pub held_mark : ℕ → ℕ → Option Ticket → Option Ticket → Option OpenSweep → Option ClosedSweep → Option FailedAppend → Mark
+held_mark draft drafter dropped expired sweep closed fault = record {
+  fault = fault;
+  sweep = option_map (λ (s : OpenSweep). opening_at s.ticket) sweep;
+  closed = option_map closed_held closed;
+  draft = draft;
+  drafter = drafter;
+  dropped = option_map opening_at dropped;
+  expired = option_map opening_at expired;
+}
+
+abbrev pub held_open : List OpenDraft → Option OpenSweep → Open
+held_open left_open sweep = record { drafts = map draft_held left_open; sweep = option_map sweep_held sweep }
 
 -- ---- what holds of it
 
@@ -119,3 +152,49 @@ pub record IsSound (book : Book) (faults : ℕ) (left_open : List drafts.OpenDra
   pub led : (book_at (record { state = first_state sha256 book.state.limits; draft = 0; faults = faults }) (reverse book.log)).state ≡ book.state
   pub taken : AreAtMost book.draft book.log
   pub waiting : AreWaiting book.draft book.log left_open
+
+-- ---- what holds of the open sweep
+
+-- each of the commits is known
+abbrev pub AreKnown : State → List Hash → Type 0
+AreKnown state hashes = IsTrue (list_all (is_known sha256 state) hashes)
+
+-- those that drafts name are
+abbrev pub AreNamed : State → List drafts.OpenDraft → Type 0
+AreNamed state [] = Unit {0}
+AreNamed state (x ∷ xs) = AreKnown state x.names.commits × AreNamed state xs
+
+-- those that the open sweep names are
+abbrev pub KnowsNames : State → Option drafts.OpenSweep → Type 0
+KnowsNames state None = Unit {0}
+KnowsNames state (Some o) = AreKnown state o.names.commits
+
+-- what its caller was given of its names stands before the others
+pub record HasFronts (s : OpenSweep) : Type 0 where
+  pub commits : s.given_commits ≤ length s.commits.items
+  pub contents : s.given_contents ≤ length s.contents.items
+
+-- each reference of the state points at a commit that is known
+abbrev pub is_headed : State → Bool
+is_headed state = heads_pass (linked.is_known state.commits) state.references
+
+-- it was opened at a place that isn't after the one up to which its caller was given all, and may be logged; at each state since the opening the heads were known
+pub record IsUnderWay (book : Book) (s : OpenSweep) : Type 0 where
+  pub fronts : HasFronts s
+  pub since : s.ticket.place ≤ s.drained
+  pub drained : s.drained ≤ length book.log
+  pub few : length s.policy.cutoffs ≤ most_patterns
+  pub logged : IsTrue (resolved_is_logged s.policy)
+  pub known : AreKnown book.state s.commits.items
+  pub headed : IsTrue (list_all is_headed (take (book.state.place - s.ticket.place) (past_of sha256 book)))
+
+-- the number of the last sweep that was closed; 0 where there is none
+abbrev pub closed_before : Option ClosedSweep → ℕ
+closed_before None = 0
+closed_before (Some c) = c.ticket.number
+
+-- what holds of the open sweep and of what drafts name: its number isn't below the last one that was closed
+pub record IsSwept (book : Book) (left_open : List drafts.OpenDraft) (held : Option OpenSweep) (closed : Option ClosedSweep) : Type 0 where
+  pub named : AreNamed book.state left_open
+  pub sweep : IfSome held (IsUnderWay book)
+  pub last : IfSome held (λ s. closed_before closed ≤ s.ticket.number)

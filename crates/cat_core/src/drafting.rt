@@ -18,6 +18,7 @@ ghost use Rattle.cat_model.specs.Turns.{Acts};
 ghost use Rattle.cat_model.specs.WellMade.{is_well_made};
 ghost use Rattle.cat_state.specs.Giving.{GivesAs};
 
+use crate::closing::note;
 use crate::draft::{Draft, Settled, ticket_of};
 use crate::ledger::{Ledger, refused};
 use crate::store::Store;
@@ -65,22 +66,24 @@ fn opened<'a>(
 }
 
 impl<K: Keeper> Store<K> {
-    /// Keeps the draft of a call, under the next number, with what it names.
+    /// Keeps the draft of a call, under the next number, with what it names, which the sweep has to
+    /// keep too that is open.
     fn hold(&mut self, alloc: Global, ticket: Ticket, call: &Call<'_>) -> Result<(), NoMemory>
         requires next { ticket.number ≡ self.old.book.draft + 1 }
         requires given { IsGivenBy ticket.number call.now }
+        requires opened { opening sha256 self.old.book.state (command_of call.now) ≡ Ok tt }
         ensures held { OnOk result (self.new ≡ holding self.old ticket (command_of call.now)) }
         ensures stays { OnErr result (self.new ≡ self.old) }
     {
+        self.knows_heads();
         let (commits, contents) = call.names(alloc)?;
-        let draft = OpenDraft {
+        self.drafts.reserve(1)?;
+        note(&mut self.sweep, commits.as_slice(), contents.as_slice())?;
+        self.drafts.push_reserved(OpenDraft {
             ticket,
             commits,
             contents,
-        };
-        if self.drafts.push(draft).is_err() {
-            return Err(NoMemory);
-        }
+        });
         self.ledger.take(ticket.number);
         self.drafter = ticket.caller;
         Ok(())
@@ -154,7 +157,8 @@ impl<K: Keeper> Store<K> {
         requires head { HasHead self.now.book.state (command_of call.now) built.now.head }
         requires built { (v : State) × IsLater v self.now.book.state
             × IsBuilt v call.now built.now }
-        ensures { IsBuilt self.now.book.state call.now built.now }
+        ensures on { HasHead self.now.book.state (command_of call.now) built.now.head }
+        ensures built { IsBuilt self.now.book.state call.now built.now }
     {
         self.ledger.catalogue().commits_are_linked();
     }
@@ -180,6 +184,7 @@ impl<K: Keeper> Store<K> {
             (attempt_on sha256 self.old.book (in_draft caller moment number opened)
             (command_of call.entry)) result }
     {
+        self.knows_heads();
         let place = self.ledger.place();
         let made = self.ledger.settle(
             alloc,

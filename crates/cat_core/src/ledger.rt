@@ -15,6 +15,7 @@ ghost use Rattle.std.specs.Option.{option_copied};
 
 mod calls;
 mod carrying;
+mod collecting;
 mod counts;
 mod drafting;
 mod logging;

@@ -1,13 +1,16 @@
 //! The store: a ledger over any keeper of its log, which has each entry before the change of the
 //! entry is seen, and the drafts that are open. A call that opens a draft is opened in one turn; what
 //! it makes of its branch's head is built on a view, outside any turn; and a later turn settles it,
-//! if the branch has that head still, or drops it. Each call answers what the model's call on the
-//! book does and leaves the book that it leaves; or is refused for want of memory or for a fault of
-//! the keeper, which leave state and log as they were. From a fault on the store only reads, and
-//! closes the drafts that are open. It is opened over a keeper of any payloads: each is executed
-//! again, and the first that is no entry or may not follow is told by its place.
+//! if the branch has that head still, or drops it. A sweep is opened in one turn too; its caller marks
+//! what its roots keep, outside any turn, and is given more roots as entries are made; a later turn
+//! settles it, which removes the contents that nothing kept since its opening, or drops it. Each call
+//! answers what the model's call on the book does and leaves the book that it leaves; or is refused
+//! for want of memory or for a fault of the keeper, which leave state and log as they were. From a
+//! fault on the store only reads, and closes what is open. It is opened over a keeper of any payloads:
+//! each is executed again, and the first that is no entry or may not follow is told by its place.
 #![tactic(auto)]
 
+mod closing;
 mod draft;
 mod drafting;
 mod ledger;
@@ -15,7 +18,9 @@ mod marking;
 mod opening;
 mod referring;
 mod replay;
+mod rooting;
 mod store;
+mod sweeping;
 mod telling;
 mod tickets;
 
@@ -25,3 +30,4 @@ pub use cat_state::view::View;
 pub use draft::{Draft, Settled};
 pub use opening::StoreFault;
 pub use store::Store;
+pub use sweeping::Sweep;

@@ -19,7 +19,7 @@ use cat_state::catalogue::Catalogue;
 use std::alloc::Global;
 
 /// Marks what is live from a head.
-fn mark_head(
+pub(crate) fn mark_head(
     marks: &mut Marks,
     catalogue: &Catalogue,
     head: &Hash,
@@ -117,7 +117,7 @@ fn mark_commits(marks: &mut Marks, catalogue: &Catalogue, hashes: &[Hash]) -> Re
 }
 
 /// Marks each of the contents.
-fn mark_contents(marks: &mut Marks, hashes: &[Hash]) -> Result<(), NoMemory>
+pub(crate) fn mark_contents(marks: &mut Marks, hashes: &[Hash]) -> Result<(), NoMemory>
     ensures { OnOk result (AddsAll marks.old marks.new hashes.now) }
 {
     for hash in hashes {

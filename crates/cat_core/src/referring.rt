@@ -36,6 +36,7 @@ impl<K: Keeper> Store<K> {
         ensures { IsTold K.Keeper caller self.old self.new
             (call_on sha256 caller self.old.book command.now moment) result }
     {
+        self.knows_heads();
         let place = self.ledger.place();
         let made = self
             .ledger

@@ -112,7 +112,7 @@ fn is_newest(alloc: Global, ledger: &Ledger, payload: &[u8]) -> Result<bool, NoM
 }
 
 /// The name of the reference that a command makes, moves or removes.
-fn name_in(command: &Command) -> &RefName
+pub(crate) fn name_in(command: &Command) -> &RefName
     ensures { result.now ≡ name_in command.now }
 {
     match command {

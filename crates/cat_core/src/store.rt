@@ -15,12 +15,14 @@ ghost use Rattle.cat_io.specs.Causes.{Rose};
 ghost use Rattle.cat_state.specs.Counting.{main_head};
 ghost use Rattle.cat_state.specs.Kept.{Stayed, spellings};
 ghost use Rattle.cat_core.specs.Opening.{IsIllegalAt, IsLedTo};
-ghost use Rattle.cat_core.specs.Stored.{IsSound, MayBeDown, log_of, opened_of};
+ghost use Rattle.cat_graph.specs.Linked.{AreLinked};
+ghost use Rattle.cat_core.specs.Stored.{IsMarked, IsSound, KnowsNames, MayBeDown, is_headed, log_of, opened_of};
+ghost use Rattle.cat_core.specs.Sweeps.{MayBeClosed};
 ghost use Rattle.cat_core.specs.Whole.{HasHeads, HasVisible};
 
 use crate::ledger::Ledger;
 use crate::opening::{StoreFault, led_to};
-use crate::tickets::{Fallen, OpenDraft, Ticket};
+use crate::tickets::{ClosedSweep, Fallen, OpenDraft, OpenSweep, Ticket};
 use cat_codes::fault::NoMemory;
 use cat_keeper::Keeper;
 use cat_model::ask::Ask;
@@ -47,25 +49,29 @@ pub struct Store<K: Keeper> {
     pub(crate) dropped: Option<Ticket>,
     pub(crate) expired: Option<Ticket>,
     pub(crate) drafts: Vec<OpenDraft>,
+    pub(crate) sweep: Option<OpenSweep>,
+    pub(crate) closed: Option<ClosedSweep>,
     began: u64,
 }
 
 impl<K: Keeper> Model for Store<K> {
-    ghost use Rattle.cat_core.specs.Stored.{IsInStep, IsSound, Stored, failed, held_mark, held_open};
+    ghost use Rattle.std.specs.Prelude.{map};
+    ghost use Rattle.cat_core.specs.Stored.{IsInStep, IsSound, IsSwept, Stored, draft_held, failed, held_mark, held_open};
 
     ghost Value = { Stored K };
 
     ghost view = { λ s. record {
       book = s.ledger;
       keeper = s.keeper;
-      mark = held_mark s.ledger.draft s.drafter s.dropped s.expired
+      mark = held_mark s.ledger.draft s.drafter s.dropped s.expired s.sweep s.closed
           (failed s.fallen (K.in_flight s.keeper));
-      left_open = held_open s.drafts.items;
+      left_open = held_open s.drafts.items s.sweep;
       began = s.began;
     } };
 
     ghost invariant = { λ s. IsInStep K.Keeper s.ledger s.keeper s.fallen s.began
-        × IsSound s.ledger s.began (held_open s.drafts.items).drafts };
+        × IsSound s.ledger s.began (map draft_held s.drafts.items)
+        × IsSwept s.ledger (map draft_held s.drafts.items) s.sweep s.closed };
 }
 
 impl<K: Keeper> Logged for Store<K> {
@@ -112,6 +118,8 @@ impl<K: Keeper> Store<K> {
             dropped: None,
             expired: None,
             drafts: Vec::new(alloc),
+            sweep: None,
+            closed: None,
             began,
         }
     }
@@ -234,8 +242,32 @@ impl<K: Keeper> Store<K> {
     pub(crate) fn is_sound(&self)
         ensures sound { IsSound self.now.book self.now.began self.now.left_open.drafts }
         ensures draft { self.now.mark.draft ≡ self.now.book.draft }
+        ensures sweep { IsMarked self.now.mark self.now.left_open.sweep }
+        ensures closes { MayBeClosed self.now.book self.now.left_open.sweep }
     {
         let _ = &self.fallen;
+    }
+
+    /// What holds of the open sweep: the mark tells of it, and the commits that drafts gave it are
+    /// known. Each commit stands above its parents.
+    pub fn sweep_is_told(&self)
+        ensures linked { AreLinked self.now.book.state.commits }
+        ensures marked { IsMarked self.now.mark self.now.left_open.sweep }
+        ensures known { KnowsNames self.now.book.state self.now.left_open.sweep }
+    {
+        let _ = &self.fallen;
+        self.is_sound();
+        self.knows_heads();
+    }
+
+    /// What holds of the state: where its references point, and its commits.
+    pub(crate) fn knows_heads(&self)
+        ensures heads { IsTrue (is_headed self.now.book.state) }
+        ensures linked { AreLinked self.now.book.state.commits }
+    {
+        let catalogue = self.ledger.catalogue();
+        catalogue.commits_are_linked();
+        let _ = catalogue.references();
     }
 
     /// What holds of the keeper: it has the entries of the log, the oldest first, and the mark tells

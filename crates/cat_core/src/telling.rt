@@ -31,6 +31,16 @@ pub(crate) fn down_at(place: u32, count: u64) -> Refused
     }
 }
 
+/// The refusal at a place, since a sweep is open that was opened at another.
+pub(crate) fn sweep_open_at(place: u32, opened: u32) -> Refused
+    ensures { result ≡ record { place = Some place; why = refusals.SweepOpen opened } }
+{
+    Refused {
+        place: Some(place),
+        why: Refusal::SweepOpen(opened),
+    }
+}
+
 /// What is told of what a call made at a place. Where its entry wasn't kept, its caller fell.
 pub(crate) fn tell<K: Keeper>(
     keeper: &K,

@@ -166,7 +166,7 @@ module _ {V : Type 0} (log : V → List LogEntry) (opened : V → Opened) (legal
               saw = record { based = f.saw.based; since = f.saw.since; missed = f.saw.missed; least = f.saw.least; most = f.saw.most; parts = f.saw.parts };
               numbered = record { own_number = f.numbered.own_number; given = f.numbered.given; stands_for = f.numbered.stands_for; may_give = f.numbered.may_give };
               in_line = record { has_ticket = λ _. (omega arith, omega arith, mine_at); served = λ x. absurd x; alone = λ x. absurd x; making = λ x. absurd x };
-              marked = record { turn = f.marked.turn; mark = f.marked.mark; linked = f.marked.linked; own = f.marked.own; whole = λ x. absurd x };
+              marked = record { turn = f.marked.turn; mark = f.marked.mark; linked = f.marked.linked; own = f.marked.own; whole = f.marked.whole; current = λ x. absurd x };
             }
             (λ j d other at alive. let g = r.each j d at alive in record {
               saw = g.saw;
@@ -202,7 +202,7 @@ module _ {V : Type 0} (log : V → List LogEntry) (opened : V → Opened) (legal
           saw = record { based = f.saw.based; since = f.saw.since; missed = f.saw.missed; least = f.saw.least; most = f.saw.most; parts = f.saw.parts };
           numbered = record { own_number = f.numbered.own_number; given = f.numbered.given; stands_for = f.numbered.stands_for; may_give = f.numbered.may_give };
           in_line = record { has_ticket = λ _. l; served = λ _. sym turn; alone = λ x. absurd x; making = λ x. absurd x };
-          marked = record { turn = f.marked.turn; mark = f.marked.mark; linked = f.marked.linked; own = f.marked.own; whole = λ x. absurd x };
+          marked = record { turn = f.marked.turn; mark = f.marked.mark; linked = f.marked.linked; own = f.marked.own; whole = f.marked.whole; current = λ x. absurd x };
         },
         (refl, (λ _. (refl, sym turn)), λ miss. absurd (miss same)),
       ))
@@ -218,7 +218,7 @@ module _ {V : Type 0} (log : V → List LogEntry) (opened : V → Opened) (legal
           saw = record { based = f.saw.based; since = f.saw.since; missed = f.saw.missed; least = omega arith; most = omega arith; parts = f.saw.parts };
           numbered = record { own_number = f.numbered.own_number; given = f.numbered.given; stands_for = f.numbered.stands_for; may_give = f.numbered.may_give };
           in_line = record { has_ticket = f.in_line.has_ticket; served = f.in_line.served; alone = f.in_line.alone; making = f.in_line.making };
-          marked = record { turn = f.marked.turn; mark = f.marked.mark; linked = f.marked.linked; own = f.marked.own; whole = f.marked.whole };
+          marked = record { turn = f.marked.turn; mark = f.marked.mark; linked = f.marked.linked; own = f.marked.own; whole = f.marked.whole; current = f.marked.current };
         },
         (refl, refl, omega arith, omega arith),
       )
@@ -251,7 +251,8 @@ module _ {V : Type 0} (log : V → List LogEntry) (opened : V → Opened) (legal
           mark = marks ∙ ap r.marks (sym last);
           linked = subst (λ (z : Mark). Linked v.number z (r.marks r.last)) (sym marks) (linked_self v.number (r.marks r.last));
           own = f.marked.own;
-          whole = λ _. (last, opens);
+          whole = λ _. opens;
+          current = λ _. last;
         };
       }
       (λ j d other at alive. let g = r.each j d at alive in record {
@@ -269,10 +270,11 @@ module _ {V : Type 0} (log : V → List LogEntry) (opened : V → Opened) (legal
       (λ ne. let both : (v.held + v.spare) + (d.held + d.spare) ≤ total weight s.views = two_of weight s.views id j v d (λ e. ne (sym e)) here at in let sum : total weight s.views ≡ 4294967295 = r.weighs in
       let one : 1 ≤ d.held = (r.each j d at alive).numbered.stands_for in absurd (omega arith))
 
-  -- then it has seen all, and holds the present mark
-  pub saw_all : (s : St) (r : Rule s) (id : ℕ) (v : View) → get_elem? s.views id ≡ some v → IsLive v.stage → v.held + v.spare ≡ 4294967295 → (v.seen ≡ r.all) × (v.mark ≡ r.marks r.last)
+  -- then it has seen all, and holds the present mark and what is open
+  pub saw_all : (s : St) (r : Rule s) (id : ℕ) (v : View) → get_elem? s.views id ≡ some v → IsLive v.stage → v.held + v.spare ≡ 4294967295 → (v.seen ≡ r.all) × (v.mark ≡ r.marks r.last) × (v.found ≡ r.opens)
   saw_all s r id v here live all_of = let t = r.longest in let same = only_one s r id v here all_of t.0 t.1 t.2 t.3 in
-      (ap (λ (x : View). x.seen) same ∙ t.4, (r.each id v here live).marked.mark ∙ ap r.marks (ap (λ (x : View). x.turn) same ∙ t.5))
+      let marked = (r.each id v here live).marked in let last : v.turn ≡ r.last = ap (λ (x : View). x.turn) same ∙ t.5 in
+      (ap (λ (x : View). x.seen) same ∙ t.4, marked.mark ∙ ap r.marks last, marked.whole last)
 
   pub takes_value : (slots id : ℕ) (me : M) → me.0.stage ≡ Called → me.1 ≡ [] → Allows Rule slots id me 0 (λ n. n) (λ _. took log opened legal mark left_open me)
   takes_value slots id me is none_held s r len here below = let v : View = me.0 in let sv : IsServed v.stage = subst IsServed (sym is) tt in
@@ -292,10 +294,10 @@ module _ {V : Type 0} (log : V → List LogEntry) (opened : V → Opened) (legal
             subst (λ l. v.known ≤ length l) (sym h.2) f.saw.most,
             begins_at v.origin x f.saw.based h.3 (subst (legal (opened key)) (sym h.2) r.is_legal),
             f.marked.turn,
-            (λ same. h.4 ∙ (ap r.marks same ∙ sym f.marked.mark)),
+            (λ same. (h.4 ∙ (ap r.marks same ∙ sym f.marked.mark), h.5 ∙ sym (f.marked.whole (sym same)))),
             subst (Linked v.number v.mark) (sym h.4) f.marked.linked,
             subst (λ (o : Open). StaysOpen v.own (open_of v.number o)) (sym h.5) f.marked.own,
-            λ all_of. let whole = saw_all s r id v here (subst IsLive (sym is) tt) all_of in (h.2 ∙ sym whole.0, h.4 ∙ sym whole.1),
+            λ all_of. let whole = saw_all s r id v here (subst IsLive (sym is) tt) all_of in (h.2 ∙ sym whole.0, h.4 ∙ sym whole.1, h.5 ∙ sym whole.2),
           ),
         ),
       )
@@ -310,7 +312,7 @@ module _ {V : Type 0} (log : V → List LogEntry) (opened : V → Opened) (legal
         at_stage v Holding,
         takes 0 None,
         unborn_at log opened mark left_open key r.all (r.marks r.last) r.opens (r.owner (word_at s 2)) s.homes s.views r.place (f.in_line.making (subst IsMaking (sym is) tt)) r.stands,
-        taken s r id me.1 v None v.seen v.known v.mark v.found v.turn here sv (f.in_line.alone a) f.saw.least f.saw.most (f.marked.mark ∙ ap r.marks (f.marked.whole a).0) (f.marked.whole a).1 (f.marked.whole a).0,
+        taken s r id me.1 v None v.seen v.known v.mark v.found v.turn here sv (f.in_line.alone a) f.saw.least f.saw.most (f.marked.mark ∙ ap r.marks (f.marked.current a)) (f.marked.whole (f.marked.current a)) (f.marked.current a),
         subst (TookAt log opened legal mark left_open me (at_stage v Holding, (0, None) ∷ me.1)) (sym is) (ap (λ l. (0, None) ∷ l) none_held, refl),
       )
 
@@ -322,11 +324,11 @@ module _ {V : Type 0} (log : V → List LogEntry) (opened : V → Opened) (legal
       let more : Adds v.number r.all (log x) = subst (λ l. Adds v.number l (log x)) (f.in_line.alone a) adds in
       let more_since : Since r.next (log key) (log x) = since_more v.number r.next (log key) r.all (log x) f.numbered.given r.since more in
       let longer : length r.all ≤ length (log x) = adds_longer v.number r.all (log x) more in
-      let last : v.turn ≡ r.last = (f.marked.whole a).0 in let t : ℕ = v.turn + 1 in let marks : ℕ → Mark = λ k. cond (eqb k t) (mark x) (r.marks k) in
+      let last : v.turn ≡ r.last = f.marked.current a in let t : ℕ = v.turn + 1 in let marks : ℕ → Mark = λ k. cond (eqb k t) (mark x) (r.marks k) in
       let new_at : marks t ≡ mark x = ap (λ b. cond b (mark x) (r.marks t)) (eq-eqb t t refl) in
       let old_at : (k : ℕ) → k ≢ t → marks k ≡ r.marks k = λ k ne. ap (λ b. cond b (mark x) (r.marks k)) (ne_eqb k t ne) in
       let moved : Later v.number (r.marks r.last) (mark x) = subst (λ m. Later v.number m (mark x)) (f.marked.mark ∙ ap r.marks last) later in
-      let moved_open : LeavesOthers v.number r.opens (left_open x) = subst (λ l. LeavesOthers v.number l (left_open x)) (f.marked.whole a).1 others_open in
+      let moved_open : LeavesOthers v.number r.opens (left_open x) = subst (λ l. LeavesOthers v.number l (left_open x)) (f.marked.whole last) others_open in
       let below : (k : ℕ) → k ≤ t → k ≢ t → k ≤ r.last = λ k le ne. omega arith in
       let grows : (i j : ℕ) → i ≤ j → j ≤ t → Grows (marks i) (marks j) = λ i j le under. dite (ℕ_discrete j t)
       (λ e. subst (λ (z : ℕ). Grows (marks i) (marks z)) (sym e) (subst (λ z. Grows (marks i) z) (sym new_at) (dite (ℕ_discrete i t)
@@ -342,7 +344,7 @@ module _ {V : Type 0} (log : V → List LogEntry) (opened : V → Opened) (legal
         saw = record { based = f.saw.based; since = more_since; missed = missed_none v.number r.next (log x); least = le_refl (length (log x)); most = le_refl (length (log x)); parts = both_itself v.number (log x) };
         numbered = record { own_number = f.numbered.own_number; given = f.numbered.given; stands_for = f.numbered.stands_for; may_give = f.numbered.may_give };
         in_line = record { has_ticket = λ _. f.in_line.has_ticket (served_busy v.stage sv); served = λ _. f.in_line.served sv; alone = λ y. absurd y; making = λ y. absurd y };
-        marked = record { turn = le_refl t; mark = sym new_at; linked = subst (Linked v.number (mark x)) (sym new_at) (linked_self v.number (mark x)); own = stays_self (open_of v.number (left_open x)); whole = λ y. absurd y };
+        marked = record { turn = le_refl t; mark = sym new_at; linked = subst (Linked v.number (mark x)) (sym new_at) (linked_self v.number (mark x)); own = stays_self (open_of v.number (left_open x)); whole = λ _. refl; current = λ y. absurd y };
       }
       (λ j d other at alive. let g = r.each j d at alive in let most : d.known ≤ length r.all = g.saw.most in
       let apart : d.number ≢ v.number = λ e. other (sym g.numbered.own_number ∙ (ap r.named e ∙ f.numbered.own_number)) in let before : d.turn ≤ r.last = g.marked.turn in record {
@@ -366,7 +368,8 @@ module _ {V : Type 0} (log : V → List LogEntry) (opened : V → Opened) (legal
           mark = g.marked.mark ∙ sym (old_at d.turn (λ e. omega arith));
           linked = subst (Linked d.number d.mark) (sym new_at) (linked_more v.number d.number d.mark (r.marks r.last) (mark x) apart g.marked.linked moved);
           own = stays_on d.own (open_of d.number r.opens) (open_of d.number (left_open x)) g.marked.own (moved_open d.number apart);
-          whole = λ y. absurd (other_turn s r j id d other turn g (alone_served d.stage y));
+          whole = λ e. absurd (omega arith);
+          current = λ y. absurd (other_turn s r j id d other turn g (alone_served d.stage y));
         };
       })
       (id, w, set_there s.views id w v here, tt, refl, refl)
@@ -405,7 +408,7 @@ module _ {V : Type 0} (log : V → List LogEntry) (opened : V → Opened) (legal
               saw = record { based = f.saw.based; since = f.saw.since; missed = f.saw.missed; least = f.saw.least; most = f.saw.most; parts = f.saw.parts };
               numbered = record { own_number = f.numbered.own_number; given = f.numbered.given; stands_for = f.numbered.stands_for; may_give = f.numbered.may_give };
               in_line = record { has_ticket = λ y. absurd y; served = λ y. absurd y; alone = λ y. absurd y; making = λ y. absurd y };
-              marked = record { turn = f.marked.turn; mark = f.marked.mark; linked = f.marked.linked; own = f.marked.own; whole = λ y. absurd y };
+              marked = record { turn = f.marked.turn; mark = f.marked.mark; linked = f.marked.linked; own = f.marked.own; whole = f.marked.whole; current = λ y. absurd y };
             }
             (λ j d other at alive. let g = r.each j d at alive in record {
               saw = g.saw;

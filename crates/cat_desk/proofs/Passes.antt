@@ -16,7 +16,7 @@ use Rattle.cat_model.specs.TurnLaws.{stays_self}
 use Rattle.cat_desk.specs.Sight.{Stage, Idle, Making, Holding, View}
 use Rattle.cat_desk.specs.declared.pass.Held.{Held}
 use Rattle.cat_desk.specs.declared.pass.Pass.{Pass}
-use Rattle.cat_desk.specs.Pass.{seen_in, held_in, mark_in, own_in, mark_of, left_by, number_of, DeskId, IsFree, seen, stands_for, found}
+use Rattle.cat_desk.specs.Pass.{seen_in, held_in, mark_in, own_in, found_in, mark_of, left_by, all_left_by, number_of, DeskId, IsFree, seen, stands_for, found}
 use Rattle.cat_desk.specs.Marks.{Linked}
 use Rattle.cat_desk.proofs.Marks.{linked_next, linked_later, given_later, are_given_later}
 use Rattle.cat_desk.specs.Log.{BeginsWith, Follows, Missed, longer}
@@ -33,8 +33,8 @@ at_snoc_at [] a b (suc j) e = absurd (some-ne-none b (sym e))
 at_snoc_at (x ∷ xs) a b zero e = inl e
 at_snoc_at (x ∷ xs) a b (suc j) e = ⊎_elim (λ t. inl t) (λ (t : (j ≡ length xs) × (a ≡ b)). inr (ap suc t.0, t.1)) (at_snoc_at xs a b j e)
 
--- the mark of the later of two turns
-later_cases : (a b : ℕ) (m n : Mark) (P : Mark → ℕ → Type 0) → (a < b → P n b) → (b ≤ a → P m a) → P (cond (nat_lt a b) n m) (max a b)
+-- what holds of the later of two turns, holds of what is taken of it
+later_cases : {A : Type 0} (a b : ℕ) (m n : A) (P : A → ℕ → Type 0) → (a < b → P n b) → (b ≤ a → P m a) → P (cond (nat_lt a b) n m) (max a b)
 later_cases a b m n P more less = dite (dec_le b a)
     (λ le. subst (λ (z : Bool × ℕ). P (cond z.0 n m) z.1) (let not_lt : nat_lt a b ≡ false = grind (arith, nat_tests) in let top : max a b ≡ a = omega arith in λ i. (sym not_lt i, sym top i)) (less le))
     (λ gt. let lt : a < b = omega arith in subst (λ (z : Bool × ℕ). P (cond z.0 n m) z.1) (let is : nat_lt a b ≡ true = grind (arith, nat_tests) in let top : max a b ≡ b = omega arith in λ i. (sym is i, sym top i)) (more lt))
@@ -62,7 +62,7 @@ module _ {V : Type 0} (log : V → List LogEntry) (opened : V → Opened) (legal
           may_give = λ _. (may.0, omega arith);
         };
         in_line = record { has_ticket = f.in_line.has_ticket; served = f.in_line.served; alone = f.in_line.alone; making = f.in_line.making };
-        marked = record { turn = f.marked.turn; mark = f.marked.mark; linked = f.marked.linked; own = f.marked.own; whole = f.marked.whole };
+        marked = record { turn = f.marked.turn; mark = f.marked.mark; linked = f.marked.linked; own = f.marked.own; whole = f.marked.whole; current = f.marked.current };
       } in
       let right : Fit (length s.views) a = record {
         saw = record {
@@ -81,7 +81,8 @@ module _ {V : Type 0} (log : V → List LogEntry) (opened : V → Opened) (legal
           linked = subst (λ (n : ℕ). Linked n v.mark (r.marks r.last)) (sym number) (linked_next v.number r.next (mark key) v.mark (r.marks r.last) r.mark_given
               (subst (λ (z : Mark × Mark). Grows z.0 z.1) (λ i. (r.first_mark i, sym f.marked.mark i)) (r.grows 0 v.turn (omega arith) f.marked.turn)) f.marked.linked);
           own = subst (StaysOpen nothing_open) (sym (r.opens_given (4294967296 - v.spare) (omega arith))) (stays_self nothing_open);
-          whole = λ x. absurd x;
+          whole = f.marked.whole;
+          current = λ x. absurd x;
         };
       } in
       let others : (j : ℕ) (d : View) → j ≢ id → get_elem? s.views j ≡ some d → IsLive d.stage → Fit j d = λ j d other at alive. let g = r.each j d at alive in record {
@@ -169,7 +170,8 @@ module _ {V : Type 0} (log : V → List LogEntry) (opened : V → Opened) (legal
               (subst (λ (z : Mark × Mark). Grows z.0 z.1) (λ i. (sym f.marked.mark i, sym g.marked.mark i)) (r.grows v.turn w.turn (omega arith) g.marked.turn)) f.marked.linked g.marked.linked)
               (λ _. f.marked.linked);
           own = f.marked.own;
-          whole = λ x. absurd (subst IsAlone vi x);
+          whole = later_cases v.turn w.turn v.found w.found (λ o k. k ≡ r.last → o ≡ r.opens) (λ _. g.marked.whole) (λ _. f.marked.whole);
+          current = λ x. absurd (subst IsAlone vi x);
         };
       } in
       let others : (j : ℕ) (d : View) → j ≢ other → get_elem? s.views j ≡ some d → IsLive d.stage → Fit j d = λ j d ne at alive. let h = r.each j d at alive in record { saw = h.saw; numbered = keeps_on.1.0 j d ne h.numbered; in_line = h.in_line; marked = h.marked } in
@@ -235,23 +237,23 @@ module _ {V : Type 0} (log : V → List LogEntry) (opened : V → Opened) (legal
 
   -- once a pass stands for all, no other is left
   pub closes : (s : St log opened legal mark left_open key) (r : Rule log opened legal mark left_open key s) (id : ℕ) (v : View) → get_elem? s.views id ≡ some v → v.stage ≡ Idle → v.held + v.spare ≡ 4294967295
-      → (x : V) × (get_elem? s.homes 0 ≡ some (some (Some x))) × (log x ≡ v.seen) × (opened x ≡ opened key) × legal (opened key) (log x) × (mark x ≡ v.mark) × StaysOpen v.own (open_of v.number (left_open x))
+      → (x : V) × (get_elem? s.homes 0 ≡ some (some (Some x))) × (log x ≡ v.seen) × (opened x ≡ opened key) × legal (opened key) (log x) × (mark x ≡ v.mark) × StaysOpen v.own (open_of v.number (left_open x)) × (left_open x ≡ v.found)
   closes s r id v here idle all_of = let live : IsLive v.stage = subst IsLive (sym idle) tt in let alone = only_one log opened legal mark left_open key s r id v here all_of in
-      let all_seen = saw_all log opened legal mark left_open key s r id v here live all_of in let seen = all_seen.0 in let now = all_seen.1 in
+      let all_seen = saw_all log opened legal mark left_open key s r id v here live all_of in let seen = all_seen.0 in let now = all_seen.1 in let opens = all_seen.2 in
       let nobody_there : (o : ℕ) (st : Stage) → IsAlone st → Turned s.views o st → ⊥ = λ o st a u. let b : IsAlone u.0.stage = subst IsAlone (sym u.2) a in
       let same = alone o u.0 u.1 (busy_live u.0.stage (served_busy u.0.stage (alone_served u.0.stage b))) in subst IsAlone (ap (λ (x : View). x.stage) (sym same) ∙ idle) b in
-      found r.all (r.marks r.last) r.opens (r.owner (word_at log opened legal mark left_open key s 2)) s.homes s.views r.place r.stands seen now nobody_there r.is_legal (r.each id v here live).marked.own
+      found r.all (r.marks r.last) r.opens (r.owner (word_at log opened legal mark left_open key s 2)) s.homes s.views r.place r.stands seen now opens nobody_there r.is_legal (r.each id v here live).marked.own
     where
-      found : (all : List LogEntry) (now : Mark) (op : Open) (o : ℕ) (hs : List (Maybe (Option V))) (vs : List View) (p : Place V) → Stands log opened mark left_open (opened key) all now op o hs vs p → v.seen ≡ all → v.mark ≡ now → ((o : ℕ) (st : Stage) → IsAlone st → Turned vs o st → ⊥) → legal (opened key) all → StaysOpen v.own (open_of v.number op)
-          → (x : V) × (get_elem? hs 0 ≡ some (some (Some x))) × (log x ≡ v.seen) × (opened x ≡ opened key) × legal (opened key) (log x) × (mark x ≡ v.mark) × StaysOpen v.own (open_of v.number (left_open x))
-      found all now op o hs vs (home x) st e m n ok own = (x, st.0, st.1 ∙ sym e, st.2, subst (legal (opened key)) (sym st.1) ok, st.3 ∙ sym m, subst (λ (o : Open). StaysOpen v.own (open_of v.number o)) (sym st.4) own)
-      found all now op o hs vs unborn st e m n ok own = absurd (n o Making tt st.1)
-      found all now op o hs vs out st e m n ok own = absurd (n o Holding tt st)
+      found : (all : List LogEntry) (now : Mark) (op : Open) (o : ℕ) (hs : List (Maybe (Option V))) (vs : List View) (p : Place V) → Stands log opened mark left_open (opened key) all now op o hs vs p → v.seen ≡ all → v.mark ≡ now → v.found ≡ op → ((o : ℕ) (st : Stage) → IsAlone st → Turned vs o st → ⊥) → legal (opened key) all → StaysOpen v.own (open_of v.number op)
+          → (x : V) × (get_elem? hs 0 ≡ some (some (Some x))) × (log x ≡ v.seen) × (opened x ≡ opened key) × legal (opened key) (log x) × (mark x ≡ v.mark) × StaysOpen v.own (open_of v.number (left_open x)) × (left_open x ≡ v.found)
+      found all now op o hs vs (home x) st e m l n ok own = (x, st.0, st.1 ∙ sym e, st.2, subst (legal (opened key)) (sym st.1) ok, st.3 ∙ sym m, subst (λ (o : Open). StaysOpen v.own (open_of v.number o)) (sym st.4) own, st.4 ∙ sym l)
+      found all now op o hs vs unborn st e m l n ok own = absurd (n o Making tt st.1)
+      found all now op o hs vs out st e m l n ok own = absurd (n o Holding tt st)
 
   pub closes_at : (id : ℕ) (v : View) (ws : List ℕ) (xs : List (Option V)) → Final (Seen (Rule log opened legal mark left_open key) id v) ws xs → v.stage ≡ Idle → v.held + v.spare ≡ 4294967295 → (y : Option V) → get_elem? xs 0 ≡ some y
-      → (x : V) × (y ≡ Some x) × (log x ≡ v.seen) × (opened x ≡ opened key) × legal (opened key) (log x) × (mark x ≡ v.mark) × StaysOpen v.own (open_of v.number (left_open x))
+      → (x : V) × (y ≡ Some x) × (log x ≡ v.seen) × (opened x ≡ opened key) × legal (opened key) (log x) × (mark x ≡ v.mark) × StaysOpen v.own (open_of v.number (left_open x)) × (left_open x ≡ v.found)
   closes_at id v ws xs fin idle all_of y at = let c = closes fin.0 fin.1.0 id v fin.1.1 idle all_of in
-      (c.0, some-injective y (Some c.0) (sym at ∙ fin.4 0 (Some c.0) c.1), c.2, c.3, c.4, c.5, c.6)
+      (c.0, some-injective y (Some c.0) (sym at ∙ fin.4 0 (Some c.0) c.1), c.2, c.3, c.4, c.5, c.6, c.7)
 
 first_view : List View → View → View
 first_view [] d = d
@@ -267,6 +269,7 @@ pub record FreeView (desk : DeskId) (p : Pass) (w : View) : Type 0 where
   pub held : stands_for p ≡ w.held
   pub mark : mark_of p ≡ w.mark
   pub left : left_by p ≡ w.own
+  pub all_left : all_left_by p ≡ w.found
 
 pub free_view : (desk : DeskId) (p : Pass) (w : View) → IsFree desk p → p.badge.views ≡ w ∷ [] → FreeView desk p w
 unfolding first_view
@@ -279,6 +282,7 @@ free_view desk p w f e = let same : f.0 ≡ w = ap (λ l. first_view l w) (sym f
   held = ap held_in e;
   mark = ap mark_in e;
   left = ap own_in e;
+  all_left = ap found_in e;
 }
 
 -- what was told of a pass that took in another, of the two

@@ -21,3 +21,7 @@ AreGiven next open_now = (caller : ℕ) → next ≤ caller → open_of caller o
 -- the mark of the later of two turns, the first where they are one
 abbrev pub later_mark : ℕ → ℕ → Mark → Mark → Mark
 later_mark turn other a b = cond (nat_lt turn other) b a
+
+-- what the later of two turns left open, the first where they are one
+abbrev pub later_open : ℕ → ℕ → Open → Open → Open
+later_open turn other a b = cond (nat_lt turn other) b a

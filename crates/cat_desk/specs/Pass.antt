@@ -39,6 +39,10 @@ abbrev pub own_in : List View → Open
 own_in [] = nothing_open
 own_in (v ∷ vs) = v.own
 
+abbrev pub found_in : List View → Open
+found_in [] = nothing_open
+found_in (v ∷ vs) = v.found
+
 -- the number of a pass, which the entries that its caller adds carry
 abbrev pub number_of : Pass → ℕ
 number_of p = p.number
@@ -66,9 +70,13 @@ mark_of p = mark_in p.badge.views
 abbrev pub turn_of : Pass → ℕ
 turn_of p = turn_in p.badge.views
 
--- what its last turn left open
+-- what its last turn left open of its caller
 abbrev pub left_by : Pass → Open
 left_by p = own_in p.badge.views
+
+-- what was left open in all by the turn that left the mark that it holds
+abbrev pub all_left_by : Pass → Open
+all_left_by p = found_in p.badge.views
 
 -- the pass has no turn
 abbrev pub HasNoTurn : Pass → Type 0
@@ -82,12 +90,13 @@ IsFree desk p = (v : View) × (p.badge.views ≡ v ∷ []) × (p.badge.table_id 
 abbrev pub IsTurn : {V : Type 0} → DeskId → Pass → Held V → Type 0
 IsTurn desk p h = (p.badge.views ≡ []) × (h.seat.table_id ≡ desk.table) × (h.seat.me.1 ≡ (0, None) ∷ []) × (h.seat.me.0.stage ≡ Holding) × (h.seat.me.0.origin ≡ Some (desk.opened, desk.begun)) × (h.seat.me.0.number ≡ p.number) × (h.seat.me.0.ticket ≡ h.ticket) × (h.ticket + 1 < 2 ^ 64) × (h.seat.me.0.spare ≡ p.spare)
 
--- one pass has seen as much as another, and holds the mark of the same turn
+-- one pass has seen as much as another, and holds what the same turn left
 pub record Remembers (p q : Pass) : Type 0 where
   pub seen : seen q ≡ seen p
   pub known : known q ≡ known p
   pub mark : mark_of q ≡ mark_of p
   pub turn : turn_of q ≡ turn_of p
+  pub all_left : all_left_by q ≡ all_left_by p
 
 -- the value as it was found
 abbrev pub found : {V : Type 0} → DeskId → Held V → Snapshot

@@ -11,7 +11,7 @@ use Rattle.cat_model.specs.Mark.{Mark, Grows}
 use Rattle.cat_model.specs.Turns.{Opened}
 use Rattle.cat_desk.specs.Sight.{Origin, Stage, Idle, Making, Waiting, Called, Holding, Leaving, Spent, View, blank}
 use Rattle.cat_desk.specs.Log.{BeginsWith, Follows, Missed, Since, longer}
-use Rattle.cat_desk.specs.Marks.{Linked, IsGiven, AreGiven, later_mark}
+use Rattle.cat_desk.specs.Marks.{Linked, IsGiven, AreGiven, later_mark, later_open}
 
 -- where the value is: at home, not yet there, or out with the seat whose turn it is
 pub data Place (V : Type 0) : Type 0 where
@@ -96,13 +96,14 @@ pub record InLine (all : List LogEntry) (tickets serving : ℕ) (owner : ℕ →
   pub alone : IsAlone d.stage → d.seen ≡ all
   pub making : IsMaking d.stage → fresh
 
--- the mark that it holds, and what it left open
+-- the mark that it holds, and what it left open: while the turn that left the mark is the last, all that is open is what was left then
 pub record Marked (last : ℕ) (marks : ℕ → Mark) (opens : Open) (d : View) : Type 0 where
   pub turn : d.turn ≤ last
   pub mark : d.mark ≡ marks d.turn
   pub linked : Linked d.number d.mark (marks last)
   pub own : StaysOpen d.own (open_of d.number opens)
-  pub whole : IsAlone d.stage → (d.turn ≡ last) × (d.found ≡ opens)
+  pub whole : d.turn ≡ last → d.found ≡ opens
+  pub current : IsAlone d.stage → d.turn ≡ last
 
 -- what the rule says of one pass
 pub record Fits (base : Origin) (all : List LogEntry) (tickets serving next keeper : ℕ) (owner named : ℕ → ℕ) (fresh : Type 0) (last : ℕ) (marks : ℕ → Mark) (opens : Open) (seat : ℕ) (d : View) : Type 0 where
@@ -199,7 +200,7 @@ split_off v = record v { number = 4294967296 - v.spare; spare = 0; held = 1; own
 
 -- a pass that took in another, and what is left of that
 abbrev pub joined : View → View → View
-joined v w = record v { mark = later_mark v.turn w.turn v.mark w.mark; turn = max v.turn w.turn; seen = longer v.seen w.seen; known = max v.known w.known; spare = max v.spare w.spare; held = v.held + w.held; parts = (v.seen, w.seen) }
+joined v w = record v { mark = later_mark v.turn w.turn v.mark w.mark; found = later_open v.turn w.turn v.found w.found; turn = max v.turn w.turn; seen = longer v.seen w.seen; known = max v.known w.known; spare = max v.spare w.spare; held = v.held + w.held; parts = (v.seen, w.seen) }
 
 abbrev pub nobody : View
 nobody = blank Spent
@@ -238,8 +239,8 @@ module _ {V : Type 0} where
 
     -- what is told of the value that was taken
     abbrev pub Found : Me (Option V) View → Me (Option V) View → V → Type 0
-    Found m n v = (n.1 ≡ (0, Some v) ∷ []) × (n.0 ≡ finding m.0 (log v) (mark v) (left_open v) n.0.turn) × Follows m.0.number m.0.seen (log v) × (m.0.known ≤ length (log v)) × Begins m.0.origin v × (m.0.turn ≤ n.0.turn) × (n.0.turn ≡ m.0.turn → mark v ≡ m.0.mark) × Linked m.0.number m.0.mark (mark v) × StaysOpen m.0.own (open_of m.0.number (left_open v))
-        × (m.0.held + m.0.spare ≡ 4294967295 → (log v ≡ m.0.seen) × (mark v ≡ m.0.mark))
+    Found m n v = (n.1 ≡ (0, Some v) ∷ []) × (n.0 ≡ finding m.0 (log v) (mark v) (left_open v) n.0.turn) × Follows m.0.number m.0.seen (log v) × (m.0.known ≤ length (log v)) × Begins m.0.origin v × (m.0.turn ≤ n.0.turn) × (n.0.turn ≡ m.0.turn → (mark v ≡ m.0.mark) × (left_open v ≡ m.0.found)) × Linked m.0.number m.0.mark (mark v) × StaysOpen m.0.own (open_of m.0.number (left_open v))
+        × (m.0.held + m.0.spare ≡ 4294967295 → (log v ≡ m.0.seen) × (mark v ≡ m.0.mark) × (left_open v ≡ m.0.found))
 
     abbrev pub TookAt : Me (Option V) View → Me (Option V) View → Stage → Type 0
     TookAt m n Called = (v : V) × Found m n v

@@ -19,7 +19,7 @@ pub data Stage : Type 0 where
   Leaving : Stage
   Spent : Stage
 
--- the log that was seen, how many entries are known of, the caller's number, how many passes may still be split off and how many it stands for; the mark and the number of the turn that left it; what the last turn left open of the caller, and what was open in all as the value was found; what the two passes had seen of which it was last made
+-- the log that was seen, how many entries are known of, the caller's number, how many passes may still be split off and how many it stands for; the mark and the number of the turn that left it; what the last turn left open of the caller, and what that turn left open in all, or what was open in all as the value was found; what the two passes had seen of which it was last made
 pub record View : Type 0 where
   pub origin : Option Origin
   pub seen : List LogEntry

@@ -4,9 +4,9 @@ ghost use Rattle.cat_model.specs.Drafts.{nothing_open, open_of, StaysOpen};
 ghost use Rattle.cat_model.specs.Turns.{Acts, snapshot};
 ghost use Rattle.cat_desk.specs.Sight.{Waiting, Called};
 ghost use Rattle.cat_desk.specs.Log.{BeginsWith, Follows, longer};
-ghost use Rattle.cat_desk.specs.Marks.{Linked, later_mark};
+ghost use Rattle.cat_desk.specs.Marks.{Linked, later_mark, later_open};
 ghost use Rattle.cat_desk.specs.Rule.{at_stage, finding, Found};
-ghost use Rattle.cat_desk.specs.Pass.{IsFree, IsTurn, Keeps, seen, known, number_of, spare_of, stands_for, mark_of, turn_of, left_by, Remembers, found, held_for, found_turn};
+ghost use Rattle.cat_desk.specs.Pass.{IsFree, IsTurn, Keeps, seen, known, number_of, spare_of, stands_for, mark_of, turn_of, left_by, all_left_by, Remembers, found, held_for, found_turn};
 
 use crate::pass::{Held, Pass};
 use crate::plays::{
@@ -84,7 +84,8 @@ impl<V: Logged> Desk<V> {
             (λ t. (seen t.1 ≡ V.log value)
             × (known t.1 ≡ length (V.log value))
             × (mark_of t.1 ≡ V.mark value)
-            × (left_by t.1 ≡ nothing_open)) }
+            × (left_by t.1 ≡ nothing_open)
+            × (all_left_by t.1 ≡ V.left_open value)) }
         ensures number { IfOk result
             (λ t. (number_of t.1 ≡ 1) × (spare_of t.1 ≡ 4294967294) × (stands_for t.1 ≡ 1)) }
         ensures refused { IfErr result (λ e. e.0 ≡ value) }
@@ -134,11 +135,14 @@ impl<V: Logged> Desk<V> {
         ensures mark { Linked (number_of pass.old) (mark_of pass.old) (V.mark result.value)
             × (turn_of pass.old ≤ found_turn result) }
         ensures same { found_turn result ≡ turn_of pass.old
-            → V.mark result.value ≡ mark_of pass.old }
+            → (V.mark result.value ≡ mark_of pass.old)
+            × (V.left_open result.value ≡ all_left_by pass.old) }
         ensures own { StaysOpen (left_by pass.old)
             (open_of (number_of pass.old) (V.left_open result.value)) }
         ensures alone { stands_for pass.old + spare_of pass.old ≡ 4294967295
-            → (V.log result.value ≡ seen pass.old) × (V.mark result.value ≡ mark_of pass.old) }
+            → (V.log result.value ≡ seen pass.old)
+            × (V.mark result.value ≡ mark_of pass.old)
+            × (V.left_open result.value ≡ all_left_by pass.old) }
     {
         let badge = mem::replace(&mut pass.badge, Badge::blank());
         let mut seat = badge.into_seat::<Option<V>>();
@@ -165,7 +169,8 @@ impl<V: Logged> Desk<V> {
         ensures legal { V.legal self.now.opened (seen pass.new) }
         ensures mark { (mark_of pass.new ≡ V.mark held.value)
             × (turn_of pass.new ≡ found_turn held + 1) }
-        ensures left { left_by pass.new ≡ open_of (number_of pass.old) (V.left_open held.value) }
+        ensures left { (left_by pass.new ≡ open_of (number_of pass.old) (V.left_open held.value))
+            × (all_left_by pass.new ≡ V.left_open held.value) }
     {
         let Held {
             value,
@@ -237,7 +242,10 @@ impl<V: Logged> Desk<V> {
         ensures mark { (mark_of pass.new
             ≡ later_mark (turn_of pass.old) (turn_of other) (mark_of pass.old) (mark_of other))
             × (turn_of pass.new ≡ max (turn_of pass.old) (turn_of other)) }
-        ensures left { left_by pass.new ≡ left_by pass.old }
+        ensures left { (left_by pass.new ≡ left_by pass.old)
+            × (all_left_by pass.new
+            ≡ later_open (turn_of pass.old) (turn_of other) (all_left_by pass.old)
+            (all_left_by other)) }
         ensures sum { (stands_for pass.new ≡ stands_for pass.old + stands_for other)
             × (spare_of pass.new ≡ max (spare_of pass.old) (spare_of other)) }
     {
@@ -267,7 +275,8 @@ impl<V: Logged> Desk<V> {
         ensures legal { IfOk result
             (λ value. (V.opened value ≡ self.opened) × V.legal self.opened (V.log value)) }
         ensures own { IfOk result
-            (λ value. StaysOpen (left_by pass) (open_of (number_of pass) (V.left_open value))) }
+            (λ value. StaysOpen (left_by pass) (open_of (number_of pass) (V.left_open value))
+            × (V.left_open value ≡ all_left_by pass)) }
         ensures refused { IfErr result (λ e. (e.0 ≡ self) × (e.1 ≡ pass)) }
     {
         let Desk { table } = self;

@@ -15,3 +15,4 @@ pub mod Merging
 pub mod Transplanting
 pub mod Again
 pub mod Sweeping
+pub mod Collecting

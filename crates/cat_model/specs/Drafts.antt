@@ -8,6 +8,9 @@ pub record Names : Type 0 where
   pub commits : List Hash
   pub contents : List Hash
 
+abbrev pub no_names : Names
+no_names = record { commits = []; contents = [] }
+
 -- a draft's or a sweep's running number, its caller, and the place of its opening
 pub record Opening : Type 0 where
   pub number : ℕ

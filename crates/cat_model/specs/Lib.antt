@@ -25,7 +25,6 @@ pub mod Step
 pub mod Answer
 pub mod Calls
 pub mod Book
-pub mod Requests
 pub mod Distinct
 pub mod WellMade
 pub mod Listing
@@ -38,6 +37,7 @@ pub mod Later
 pub mod Naming
 pub mod Sweeps
 pub mod Past
+pub mod Requests
 pub mod Walks
 pub mod Fronts
 pub mod Cutoffs

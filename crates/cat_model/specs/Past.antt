@@ -1,12 +1,14 @@
--- The states that the entries of a book led through.
+-- The states that the entries of a book led through, and a sweep after them.
 use Rattle.std.specs.Prelude.{ℕ, List, [], ◌∷◌}
+use Rattle.cat_model.specs.declared.cutoff.Resolved.{Resolved}
 use Rattle.cat_model.specs.declared.log_entry.Action.{Action}
 use Rattle.cat_model.specs.declared.log_entry.Action.TheVariants as actions
 use Rattle.cat_model.specs.declared.log_entry.LogEntry.{LogEntry}
 use Rattle.cat_model.specs.Book.{Book}
 use Rattle.cat_model.specs.Calls.{Called, attempt, in_draft}
+use Rattle.cat_model.specs.Drafts.{Names}
 use Rattle.cat_model.specs.State.{Digest, State}
-use Rattle.cat_model.specs.Sweeps.{sweep_call}
+use Rattle.cat_model.specs.Sweeps.{sweep_call, sweep_of}
 
 -- a state, and those before it, the newest first
 pub record Course : Type 0 where
@@ -30,3 +32,7 @@ course digest base (entry ∷ older) = after_one digest (course digest base olde
 -- the states before a book's
 unfoldable pub past_of : Digest → Book → List State
 past_of digest book = (course digest book.base book.log).past
+
+-- what a sweep of a caller at a moment brings on a book, at which it was opened, and to which drafts gave these names
+abbrev pub swept_on : Digest → ℕ → Book → Resolved → Names → ℕ → Called
+swept_on digest caller book policy names moment = sweep_call caller book.state (past_of digest book) book.draft moment (sweep_of book.state.place policy names)

@@ -22,4 +22,3 @@ pub mod reference;
 pub mod refusal;
 pub mod reply;
 pub mod sweep;
-pub mod wanted;

@@ -1,2 +1,3 @@
 pub mod AllOf
+pub mod Fit
 pub mod Rows

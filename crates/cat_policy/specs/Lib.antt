@@ -1,3 +1,4 @@
 pub mod Times
 pub mod GivenCutoffs
 pub mod Policies
+pub mod PolicyLaws

@@ -1,15 +1,16 @@
 -- Policies as words and JSON ask for them, and what they come to at a moment.
-use Rattle.std.specs.Prelude.{ℕ, ◌==◌, ◌≤◌, List, [], ◌∷◌, length, map, Option, Some, None, is_some, Bool, nat_lt, if◌then◌else◌, codes}
-use Rattle.std.specs.List.{after_first, before_first, position}
+use Rattle.std.specs.Prelude.{ℕ, ◌==◌, ◌≤◌, ◌&&◌, List, [], ◌∷◌, length, map, Option, Some, None, is_some, Bool, true, IsTrue, nat_lt, if◌then◌else◌, codes}
+use Rattle.std.specs.List.{after_first, before_first, list_all, position}
 use Rattle.serde_json.specs.Data.{Data}
 use Rattle.serde_json.specs.Find.{as_object, as_str}
 use Rattle.cat_json.specs.Reading.{◌>>=◌, defaulted, list_as, required}
-use Rattle.cat_model.specs.declared.cutoff.Cutoff.TheVariants.{All}
+use Rattle.cat_model.specs.declared.cutoff.Cutoff.{Cutoff}
+use Rattle.cat_model.specs.declared.cutoff.Cutoff.TheVariants.{All, Commits, Since}
 use Rattle.cat_model.specs.declared.cutoff.Pattern.{Pattern}
 use Rattle.cat_model.specs.declared.cutoff.Resolved.{Resolved}
 use Rattle.cat_model.specs.Cutoffs.{pattern_of}
 use Rattle.cat_policy.specs.declared.given.GivenCutoff.{GivenCutoff}
-use Rattle.cat_policy.specs.declared.given.GivenCutoff.TheVariants.{Fixed}
+use Rattle.cat_policy.specs.declared.given.GivenCutoff.TheVariants.{Fixed, Back}
 use Rattle.cat_policy.specs.declared.policy.Policy.{Policy}
 use Rattle.cat_policy.specs.GivenCutoffs.{cutoff_as, cutoff_at, cutoff_of}
 
@@ -20,6 +21,20 @@ Rule = Pattern × GivenCutoff
 -- at most 1,000 patterns
 abbrev pub HasFew : Policy → Type 0
 HasFew policy = length policy.cutoffs ≤ 1000
+
+-- a number of commits isn't 0
+abbrev pub counts : Cutoff → Bool
+counts All = true
+counts (Commits count) = nat_lt 0 count
+counts (Since moment) = true
+
+abbrev pub given_counts : GivenCutoff → Bool
+given_counts (Fixed cutoff) = counts cutoff
+given_counts (Back length) = true
+
+-- no number of commits that is asked for is 0
+abbrev pub HasCounts : Policy → Type 0
+HasCounts policy = IsTrue (given_counts policy.default && list_all (λ x. given_counts x.1) policy.cutoffs)
 
 -- the policy of a default and rules, unless these are too many
 abbrev pub policy_with : GivenCutoff → List Rule → Option Policy
@@ -77,3 +92,7 @@ resolved moment policy = record {
   default = cutoff_at moment policy.default;
   cutoffs = map (λ x. (x.0, cutoff_at moment x.1)) policy.cutoffs;
 }
+
+-- no number of commits in it is 0
+abbrev pub ResolvedCounts : Resolved → Type 0
+ResolvedCounts policy = IsTrue (counts policy.default && list_all (λ x. counts x.1) policy.cutoffs)

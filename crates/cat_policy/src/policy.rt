@@ -4,7 +4,7 @@ ghost use Rattle.std.specs.Prelude.{◌≡◌, IfOk, map};
 ghost use Rattle.serde_json.specs.View.{view};
 ghost use Rattle.cat_json.specs.Reading.{Gives};
 ghost use Rattle.cat_model.specs.Cutoffs.{pattern_of};
-ghost use Rattle.cat_policy.specs.Policies.{HasFew, all_of, pattern_as, policy_as, policy_of, policy_with, resolved, rule_as, rule_of};
+ghost use Rattle.cat_policy.specs.Policies.{HasCounts, HasFew, all_of, pattern_as, policy_as, policy_of, policy_with, resolved, rule_as, rule_of};
 
 use crate::given::GivenCutoff;
 use cat_codes::fault::NoMemory;
@@ -69,8 +69,7 @@ fn policy_with(
     default: GivenCutoff,
     cutoffs: Seq<(Pattern, GivenCutoff)>,
 ) -> Result<Policy, JsonFault>
-    ensures reading { Gives result (policy_with default cutoffs) }
-    ensures few { IfOk result HasFew }
+    ensures { Gives result (policy_with default cutoffs) }
 {
     if cutoffs.len() > MOST_PATTERNS {
         return Err(JsonFault::Bad);
@@ -109,39 +108,55 @@ impl ReadForm for RuleForm {
     }
 }
 
+fn policy_of_words(alloc: Global, default: &str, rules: &[&str]) -> Result<Policy, JsonFault>
+    ensures { Gives result (policy_of default.now (map (λ rule. rule.now) rules.now)) }
+{
+    match GivenCutoff::parse(default) {
+        Some(default) => {
+            let cutoffs = rules_in(alloc, rules)?;
+            policy_with(default, cutoffs)
+        }
+        None => Err(JsonFault::Bad),
+    }
+}
+
+#[tactic(auto, unfolding(crate::specs::Policies::policy_as))]
+fn policy_of_json(alloc: Global, value: &Value) -> Result<Policy, JsonFault>
+    ensures { Gives result (policy_as (view value.now)) }
+{
+    if value.as_object().is_none() {
+        return Err(JsonFault::Bad);
+    }
+    let all = GivenCutoff::Fixed(Cutoff::All);
+    let default = defaulted::<GivenCutoff>(alloc, value, "defaultCutoff", all)?;
+    let none = Seq::new(alloc);
+    let cutoffs = defaulted::<Seq<RuleForm>>(alloc, value, "cutoffs", none)?;
+    policy_with(default, cutoffs)
+}
+
 impl Policy {
     /// The policy of the words of a command line: the default cutoff, and any number of
     /// `PATTERN=CUTOFF`, each cut at its first sign. `Bad` where a pattern or a cutoff has no
     /// reading, and for more than 1,000 patterns.
+    #[tactic(auto, using(crate::proofs::Fit::words_few, crate::proofs::Fit::words_count))]
     pub fn parse(alloc: Global, default: &str, rules: &[&str]) -> Result<Policy, JsonFault>
         ensures reading { Gives result (policy_of default.now (map (λ rule. rule.now) rules.now)) }
         ensures few { IfOk result HasFew }
+        ensures counts { IfOk result HasCounts }
     {
-        match GivenCutoff::parse(default) {
-            Some(default) => {
-                let cutoffs = rules_in(alloc, rules)?;
-                policy_with(default, cutoffs)
-            }
-            None => Err(JsonFault::Bad),
-        }
+        policy_of_words(alloc, default, rules)
     }
 
     /// The policy of a JSON object. `defaultCutoff` is a cutoff, and `NONE` where it is absent or
     /// null; `cutoffs` is an array of objects with the strings `pattern` and `cutoff`, and empty
     /// where it is absent or null. `Bad` for anything else, and for more than 1,000 patterns.
-    #[tactic(auto, unfolding(crate::specs::Policies::policy_as))]
+    #[tactic(auto, using(crate::proofs::Fit::json_few, crate::proofs::Fit::json_count))]
     pub fn from_json(alloc: Global, value: &Value) -> Result<Policy, JsonFault>
         ensures reading { Gives result (policy_as (view value.now)) }
         ensures few { IfOk result HasFew }
+        ensures counts { IfOk result HasCounts }
     {
-        if value.as_object().is_none() {
-            return Err(JsonFault::Bad);
-        }
-        let all = GivenCutoff::Fixed(Cutoff::All);
-        let default = defaulted::<GivenCutoff>(alloc, value, "defaultCutoff", all)?;
-        let none = Seq::new(alloc);
-        let cutoffs = defaulted::<Seq<RuleForm>>(alloc, value, "cutoffs", none)?;
-        policy_with(default, cutoffs)
+        policy_of_json(alloc, value)
     }
 
     /// What is kept at a moment.

@@ -1,5 +1,5 @@
--- Each change that a request wants is a command that is well made.
-use Rattle.std.proofs.Common.{◌≡◌, ℕ, List, Bool, true, Option, Some, None, Result, Ok, Err, IfOk, IsTrue, refl, ap, subst, sym, ◌∙◌, codes, length, nat_eq, eq-eqb, bytes_eq}
+-- Each change that a request wants is a command that is well made, and each policy is fit.
+use Rattle.std.proofs.Common.{◌≡◌, ℕ, List, Bool, true, Option, Some, None, Result, Ok, Err, IfOk, IfSome, IsTrue, refl, ap, subst, sym, ◌∙◌, codes, length, nat_eq, eq-eqb, bytes_eq}
 use Rattle.std.specs.List.{list_all}
 use Rattle.serde_json.specs.Data.{Data}
 use Rattle.serde_json.specs.Find.{get}
@@ -24,13 +24,14 @@ use Rattle.cat_model.specs.declared.refusal.Reason.{Reason}
 use Rattle.cat_model.specs.declared.refusal.Reason.TheVariants.{BadPath, BadQuery, BadBody}
 use Rattle.cat_model.specs.declared.refusal.Refusal.{Refusal}
 use Rattle.cat_model.specs.declared.refusal.Refused.{Refused}
-use Rattle.cat_model.specs.declared.wanted.Wanted.{Wanted}
-use Rattle.cat_model.specs.declared.wanted.Wanted.TheVariants.{Read}
+use Rattle.cat_policy.specs.declared.policy.Policy.{Policy}
+use Rattle.cat_policy.specs.Policies.{HasCounts, HasFew, policy_as}
+use Rattle.cat_policy.specs.PolicyLaws.{IsFit, json_fit}
 use Rattle.cat_routes.specs.Parts.{escaped}
 use Rattle.cat_routes.specs.Table.{Match, found_in}
 use Rattle.cat_routes.specs.declared.routes.Route.TheVariants as routes
 use Rattle.cat_rest.specs.Bodies.{ops_of, contents_of, commit_as}
-use Rattle.cat_rest.specs.Changes.{create, assign, delete, commit, create_at, assign_at, delete_at, commit_at, merge_at, transplant_at}
+use Rattle.cat_rest.specs.Changes.{create, assign, delete, commit, create_at, assign_at, delete_at, commit_at, merge_at, transplant_at, collect_at}
 use Rattle.cat_rest.specs.Faults.{◌>>!◌, or_bad, Answers}
 use Rattle.cat_rest.specs.MergeBodies.{manner_as, merge_as, merge}
 use Rattle.cat_rest.specs.Operations.{op_as}
@@ -46,6 +47,8 @@ use Rattle.cat_rest.specs.declared.merge.MergeBody.{MergeBody}
 use Rattle.cat_rest.specs.declared.path.PathReference.{PathReference}
 use Rattle.cat_rest.specs.declared.source.Source.{Source}
 use Rattle.cat_rest.specs.declared.transplant.TransplantBody.{TransplantBody}
+use Rattle.cat_rest.specs.declared.wanted.Wanted.{Wanted}
+use Rattle.cat_rest.specs.declared.wanted.Wanted.TheVariants.{Read}
 use Rattle.cat_rest.proofs.Options.{step, picked, chosen, joined}
 use Rattle.cat_rest.proofs.Points.{source_points}
 use Rattle.cat_rest.proofs.Ready.{is_ready, list_ready, paired_again, puts_have, all_made}
@@ -179,6 +182,17 @@ transplant_served part body =
     through (or_bad BadPath (reference_at part)) _ (λ at e.
     through (or_bad BadBody (body_as transplant_as body)) _ (λ asked e. moved_is_well at body asked e))
 
+-- ---- so is a policy
+
+policy_is_fit : (body : List ℕ) (policy : Policy) → or_bad BadBody (body_as policy_as body) ≡ Ok policy → HasFew policy × HasCounts policy
+policy_is_fit body policy e =
+    let o = read_well (body_as policy_as body) policy e in
+    let d = step (json_of body) policy_as policy o in
+    subst (λ (p : Option Policy). IfSome p IsFit) d.2 (json_fit d.0)
+
+collect_served : (body : List ℕ) → AreServed (collect_at body)
+collect_served body = through (or_bad BadBody (body_as policy_as body)) _ (λ policy e. policy_is_fit body policy e)
+
 -- ---- and each read
 
 pointed_served : {A : Type 0} (part : Option (List ℕ)) (reason : Reason) (o : Pointer → Option A) (f : Pointer → A → Ask) → AreServed (or_bad BadPath (pointer_at part) >>! λ at. or_bad reason (o at) >>! λ x. Ok (Read (f at x)))
@@ -216,6 +230,7 @@ read_served (routes.Content, parts) r = pointed_served parts.0 BadPath (λ at. k
 read_served (routes.Commit, parts) r = commit_served parts.0 r.body
 read_served (routes.Merge, parts) r = merge_served parts.0 r.body
 read_served (routes.Transplant, parts) r = transplant_served parts.0 r.body
+read_served (routes.Sweep, parts) r = collect_served r.body
 
 route_served : (found : Option Match) (r : Message) → AreServed (by_route found r)
 route_served None r = tt

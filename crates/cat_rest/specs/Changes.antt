@@ -9,8 +9,7 @@ use Rattle.cat_model.specs.declared.command.Delete.{Delete}
 use Rattle.cat_model.specs.declared.reference.Kind.{Kind}
 use Rattle.cat_model.specs.declared.refusal.Reason.TheVariants.{BadPath, BadQuery, BadBody}
 use Rattle.cat_model.specs.declared.refusal.Refusal.{Refusal}
-use Rattle.cat_model.specs.declared.wanted.Wanted.{Wanted}
-use Rattle.cat_model.specs.declared.wanted.Wanted.TheVariants.{Change}
+use Rattle.cat_policy.specs.Policies.{policy_as}
 use Rattle.cat_rest.specs.Bodies.{commit_as}
 use Rattle.cat_rest.specs.Faults.{◌>>!◌, or_bad}
 use Rattle.cat_rest.specs.MergeBodies.{merge_as, merge}
@@ -21,6 +20,8 @@ use Rattle.cat_rest.specs.TransplantBodies.{transplant_as, transplant}
 use Rattle.cat_rest.specs.declared.commit.CommitBody.{CommitBody}
 use Rattle.cat_rest.specs.declared.path.PathReference.{PathReference}
 use Rattle.cat_rest.specs.declared.source.Source.{Source}
+use Rattle.cat_rest.specs.declared.wanted.Wanted.{Wanted}
+use Rattle.cat_rest.specs.declared.wanted.Wanted.TheVariants.{Change, Collect}
 
 abbrev pub create : List ℕ → Kind → Source → Create
 create name kind source = record { name = name; kind = kind; source = source.at; source_kind = source.kind }
@@ -77,3 +78,9 @@ transplant_at part body =
     or_bad BadPath (reference_at part) >>! λ at.
     or_bad BadBody (body_as transplant_as body) >>! λ asked.
     Ok (Change (commands.Transplant (transplant at asked)))
+
+-- a collection by a policy: its route has no parameters, and a query has no effect
+abbrev pub collect_at : List ℕ → Result Wanted Refusal
+collect_at body =
+    or_bad BadBody (body_as policy_as body) >>! λ policy.
+    Ok (Collect policy)

@@ -6,12 +6,12 @@ use Rattle.cat_json.specs.Reading.{required, list_as, body_as}
 use Rattle.cat_model.specs.declared.ask.Ask.TheVariants as asks
 use Rattle.cat_model.specs.declared.refusal.Reason.TheVariants.{BadPath, BadQuery, BadBody}
 use Rattle.cat_model.specs.declared.refusal.Refusal.{Refusal}
-use Rattle.cat_model.specs.declared.wanted.Wanted.{Wanted}
-use Rattle.cat_model.specs.declared.wanted.Wanted.TheVariants.{Read}
 use Rattle.cat_names.specs.Fields.{Key}
 use Rattle.cat_rest.specs.Faults.{◌>>!◌, or_bad}
 use Rattle.cat_rest.specs.Paths.{pointer_at, key_at}
 use Rattle.cat_rest.specs.Queries.{references_asked, entries_asked, history_asked, contents_asked}
+use Rattle.cat_rest.specs.declared.wanted.Wanted.{Wanted}
+use Rattle.cat_rest.specs.declared.wanted.Wanted.TheVariants.{Read}
 
 -- a page of the references
 abbrev pub references_at : List ℕ → Result Wanted Refusal

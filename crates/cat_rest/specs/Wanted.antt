@@ -8,14 +8,16 @@ use Rattle.cat_model.specs.declared.refusal.Allowed.{Allowed}
 use Rattle.cat_model.specs.declared.refusal.Allowed.TheVariants.{Get, Post, GetPost, GetPutDelete}
 use Rattle.cat_model.specs.declared.refusal.Refusal.{Refusal}
 use Rattle.cat_model.specs.declared.refusal.Refusal.TheVariants.{NoRoute, WrongMethod, Encoding}
-use Rattle.cat_model.specs.declared.wanted.Wanted.{Wanted}
-use Rattle.cat_model.specs.declared.wanted.Wanted.TheVariants.{Read}
+use Rattle.cat_model.specs.Requests as requests
+use Rattle.cat_policy.specs.Policies.{resolved}
 use Rattle.cat_routes.specs.Parts.{escaped}
 use Rattle.cat_routes.specs.Table.{Match, found_in}
 use Rattle.cat_routes.specs.declared.routes.Route.{Route}
 use Rattle.cat_routes.specs.declared.routes.Route.TheVariants as routes
-use Rattle.cat_rest.specs.Changes.{create_at, assign_at, delete_at, commit_at, merge_at, transplant_at}
+use Rattle.cat_rest.specs.Changes.{create_at, assign_at, delete_at, commit_at, merge_at, transplant_at, collect_at}
 use Rattle.cat_rest.specs.Reads.{references_at, reference_at, entries_at, history_at, contents_at, requested_at, content_at}
+use Rattle.cat_rest.specs.declared.wanted.Wanted.{Wanted}
+use Rattle.cat_rest.specs.declared.wanted.Wanted.TheVariants.{Read, Change, Collect}
 
 -- the methods of a route
 abbrev pub methods_of : Route → Allowed
@@ -29,6 +31,7 @@ methods_of routes.Content = Get
 methods_of routes.Commit = Post
 methods_of routes.Merge = Post
 methods_of routes.Transplant = Post
+methods_of routes.Sweep = Post
 
 abbrev pub allows : Allowed → List ℕ → Bool
 allows Get method = bytes_eq method (codes "GET")
@@ -88,6 +91,7 @@ read_at (routes.Content, parts) r = content_at parts.0 parts.1
 read_at (routes.Commit, parts) r = commit_at parts.0 r.body
 read_at (routes.Merge, parts) r = merge_at parts.0 r.body
 read_at (routes.Transplant, parts) r = transplant_at parts.0 r.body
+read_at (routes.Sweep, parts) r = collect_at r.body
 
 -- the method comes first, then the encoding
 abbrev pub with_route : Match → Message → Result Wanted Refusal
@@ -103,3 +107,9 @@ by_route (Some found) r = with_route found r
 -- what a request wants, or the first that stands in its way
 unfoldable pub wanted : Message → Result Wanted Refusal
 wanted r = by_route (found_in (escaped (path_of r.target))) r
+
+-- the same, as the definitions of a session have it: a policy is that of the moment of its collection
+abbrev pub wants : Wanted → requests.Wants
+wants (Read ask) = requests.Read ask
+wants (Change command) = requests.Change command
+wants (Collect policy) = requests.Collect (λ moment. resolved moment policy)

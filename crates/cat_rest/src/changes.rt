@@ -1,7 +1,7 @@
 //! Requests that change.
 
 ghost use Rattle.std.specs.Prelude.{option_map};
-ghost use Rattle.cat_rest.specs.Changes.{create_at, assign_at, delete_at, commit_at, merge_at, transplant_at};
+ghost use Rattle.cat_rest.specs.Changes.{create_at, assign_at, delete_at, commit_at, merge_at, transplant_at, collect_at};
 ghost use Rattle.cat_rest.specs.Faults.{Answers};
 
 use crate::commit::{CommitBody, CommitForm};
@@ -11,11 +11,12 @@ use crate::path::reference_at;
 use crate::refused::{read_body, refused};
 use crate::source::SourceForm;
 use crate::transplant::{TransplantForm, transplant};
+use crate::wanted::Wanted;
 use cat_model::command::{Assign, Command, CommitRequest, Create, Delete};
 use cat_model::reference::Kind;
 use cat_model::refusal::{Refusal, Refused};
-use cat_model::wanted::Wanted;
 use cat_names::ref_name::RefName;
+use cat_policy::PolicyForm;
 use std::alloc::Global;
 
 /// A reference that is made at a source.
@@ -109,4 +110,12 @@ pub(crate) fn transplant_at(
     let at = reference_at(alloc, part)?;
     let asked = read_body::<TransplantForm>(alloc, body)?;
     Ok(Wanted::Change(Command::Transplant(transplant(at, asked))))
+}
+
+/// What references and drafts don't keep is removed, by a policy.
+pub(crate) fn collect_at(alloc: Global, body: &[u8]) -> Result<Wanted, Refused>
+    ensures { Answers result (collect_at body.now) }
+{
+    let policy = read_body::<PolicyForm>(alloc, body)?;
+    Ok(Wanted::Collect(policy))
 }

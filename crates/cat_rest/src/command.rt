@@ -6,15 +6,17 @@ ghost use Rattle.cat_rest.specs.Faults.{Answers};
 ghost use Rattle.cat_rest.specs.Served.{IsServed};
 ghost use Rattle.cat_rest.specs.Wanted.{methods_of, allows, query_start, path_of, query_of, trees_by, tree_by, contents_by, read_at, with_route, wanted};
 
-use crate::changes::{assign_at, commit_at, create_at, delete_at, merge_at, transplant_at};
+use crate::changes::{
+    assign_at, collect_at, commit_at, create_at, delete_at, merge_at, transplant_at,
+};
 use crate::reads::{
     content_at, contents_at, entries_at, history_at, reference_at, references_at, requested_at,
 };
 use crate::refused::refused;
+use crate::wanted::Wanted;
 use cat_http::Request;
 use cat_model::ask::Ask;
 use cat_model::refusal::{Allowed, Refusal, Refused};
-use cat_model::wanted::Wanted;
 use cat_routes::{Found, Path, Route, Routes};
 use std::alloc::Global;
 
@@ -32,6 +34,7 @@ fn methods_of(route: Route) -> Allowed
         Route::Commit => Allowed::Post,
         Route::Merge => Allowed::Post,
         Route::Transplant => Allowed::Post,
+        Route::Sweep => Allowed::Post,
     }
 }
 
@@ -122,6 +125,7 @@ fn read_at(alloc: Global, found: Found<'_>, request: &Request<'_>) -> Result<Wan
         Route::Commit => commit_at(alloc, part, request.body()),
         Route::Merge => merge_at(alloc, part, request.body()),
         Route::Transplant => transplant_at(alloc, part, request.body()),
+        Route::Sweep => collect_at(alloc, request.body()),
     }
 }
 

@@ -15,7 +15,9 @@ mod reads;
 mod refused;
 mod source;
 mod transplant;
+mod wanted;
 
 pub use cat_replies::{refusal_to_json, status_of, to_json};
 pub use cat_routes::Routes;
 pub use command::to_command;
+pub use wanted::Wanted;

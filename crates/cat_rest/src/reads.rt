@@ -7,12 +7,12 @@ ghost use Rattle.cat_rest.specs.Reads.{references_at, reference_at, entries_at, 
 use crate::path::{key_at, pointer_at};
 use crate::query::{contents_asked, entries_asked, history_asked, references_asked};
 use crate::refused::read_body;
+use crate::wanted::Wanted;
 use cat_codes::seq::Seq;
 use cat_json::fault::JsonFault;
 use cat_json::read::{ReadForm, required};
 use cat_model::ask::{Ask, ContentAsk, ContentsAsk};
 use cat_model::refusal::Refused;
-use cat_model::wanted::Wanted;
 use cat_names::key::ContentKey;
 use serde_json::Value;
 use std::alloc::Global;

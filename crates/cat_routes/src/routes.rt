@@ -32,6 +32,8 @@ pub enum Route {
     Merge,
     /// `/api/v2/trees/{reference}/history/transplant`
     Transplant,
+    /// `/gc/v1/sweep`
+    Sweep,
 }
 
 /// The route of a path, and what its parameters took, still escaped.
@@ -134,6 +136,7 @@ impl Routes {
             "/api/v2/trees/{reference}/history/transplant",
             Route::Transplant,
         )?;
+        add(&mut router, "/gc/v1/sweep", Route::Sweep)?;
         Ok(Routes { router })
     }
 

@@ -26,7 +26,7 @@ module _ (desk : DeskId) (taken : List ℕ) where
     pub takes : HasTaken taken c.standing t.after.standing
 
   pub made : (k : Readings) (c : Point) (left : ℕ) (m : Message) (rest bytes : List ℕ) (pass pass' : Pass) (held : Option (List ℕ)) (told : Result Told Refused)
-      → IsAsked desk c left m rest pass held → BeginsAt c.standing.readings k taken → SaysWith taken desk m pass told pass' → RepliesTo (asks_to_close m || left == 0) (is_head m) told bytes
+      → IsAsked desk c left m rest pass held → BeginsAt c.standing.session.readings k taken → SaysWith taken desk m pass told pass' → RepliesTo (asks_to_close m || left == 0) (is_head m) told bytes
       → (t : Turn) × IsMade k c left m rest bytes pass' t
   made k c left m rest bytes pass pass' held told asked begins says replies =
       let said = says k c.standing asked.pass_at begins in
@@ -45,7 +45,7 @@ module _ (desk : DeskId) (taken : List ℕ) where
 
   -- what the sink holds after the reply, or a front of it
   module _ (k : Readings) (c : Point) (left : ℕ) (m : Message) (rest bytes : List ℕ) (pass pass' : Pass) (held held' : Option (List ℕ)) (told : Result Told Refused)
-      (asked : IsAsked desk c left m rest pass held) (begins : BeginsAt c.standing.readings k taken) (says : SaysWith taken desk m pass told pass') (replies : RepliesTo (asks_to_close m || left == 0) (is_head m) told bytes) where
+      (asked : IsAsked desk c left m rest pass held) (begins : BeginsAt c.standing.session.readings k taken) (says : SaysWith taken desk m pass told pass') (replies : RepliesTo (asks_to_close m || left == 0) (is_head m) told bytes) where
     -- the request doesn't ask for the end
     pub goes_on : asks_to_close m ≡ false → Appends held held' bytes → (t : Turn) × IsAnswered desk taken k c left rest t pass' held'
     goes_on asks written =
@@ -96,7 +96,7 @@ module _ (desk : DeskId) (taken : List ℕ) where
 
   -- a request was answered by what must be told, and no memory is left for its text
   pub untold : (k : Readings) (c : Point) (left : ℕ) (m : Message) (rest : List ℕ) (pass pass' : Pass) (held : Option (List ℕ)) (told : Result Told Refused)
-      → IsAsked desk c left m rest pass held → BeginsAt c.standing.readings k taken → SaysWith taken desk m pass told pass' → must_be_told told ≡ true → LeavesAt desk taken k c ends.NoMemory pass' held
+      → IsAsked desk c left m rest pass held → BeginsAt c.standing.session.readings k taken → SaysWith taken desk m pass told pass' → must_be_told told ≡ true → LeavesAt desk taken k c ends.NoMemory pass' held
   untold k c left m rest pass pass' held told asked begins says must =
       let said = says k c.standing asked.pass_at begins in
       let close = asks_to_close m || left == 0 in

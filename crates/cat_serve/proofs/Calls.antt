@@ -1,10 +1,12 @@
--- What a changing call leaves of the last draft number.
-use Rattle.std.proofs.Common.{◌≡◌, ℕ, ◌+◌, ◌≤◌, max, [], ◌∷◌, None, Bool, true, false, nat_lt, if◌then◌else◌, Ok, Err, refl, arith}
+-- What calls and sweeps leave of the last draft number.
+use Rattle.std.proofs.Common.{◌≡◌, ℕ, ◌+◌, ◌≤◌, max, List, [], ◌∷◌, None, Bool, true, false, nat_lt, if◌then◌else◌, Ok, Err, refl, arith}
 use Rattle.cat_model.specs.declared.command.Command.{Command}
+use Rattle.cat_model.specs.declared.sweep.Sweep.{Sweep}
 use Rattle.cat_model.specs.State.{Digest, State}
 use Rattle.cat_model.specs.Refusing.{Tested, Outcome}
 use Rattle.cat_model.specs.Step.{Turn, opens_draft, step}
 use Rattle.cat_model.specs.Calls.{Called, attempt, call, entry_made, number_on, stepped, told_at, tried, unchanged_by}
+use Rattle.cat_model.specs.Sweeps.{step_sweep, swept_by, sweep_call}
 
 -- a number, or the next
 pub record IsNextAtMost (before after : ℕ) : Type 0 where
@@ -42,3 +44,14 @@ number_next last false = omega arith
 pub call_draft : (digest : Digest) (caller : ℕ) (state : State) (last : ℕ) (command : Command) (moment : ℕ) → IsNextAtMost last (call digest caller state last command moment).draft
 unfolding attempt
 call_draft digest caller state last command moment = tried_draft digest caller state last command _ _ (number_next last (opens_draft command))
+
+swept_draft : (caller : ℕ) (state : State) (draft moment : ℕ) (s : Sweep) (o : Outcome) → (swept_by caller state draft moment s o).draft ≡ draft
+swept_draft caller state draft moment s (Err why) = refl
+swept_draft caller state draft moment s (Ok (after, reply)) = refl
+
+-- a sweep takes none
+pub sweep_draft : (caller : ℕ) (state : State) (past : List State) (last moment : ℕ) (s : Sweep) → IsNextAtMost last (sweep_call caller state past last moment s).draft
+unfolding sweep_call
+sweep_draft caller state past last moment s =
+    let e = swept_draft caller state last moment s (step_sweep state past s) in
+    record { kept = omega (arith, e); taken = omega (arith, e) }

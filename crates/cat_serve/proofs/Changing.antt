@@ -1,15 +1,17 @@
--- A changing call tells a change, or it changes nothing.
-use Rattle.std.proofs.Common.{◌≡◌, ◌⊎◌, ⊎_elim, ℕ, ◌<◌, max, [], ◌∷◌, Ok, Err, Bool, true, false, nat_lt, if◌then◌else◌, refl, ◌∙◌, ap, inl, inr, arith}
+-- A changing call tells a change, or it changes nothing; and so does a sweep.
+use Rattle.std.proofs.Common.{◌≡◌, ◌⊎◌, ⊎_elim, ℕ, ◌+◌, ◌<◌, max, List, [], ◌∷◌, length, Ok, Err, Bool, true, false, nat_lt, if◌then◌else◌, refl, ◌∙◌, ap, inl, inr, arith}
 use Rattle.std.proofs.lemmas.Bool.{ltb-true}
 use Rattle.sha2.specs.Sha256.{sha256}
 use Rattle.cat_checks.specs.Changes.{tells_change}
 use Rattle.cat_checks.specs.LeadingLaws.{Follows, IsStep, is_step}
 use Rattle.cat_model.specs.declared.command.Command.{Command}
 use Rattle.cat_model.specs.declared.reply.Reply.{Reply}
+use Rattle.cat_model.specs.declared.sweep.Sweep.{Sweep}
 use Rattle.cat_model.specs.Calls.{Called, attempt, call, entry_made, stepped, told_at, tried, unchanged_by}
-use Rattle.cat_model.specs.Refusing.{Outcome, Tested}
+use Rattle.cat_model.specs.Refusing.{◌>>=◌, Outcome, Tested}
 use Rattle.cat_model.specs.State.{State}
 use Rattle.cat_model.specs.Step.{Turn, step}
+use Rattle.cat_model.specs.Sweeps.{names_in, needs_sweep_room, saved, since, step_sweep, swept, swept_by, sweep_call}
 use Rattle.cat_serve.specs.Replies.{must_be_told}
 
 -- ---- steps
@@ -72,3 +74,29 @@ tried_settles caller state last command turn (Ok x) = stepped_settles caller sta
 pub call_settles : (caller : ℕ) (state : State) (last : ℕ) (command : Command) (moment : ℕ) → Settles (call sha256 caller state last command moment) state
 unfolding attempt
 call_settles caller state last command moment = tried_settles caller state last command _ _
+
+-- ---- sweeps
+
+-- an accepted one tells a change
+abbrev TellsSweep : Outcome → Type 0
+TellsSweep (Ok x) = tells_change x.1 ≡ true
+TellsSweep (Err why) = Unit {0}
+
+behind_test : (t : Tested) (o : Outcome) → TellsSweep o → TellsSweep (t >>= λ _. o)
+behind_test (Err why) o tells = tt
+behind_test (Ok x) o tells = tells
+
+step_tells : (state : State) (past : List State) (s : Sweep) → TellsSweep (step_sweep state past s)
+unfolding step_sweep
+step_tells state past s =
+    behind_test (needs_sweep_room state (length s.commits + length s.contents))
+    (swept state s.opened (saved (since s.opened state past) state.commits s.policy (names_in s))) refl
+
+swept_settles : (caller : ℕ) (state : State) (draft moment : ℕ) (s : Sweep) (o : Outcome) → TellsSweep o → Settles (swept_by caller state draft moment s o) state
+swept_settles caller state draft moment s (Err why) tells = inr (record { state = refl; logged = refl })
+swept_settles caller state draft moment s (Ok (after, reply)) tells = inl tells
+
+-- a sweep tells a change, or changes nothing
+pub sweep_settles : (caller : ℕ) (state : State) (past : List State) (last moment : ℕ) (s : Sweep) → Settles (sweep_call caller state past last moment s) state
+unfolding sweep_call
+sweep_settles caller state past last moment s = swept_settles caller state last moment s (step_sweep state past s) (step_tells state past s)

@@ -15,15 +15,15 @@ begins_behind : (n : ℕ) (clock : Readings) (xs ys : List ℕ) → BeginsAt n c
 begins_behind n clock [] ys p = subst (λ (m : ℕ). BeginsAt m clock ys) (none_more n) p
 begins_behind n clock (x ∷ xs) ys (is, rest) = subst (λ (m : ℕ). BeginsAt m clock ys) (one_more n x xs) (begins_behind (n + 1) clock xs ys rest)
 
-pub begins_then : (clock : Readings) (xs ys : List ℕ) (s s' : Standing) → HasTaken xs s s' → BeginsAt s.readings clock (xs ++ ys) → BeginsAt s'.readings clock ys
-begins_then clock xs ys s s' takes p = subst (λ (m : ℕ). BeginsAt m clock ys) (sym takes) (begins_behind s.readings clock xs ys p)
+pub begins_then : (clock : Readings) (xs ys : List ℕ) (s s' : Standing) → HasTaken xs s s' → BeginsAt s.session.readings clock (xs ++ ys) → BeginsAt s'.session.readings clock ys
+begins_then clock xs ys s s' takes p = subst (λ (m : ℕ). BeginsAt m clock ys) (sym takes) (begins_behind s.session.readings clock xs ys p)
 
 pub takes_on : (xs ys : List ℕ) (a b c : Standing) → HasTaken xs a b → HasTaken ys b c → HasTaken (xs ++ ys) a c
 takes_on xs ys a b c one two =
     let long : length (xs ++ ys) ≡ length xs + length ys = length-append xs ys in
-    let first : b.readings ≡ a.readings + length xs = one in
-    let second : c.readings ≡ b.readings + length ys = two in
+    let first : b.session.readings ≡ a.session.readings + length xs = one in
+    let second : c.session.readings ≡ b.session.readings + length ys = two in
     omega (arith, long, first, second)
 
 pub takes_none : (s : Standing) → HasTaken [] s s
-takes_none s = none_more s.readings
+takes_none s = none_more s.session.readings

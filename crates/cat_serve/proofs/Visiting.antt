@@ -11,7 +11,7 @@ use Rattle.cat_model.specs.declared.log_entry.LogEntry.{LogEntry}
 use Rattle.cat_model.specs.declared.refusal.Refused.{Refused}
 use Rattle.cat_model.specs.declared.refusal.Refusal.{Refusal}
 use Rattle.cat_model.specs.declared.reply.Told.{Told}
-use Rattle.cat_model.specs.declared.wanted.Wanted.{Wanted}
+use Rattle.cat_rest.specs.declared.wanted.Wanted.{Wanted}
 use Rattle.cat_rest.specs.Wanted.{wanted}
 use Rattle.cat_serve.specs.Answers.{RepliesTo}
 use Rattle.cat_serve.specs.declared.ending.Session.{Session as End}

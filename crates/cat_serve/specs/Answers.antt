@@ -26,7 +26,7 @@ pub record Brings (clock : Readings) (s : Standing) (m : Message) (told : Result
 -- what a request brings where the pass stands so, by all readings that go on with those that were taken
 abbrev pub SaysWith : List ℕ → DeskId → Message → Pass → Result Told Refused → Pass → Type 0
 SaysWith taken desk m pass told pass' =
-    (clock : Readings) (s : Standing) → IsAt desk s pass → BeginsAt s.readings clock taken
+    (clock : Readings) (s : Standing) → IsAt desk s pass → BeginsAt s.session.readings clock taken
     → (b : Brought) × (s' : Standing) × Brings clock s m told b s' × IsAt desk s' pass' × HasTaken taken s s'
 
 -- what a pass and a clock do at a request

@@ -15,10 +15,13 @@ use Rattle.cat_model.specs.declared.refusal.Refusal.{Refusal}
 use Rattle.cat_model.specs.declared.refusal.Refusal.TheVariants.{BadRequest, TooLarge}
 use Rattle.cat_model.specs.declared.refusal.Refused.{Refused}
 use Rattle.cat_model.specs.declared.reply.Told.{Told}
-use Rattle.cat_model.specs.declared.wanted.Wanted.{Wanted}
-use Rattle.cat_model.specs.declared.wanted.Wanted.TheVariants.{Change, Read}
 use Rattle.cat_model.specs.Book.{Reads}
 use Rattle.cat_model.specs.Mark.{Grows}
+use Rattle.cat_policy.specs.declared.policy.Policy.{Policy}
+use Rattle.cat_policy.specs.Policies.{resolved}
+use Rattle.cat_collect.specs.Answers.{Answers as CollectionAnswers}
+use Rattle.cat_rest.specs.declared.wanted.Wanted.{Wanted}
+use Rattle.cat_rest.specs.declared.wanted.Wanted.TheVariants.{Change, Collect, Read}
 use Rattle.cat_rest.specs.Faults.{Answers as ByBytes}
 use Rattle.cat_rest.specs.Wanted.{wanted}
 use Rattle.cat_work.specs.Answers.{Answers, Knows}
@@ -37,6 +40,14 @@ pub record IsChange (desk : DeskId) (attempts : ℕ) (command : Command) (taken 
   pub moment : ℕ
   pub one : taken ≡ moment ∷ []
   pub answers : Answers desk (number_of p) command moment attempts (known p) (mark_of p) (mark_of q) (seen p) (seen q) told
+  pub knows : Knows p q told
+  pub grows : Grows (mark_of p) (mark_of q)
+
+-- a collection is made once, by its policy at the moment of one reading of the clock
+pub record IsCollection (desk : DeskId) (policy : Policy) (taken : List ℕ) (p q : Pass) (told : Result Told Refused) : Type 0 where
+  pub moment : ℕ
+  pub one : taken ≡ moment ∷ []
+  pub answers : CollectionAnswers desk (number_of p) (resolved moment policy) moment (known p) (mark_of p) (mark_of q) (seen p) (seen q) told
   pub knows : Knows p q told
   pub grows : Grows (mark_of p) (mark_of q)
 
@@ -60,6 +71,7 @@ pub record IsRefusal (wants : Result Wanted Refusal) (taken : List ℕ) (p q : P
 -- a call, by what is wanted
 abbrev pub IsCall : DeskId → ℕ → Result Wanted Refusal → List ℕ → Pass → Pass → Result Told Refused → Type 0
 IsCall desk attempts (Ok (Change command)) taken p q told = IsChange desk attempts command taken p q told
+IsCall desk attempts (Ok (Collect policy)) taken p q told = IsCollection desk policy taken p q told
 IsCall desk attempts (Ok (Read ask)) taken p q told = IsReading desk ask taken p q told
 IsCall desk attempts (Err why) taken p q told = ⊥
 

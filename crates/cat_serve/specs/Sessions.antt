@@ -6,17 +6,17 @@ use Rattle.cat_model.specs.declared.log_entry.LogEntry.{LogEntry}
 use Rattle.cat_model.specs.declared.refusal.Refusal.{Refusal}
 use Rattle.cat_model.specs.declared.refusal.Refusal.TheVariants.{BadRequest, Down, Fault, TooLarge}
 use Rattle.cat_model.specs.declared.refusal.Reason.TheVariants.{BadHead}
-use Rattle.cat_model.specs.declared.wanted.Wanted.{Wanted}
-use Rattle.cat_model.specs.declared.wanted.Wanted.TheVariants.{Change}
-use Rattle.cat_model.specs.Book.{Book}
-use Rattle.cat_model.specs.Requests.{Session, Brought, IsGivenUp, MayBring, request}
+use Rattle.cat_model.specs.Drafts.{nothing_open}
+use Rattle.cat_model.specs.Requests.{Session, Brought, IsGivenUp, MayBring, Wants, request}
 use Rattle.cat_http.specs.Message.{Message}
 use Rattle.cat_http.specs.Fields.{closes}
 use Rattle.cat_http.specs.Next.{IsRequest, IsEnd, IsMalformed, IsTooLarge, IsCut}
-use Rattle.cat_rest.specs.Wanted.{wanted}
+use Rattle.cat_rest.specs.declared.wanted.Wanted.{Wanted}
+use Rattle.cat_rest.specs.declared.wanted.Wanted.TheVariants.{Change, Collect}
+use Rattle.cat_rest.specs.Wanted.{wanted, wants}
 use Rattle.cat_state.specs.Kept.{spelling}
 use Rattle.cat_model.specs.Mark.{FailedAppend}
-use Rattle.cat_desk.specs.Pass.{DeskId, mark_of, number_of}
+use Rattle.cat_desk.specs.Pass.{DeskId, all_left_by, mark_of, number_of}
 use Rattle.cat_desk.specs.declared.pass.Pass.{Pass}
 use Rattle.cat_work.specs.Passes.{IsAlone, IsReady, book_of}
 use Rattle.cat_serve.specs.declared.ending.Session.{Session as End}
@@ -54,44 +54,43 @@ pub record Fallen : Type 0 where
   pub count : ℕ
   pub entry : LogEntry
 
--- how a store stands in a session: its book, how many moments were taken, and the append that failed, if one did
+-- how a store stands in a session: the session, and the append that failed, if one did
 pub record Standing : Type 0 where
-  pub book : Book
-  pub readings : ℕ
+  pub session : Session
   pub fallen : Option Fallen
 
--- the session at which it stands
-abbrev pub session_of : Standing → Session
-session_of s = record { state = s.book.state; draft = s.book.draft; readings = s.readings }
+-- what a request wants, as the definitions of a session have it
+abbrev pub wants_in : Result Wanted Refusal → Result Wants Refusal
+wants_in (Ok wanted) = Ok (wants wanted)
+wants_in (Err why) = Err why
 
--- what a request brought on a store, which it left so
-pub record Went (before after : Standing) (b : Brought) : Type 0 where
-  pub book : after.book ≡ record (before.book) { state = b.after.state; draft = b.after.draft; log = b.logged ++ before.book.log }
-  pub readings : after.readings ≡ b.after.readings
+-- a call while the store is down: it is told so, once its moment is taken
+abbrev pub down_call : Session → ℕ → Brought
+down_call s count = record { said = Err (record { place = Some s.book.state.place; why = Down count }); logged = []; after = record s { readings = s.readings + 1 } }
 
--- a request while the store is down: a change is told so, once its moment is taken, and all others are answered as ever
+-- a request while the store is down: all others are answered as ever
 abbrev pub down_request : Readings → Session → ℕ → Result Wanted Refusal → Brought
-down_request clock s count (Ok (Change command)) =
-    record { said = Err (record { place = Some s.state.place; why = Down count }); logged = []; after = record s { readings = s.readings + 1 } }
-down_request clock s count wanted = request sha256 1 clock s wanted
+down_request clock s count (Ok (Change command)) = down_call s count
+down_request clock s count (Ok (Collect policy)) = down_call s count
+down_request clock s count wanted = request sha256 1 clock s (wants_in wanted)
 
--- the call is accepted and its entry wasn't kept, which is told as a fault: its moment and its draft number are taken, nothing else is changed, and the store is down
+-- the call would make an entry, which wasn't kept, and that is told as a fault: its moment and its draft number are taken, nothing else is changed, and the store is down
 pub record Falls (clock : Readings) (before after : Standing) (wanted : Result Wanted Refusal) (b : Brought) : Type 0 where
   pub fallen : Fallen
-  pub accepted : (request sha256 1 clock (session_of before) wanted).logged ≡ fallen.entry ∷ []
-  pub said : b.said ≡ Err (record { place = Some before.book.state.place; why = Fault })
+  pub accepted : (request sha256 1 clock before.session (wants_in wanted)).logged ≡ fallen.entry ∷ []
+  pub said : b.said ≡ Err (record { place = Some before.session.book.state.place; why = Fault })
   pub logged : b.logged ≡ []
-  pub after_is : b.after ≡ record { state = before.book.state; draft = (request sha256 1 clock (session_of before) wanted).after.draft; readings = before.readings + 1 }
-  pub went : Went before after b
+  pub after_is : b.after ≡ record { book = record before.session.book { draft = (request sha256 1 clock before.session (wants_in wanted)).after.book.draft }; readings = before.session.readings + 1 }
+  pub leaves : after.session ≡ b.after
   pub down : after.fallen ≡ Some fallen
 
 -- what one request may come to, by whether an append had failed before
 abbrev pub MayComeTo : Readings → Standing → Option Fallen → Result Wanted Refusal → Brought → Standing → Type 0
 MayComeTo clock s None wanted b s' =
-    (MayBring sha256 1 clock (session_of s) wanted b × Went s s' b × (s'.fallen ≡ None))
+    (MayBring sha256 1 clock s.session (wants_in wanted) b × (s'.session ≡ b.after) × (s'.fallen ≡ None))
     ⊎ Falls clock s s' wanted b
 MayComeTo clock s (Some f) wanted b s' =
-    ((b ≡ down_request clock (session_of s) f.count wanted) ⊎ IsGivenUp (session_of s) b) × Went s s' b × (s'.fallen ≡ Some f)
+    ((b ≡ down_request clock s.session f.count wanted) ⊎ IsGivenUp s.session b) × (s'.session ≡ b.after) × (s'.fallen ≡ Some f)
 
 -- ---- one request after another
 
@@ -198,13 +197,14 @@ abbrev pub seen_fallen : Option Fallen → Option (ℕ × List ℕ)
 seen_fallen None = None
 seen_fallen (Some x) = Some (x.count, spelling x.entry)
 
--- the caller of the only pass of a desk has nothing open, and the pass stands so
+-- nothing is open on a desk, and its only pass stands so
 pub record IsAt (desk : DeskId) (s : Standing) (pass : Pass) : Type 0 where
   pub ready : IsReady desk pass
   pub alone : IsAlone pass
   pub number : number_of pass ≡ 1
-  pub book_is : book_of desk pass ≡ s.book
+  pub book_is : book_of desk pass ≡ s.session.book
   pub fault_is : seen_failed (mark_of pass).fault ≡ seen_fallen s.fallen
+  pub rests : all_left_by pass ≡ nothing_open
 
 -- the pass, the source and the sink stand at a point
 pub record Stands (desk : DeskId) (c : Point) (pass : Pass) (bytes held : Option (List ℕ)) : Type 0 where
@@ -214,11 +214,11 @@ pub record Stands (desk : DeskId) (c : Point) (pass : Pass) (bytes held : Option
 
 -- so many readings more were taken
 abbrev pub HasTaken : List ℕ → Standing → Standing → Type 0
-HasTaken taken before after = after.readings ≡ before.readings + length taken
+HasTaken taken before after = after.session.readings ≡ before.session.readings + length taken
 
 -- some readings were taken of the clock, and this is so by all readings that go on with these at a point
 abbrev pub ByReadings : Option Readings → Option Readings → (List ℕ → Readings → Point → Type 0) → Type 0
-ByReadings ahead now so = (taken : List ℕ) × Took taken ahead now × ((clock : Readings) (c : Point) → BeginsAt c.standing.readings clock taken → so taken clock c)
+ByReadings ahead now so = (taken : List ℕ) × Took taken ahead now × ((clock : Readings) (c : Point) → BeginsAt c.standing.session.readings clock taken → so taken clock c)
 
 -- a session that begins so ends so, where the source and the sink tell what they have
 abbrev pub EndsKnown : DeskId → ℕ → Pass → Pass → Option Readings → Option Readings → Option (List ℕ) → Option (List ℕ) → Option (List ℕ) → End → Option (List ℕ) → Type 0

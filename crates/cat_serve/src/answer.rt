@@ -14,6 +14,7 @@ ghost use Rattle.cat_serve.specs.Replies.{IsRefusalOf, is_head};
 use crate::ending::Session;
 use crate::reply::{refusal_reply, response, send};
 use crate::settings::Settings;
+use cat_collect::collect;
 use cat_core::Store;
 use cat_desk::{Desk, Gate, Pass};
 use cat_http::{Request, WriteFault};
@@ -21,15 +22,15 @@ use cat_io::{Clock, Sink};
 use cat_keeper::Keeper;
 use cat_model::refusal::{Refusal, Refused};
 use cat_model::reply::Told;
-use cat_model::wanted::Wanted;
-use cat_rest::{Routes, to_command};
+use cat_rest::{Routes, Wanted, to_command};
 use cat_work::{call, read};
 use std::alloc::Global;
 use std::sync::Wait;
+use std::thread::Threads;
 
 // What the catalogue tells of a request.
 #[allow(clippy::too_many_arguments)]
-fn said_to<R: Wait, K0: Keeper, C: Clock, G: Gate>(
+fn said_to<R: Wait + Threads + Sync, K0: Keeper, C: Clock, G: Gate>(
     rt: &R,
     alloc: Global,
     routes: &Routes,
@@ -38,11 +39,13 @@ fn said_to<R: Wait, K0: Keeper, C: Clock, G: Gate>(
     clock: &mut C,
     gate: &mut G,
     attempts: u32,
+    markers: u32,
     request: &Request<'_>,
 ) -> Result<Told, Refused>
     requires ready { IsReady desk.now pass.old }
     requires gate { G.ready gate.old }
     requires attempts { (1 ≤ attempts) × (attempts ≤ 64) }
+    requires markers { (1 ≤ markers) × (markers ≤ 64) }
     ensures says { SaysTo desk.now request.now pass.old (C.ahead clock.old) result pass.new
         (C.ahead clock.new) }
     ensures comes { ComesTo desk.now attempts request.now pass.old (C.ahead clock.old) result
@@ -56,13 +59,16 @@ fn said_to<R: Wait, K0: Keeper, C: Clock, G: Gate>(
         Ok(Wanted::Change(command)) => {
             call(rt, alloc, desk, pass, gate, clock, attempts, &command)
         }
+        Ok(Wanted::Collect(policy)) => {
+            collect(rt, alloc, desk, pass, gate, clock, &policy, markers)
+        }
         Err(refused) => Err(refused),
     }
 }
 
 /// Answers a request, behind which so many may follow. None: the session goes on.
 #[allow(clippy::too_many_arguments)]
-pub(crate) fn answer<R: Wait, K0: Keeper, K: Sink, C: Clock, G: Gate>(
+pub(crate) fn answer<R: Wait + Threads + Sync, K0: Keeper, K: Sink, C: Clock, G: Gate>(
     rt: &R,
     alloc: Global,
     routes: &Routes,
@@ -78,6 +84,7 @@ pub(crate) fn answer<R: Wait, K0: Keeper, K: Sink, C: Clock, G: Gate>(
     requires ready { IsReady desk.now pass.old }
     requires gate { G.ready gate.old }
     requires attempts { (1 ≤ settings.attempts) × (settings.attempts ≤ 64) }
+    requires markers { (1 ≤ settings.markers) × (settings.markers ≤ 64) }
     ensures on { IfNone result
         (ByReadings (C.ahead clock.old) (C.ahead clock.new)
         (λ (taken : List ℕ) (k : Readings) (c : Point). (rest : List ℕ)
@@ -118,6 +125,7 @@ pub(crate) fn answer<R: Wait, K0: Keeper, K: Sink, C: Clock, G: Gate>(
         clock,
         gate,
         settings.attempts,
+        settings.markers,
         request,
     );
     let closes = request.closes();

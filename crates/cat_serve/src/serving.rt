@@ -49,6 +49,7 @@ pub fn serve_all<R: Threads + Wait + Sync, K0: Keeper, L: Listener, C: Clock + D
     requires workers { (1 ≤ workers) × (workers ≤ 64) }
     requires spare { workers ≤ spare_of pass.old + 1 }
     requires attempts { (1 ≤ settings.attempts) × (settings.attempts ≤ 64) }
+    requires markers { (1 ≤ settings.markers) × (settings.markers ≤ 64) }
     ensures serves { result ≢ Served.NoMemory
         → ServesAll (ends_of L.In.left L.In.faults L.Out.held L.Out.faults) desk.now
         settings.attempts workers (L.tells listener.old) (L.waiting listener.old)
@@ -200,6 +201,7 @@ fn work<R: Threads + Wait + Sync, K0: Keeper, L: Listener, C: Clock>(
     requires ready { IsReady desk.now pass.old }
     requires others { All (IsBack L.faults desk.now) others.old.items }
     requires attempts { (1 ≤ settings.attempts) × (settings.attempts ≤ 64) }
+    requires markers { (1 ≤ settings.markers) × (settings.markers ≤ 64) }
     ensures serves { ServesOwn (ends_of L.In.left L.In.faults L.Out.held L.Out.faults) desk.now
         settings.attempts (L.tells listener.old) (L.waiting listener.old) (L.waiting listener.new)
         (L.returned listener.old) (L.returned listener.new) pass.old (C.ahead clock.old) pass.new
@@ -224,7 +226,9 @@ fn work<R: Threads + Wait + Sync, K0: Keeper, L: Listener, C: Clock>(
         &mut ||
             requires { IsReady desk.now pass.now
                 × (1 ≤ settings.attempts)
-                × (settings.attempts ≤ 64) }
+                × (settings.attempts ≤ 64)
+                × (1 ≤ settings.markers)
+                × (settings.markers ≤ 64) }
             ensures serves { ServesOwn (ends_of L.In.left L.In.faults L.Out.held L.Out.faults)
                 desk.entry.now settings.attempts (L.tells listener.entry.now)
                 (L.waiting listener.entry.now) (L.waiting listener.exit.now)
@@ -245,7 +249,9 @@ fn work<R: Threads + Wait + Sync, K0: Keeper, L: Listener, C: Clock>(
         &mut ||
             requires { All (IsBack L.faults desk.now) rest.now
                 × (1 ≤ settings.attempts)
-                × (settings.attempts ≤ 64) }
+                × (settings.attempts ≤ 64)
+                × (1 ≤ settings.markers)
+                × (settings.markers ≤ 64) }
             ensures len { length rest.exit.now ≡ length rest.entry.now }
             ensures done { (told : Bool) (p : Pass)
                 → All (IsHired L.tells L.returned L.faults told desk.entry.now p) rest.entry.now

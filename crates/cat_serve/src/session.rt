@@ -22,6 +22,7 @@ use cat_model::refusal::{Reason, Refusal};
 use cat_rest::Routes;
 use std::alloc::Global;
 use std::sync::Wait;
+use std::thread::Threads;
 
 /// A session answers at most so many requests.
 const MOST: u64 = 1000;
@@ -29,7 +30,7 @@ const MOST: u64 = 1000;
 // What comes next, and the reply to it; so many requests may follow. None: the session goes on.
 #[allow(clippy::too_many_arguments)]
 #[tactic(auto, using(crate::proofs::Standing::keeps_self))]
-fn turn<R: Wait, K0: Keeper, S: Source, K: Sink, C: Clock, G: Gate>(
+fn turn<R: Wait + Threads + Sync, K0: Keeper, S: Source, K: Sink, C: Clock, G: Gate>(
     rt: &R,
     alloc: Global,
     routes: &Routes,
@@ -46,6 +47,7 @@ fn turn<R: Wait, K0: Keeper, S: Source, K: Sink, C: Clock, G: Gate>(
     requires ready { IsReady desk.now pass.old }
     requires gate { G.ready gate.old }
     requires attempts { (1 ≤ settings.attempts) × (settings.attempts ≤ 64) }
+    requires markers { (1 ≤ settings.markers) × (settings.markers ≤ 64) }
     ensures on { IfNone result
         (ByReadings (C.ahead clock.old) (C.ahead clock.new)
         (λ (taken : List ℕ) (k : Readings) (c : Point). c.left ≡ left + 1
@@ -117,10 +119,17 @@ fn turn<R: Wait, K0: Keeper, S: Source, K: Sink, C: Clock, G: Gate>(
 }
 
 /// Answers the requests of the source, one after another, on a desk's pass: 1,000 at most. The gate is
-/// asked before each attempt of a call that opens a draft.
+/// asked before each attempt of a call that opens a draft, and before each round of a collection.
 #[tactic(auto, using(crate::proofs::Standing::keeps_self))]
 #[allow(clippy::too_many_arguments)]
-pub fn serve_connection<R: Wait, K0: Keeper, S: Source, K: Sink, C: Clock, G: Gate>(
+pub fn serve_connection<
+    R: Wait + Threads + Sync,
+    K0: Keeper,
+    S: Source,
+    K: Sink,
+    C: Clock,
+    G: Gate,
+>(
     rt: &R,
     alloc: Global,
     desk: &Desk<Store<K0>>,
@@ -134,6 +143,7 @@ pub fn serve_connection<R: Wait, K0: Keeper, S: Source, K: Sink, C: Clock, G: Ga
     requires ready { IsReady desk.now pass.old }
     requires gate { G.ready gate.old }
     requires attempts { (1 ≤ settings.attempts) × (settings.attempts ≤ 64) }
+    requires markers { (1 ≤ settings.markers) × (settings.markers ≤ 64) }
     // Whatever other callers do at once, every reply is the one-thread catalogue's at its place in one legal log.
     ensures serves { Serves desk.now settings.attempts
         (place 1000 pass.old (C.ahead clock.old) (S.left source.old) (K.held sink.old)) result

@@ -29,7 +29,7 @@ pub(crate) struct Worker<L, C> {
 }
 
 /// Serves one connection after another until there is none, and says whether the listener failed.
-pub(crate) fn serve<R: Wait, K0: Keeper, L: Listener, C: Clock>(
+pub(crate) fn serve<R: Wait + Threads + Sync, K0: Keeper, L: Listener, C: Clock>(
     rt: &R,
     alloc: Global,
     desk: &Desk<Store<K0>>,
@@ -40,6 +40,7 @@ pub(crate) fn serve<R: Wait, K0: Keeper, L: Listener, C: Clock>(
 ) -> bool
     requires ready { IsReady desk.now pass.old }
     requires attempts { (1 ≤ settings.attempts) × (settings.attempts ≤ 64) }
+    requires markers { (1 ≤ settings.markers) × (settings.markers ≤ 64) }
     ensures serves { ServesOwn (ends_of L.In.left L.In.faults L.Out.held L.Out.faults) desk.now
         settings.attempts (L.tells listener.old) (L.waiting listener.old) (L.waiting listener.new)
         (L.returned listener.old) (L.returned listener.new) pass.old (C.ahead clock.old) pass.new
@@ -85,6 +86,7 @@ pub(crate) fn serve_workers<R: Threads + Wait + Sync, K0: Keeper, L: Listener, C
 )
     requires workers { All (IsBack L.faults desk.now) workers.old }
     requires attempts { (1 ≤ settings.attempts) × (settings.attempts ≤ 64) }
+    requires markers { (1 ≤ settings.markers) × (settings.markers ≤ 64) }
     ensures len { length workers.new ≡ length workers.old }
     ensures done { (told : Bool) (p : Pass)
         → All (IsHired L.tells L.returned L.faults told desk.now p) workers.old
@@ -99,7 +101,9 @@ pub(crate) fn serve_workers<R: Threads + Wait + Sync, K0: Keeper, L: Listener, C
         &|_, worker: &mut Worker<L, C>|
             requires { IsReady desk.now worker.old.pass
                 × (1 ≤ settings.attempts)
-                × (settings.attempts ≤ 64) }
+                × (settings.attempts ≤ 64)
+                × (1 ≤ settings.markers)
+                × (settings.markers ≤ 64) }
             ensures { (told : Bool) (p : Pass)
                 → IsHired L.tells L.returned L.faults told desk.entry.now p worker.old
                 → IsDone (ends_of L.In.left L.In.faults L.Out.held L.Out.faults) desk.entry.now

@@ -2,7 +2,7 @@
 
 ghost use Rattle.std.specs.Prelude.{◌≡◌, ◌<◌, ◌+◌, IsTrue};
 ghost use Rattle.sha2.specs.Sha256.{sha256};
-ghost use Rattle.cat_desk.specs.Pass.{Keeps, spare_of};
+ghost use Rattle.cat_desk.specs.Pass.{Keeps, spare_of, stands_for};
 ghost use Rattle.cat_model.specs.WellMade.{is_well_made};
 ghost use Rattle.cat_work.specs.Passes.{IsReady};
 
@@ -11,13 +11,13 @@ use cat_desk::{Desk, NoGate, Pass};
 use cat_http::{Buffer, Incoming, read_request};
 use cat_io::{MemoryClock, MemorySource};
 use cat_keeper::{Keeper, MemKeeper};
+use cat_model::ask::Ask;
 use cat_model::command::Command;
 use cat_model::limits::{Limits, Quantity};
 use cat_model::refusal::{Refusal, Refused};
 use cat_model::reply::{Reply, Told};
-use cat_model::wanted::Wanted;
 use cat_names::hash::Hash;
-use cat_rest::{Routes, to_command};
+use cat_rest::{Routes, Wanted, to_command};
 use cat_work::call;
 use std::alloc::Global;
 use std::process::Abort;
@@ -44,6 +44,25 @@ pub(crate) fn change<R: Abort>(rt: &R, alloc: Global, text: &str) -> Command
     }
 }
 
+/// The read that a request asks for.
+pub(crate) fn reading<R: Abort>(rt: &R, alloc: Global, text: &str) -> Ask {
+    let (Ok(bytes), Ok(mut buffer), Ok(routes)) = (
+        text.as_bytes().to_vec(alloc),
+        Buffer::new(alloc),
+        Routes::new(alloc),
+    ) else {
+        panic!(rt; "there is memory");
+    };
+    let mut source = MemorySource::new(bytes, 4096, Vec::new(alloc));
+    if read_request(&mut source, &mut buffer) != Incoming::Request {
+        panic!(rt; "it is a request");
+    }
+    match to_command(alloc, &routes, &buffer.request()) {
+        Ok(Wanted::Read(ask)) => ask,
+        _ => panic!(rt; "it asks for a read"),
+    }
+}
+
 /// A desk over an empty store of these limits whose log is in memory, some of whose appends fail,
 /// counted from 1.
 pub(crate) fn desk_of<R: Abort>(
@@ -54,6 +73,7 @@ pub(crate) fn desk_of<R: Abort>(
 ) -> (Desk<Store<MemKeeper>>, Pass)
     ensures ready { IsReady result.0 result.1 }
     ensures spare { spare_of result.1 ≡ 4294967294 }
+    ensures alone { stands_for result.1 ≡ 1 }
 {
     if limits.log > 4_294_967_295 || limits.commits > 4_294_967_295 {
         panic!(rt; "these are limits of a store");

@@ -9,6 +9,10 @@ mod asking;
 #[cfg(test)]
 mod codes;
 #[cfg(test)]
+mod collected;
+#[cfg(test)]
+mod collecting;
+#[cfg(test)]
 mod desk;
 #[cfg(test)]
 mod disks;

@@ -70,7 +70,10 @@ fn serve<R: Threads + Wait + Sync + Abort, L: Listener>(
 {
     let (desk, mut pass) = desk_of(rt, alloc, Limits::program(), &[]);
     let mut clock = MemoryClock::new(1_000_000, 1_000_000);
-    let settings = Settings { attempts: 8 };
+    let settings = Settings {
+        attempts: 8,
+        markers: 2,
+    };
     let served = serve_all(
         rt, alloc, &desk, &mut pass, listener, &mut clock, workers, settings,
     );

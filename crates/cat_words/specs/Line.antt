@@ -2,11 +2,15 @@
 use Rattle.std.specs.Prelude.{ℕ, List, [], ◌∷◌, Some, true, codes}
 use Rattle.clap.specs.Words.{App, Shape, Rule, new_rule, with_subcommand}
 use Rattle.clap.specs.Simple.{new_shape}
-use Rattle.clap.specs.declared.builder.action.ArgAction.TheVariants.{Set}
+use Rattle.clap.specs.declared.builder.action.ArgAction.TheVariants.{Append, Set}
 
 -- a required word
 abbrev pub word_rule : List ℕ → Rule
 word_rule id = record (new_rule id) { required = true; action = Some Set }
+
+-- any number of words
+abbrev pub words_rule : List ℕ → Rule
+words_rule id = record (new_rule id) { action = Some Append }
 
 -- a required option of one value
 abbrev pub option_rule : List ℕ → Rule
@@ -30,6 +34,14 @@ check_shape = shape (codes "check") (word_rule (codes "journal") ∷ [])
 -- `drill --seed S --commits N`
 abbrev pub drill_shape : Shape
 drill_shape = shape (codes "drill") (option_rule (codes "seed") ∷ option_rule (codes "commits") ∷ [])
+
+-- `gc JOURNAL DEFAULT`
+abbrev pub gc_by_default_shape : Shape
+gc_by_default_shape = shape (codes "gc") (word_rule (codes "journal") ∷ word_rule (codes "default") ∷ [])
+
+-- `gc JOURNAL DEFAULT [PATTERN=CUTOFF]...`
+abbrev pub gc_shape : Shape
+gc_shape = shape (codes "gc") (word_rule (codes "journal") ∷ word_rule (codes "default") ∷ words_rule (codes "rules") ∷ [])
 
 -- `serve JOURNAL ADDRESS`
 abbrev pub serve_at_shape : Shape
@@ -56,9 +68,13 @@ serve_shape =
 abbrev pub bare_line : App
 bare_line = record { top = record (new_shape (codes "nessie")) { subcommand_required = true }; subs = [] }
 
+-- a session over a journal, and a look at one
+abbrev pub session_line : App
+session_line = with_subcommand (with_subcommand bare_line script_shape) check_shape
+
 -- the commands that serve no connections
 abbrev pub offline_line : App
-offline_line = with_subcommand (with_subcommand (with_subcommand bare_line script_shape) check_shape) drill_shape
+offline_line = with_subcommand (with_subcommand session_line gc_shape) drill_shape
 
 abbrev pub line : App
 line = with_subcommand offline_line serve_shape

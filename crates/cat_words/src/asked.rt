@@ -2,24 +2,31 @@
 
 ghost use Rattle.std.specs.Prelude.{◌≡◌, ◌≤◌, IfOk, IfSome, IsErrOf, None, Some, map, option_map};
 ghost use Rattle.std.specs.Option.{option_and_then};
-ghost use Rattle.clap.specs.Words.{found_of, first_of, rows_of, subcommand_rows_of};
-ghost use Rattle.cat_words.specs.Asked.{IsFew, IsSet, address_in, asked, commits_of, connections_of, drill_of, few_of, serve_of, task, task_of};
+ghost use Rattle.clap.specs.Words.{all_of, found_of, first_of, rows_of, subcommand_rows_of};
+ghost use Rattle.cat_words.specs.Asked.{IsFew, IsSet, address_in, asked, commits_of, connections_of, drill_of, few_of, gc_of, serve_of, task, task_of, texts};
 
 use crate::line::{WordsFault, matches_of};
 use crate::number::{number, number_between};
 use clap::ArgMatches;
-use std::alloc::Global;
+use std::alloc::{AllocError, Global};
 
 /// A drill makes at most so many commits.
 const MOST_COMMITS: u64 = 1_000_000;
 
 /// A command.
-#[derive(Clone, Copy, Drop)]
+#[derive(Drop)]
 pub enum Asked<'a> {
     /// One session over the journal of this path.
     Script(&'a str),
     /// How much the journal of this path holds.
     Check(&'a str),
+    /// A collection over the journal of this path, by a default cutoff and any number of
+    /// `PATTERN=CUTOFF`. They are texts, whether or not they are a policy.
+    Gc {
+        journal: &'a str,
+        default: &'a str,
+        rules: Vec<&'a str>,
+    },
     /// So many commits, made from a seed.
     Drill {
         seed: u64,
@@ -50,6 +57,45 @@ fn text<'a>(found: &ArgMatches<'a>, id: &str) -> Option<&'a str>
         ≡ first_of id.now (rows_of (found_of found.now)) }
 {
     found.get_str(id)
+}
+
+// The texts of an argument, where it has some.
+fn all<'m, 'a>(found: &'m ArgMatches<'a>, id: &str) -> Option<&'m [&'a str]>
+    ensures { option_map (λ texts. map (λ text. text.now) texts.now) result
+        ≡ all_of id.now (rows_of (found_of found.now)) }
+{
+    found.get_strs(id)
+}
+
+// The texts of an argument that any number of words may follow.
+fn texts<'a>(alloc: Global, found: &ArgMatches<'a>, id: &str) -> Result<Vec<&'a str>, AllocError>
+    ensures { IfOk result
+        (λ copy. map (λ text. text.now) copy.items ≡ texts id.now (rows_of (found_of found.now))) }
+{
+    match all(found, id) {
+        Some(found) => Vec::from_slice(alloc, found),
+        None => Ok(Vec::new(alloc)),
+    }
+}
+
+fn gc<'a>(alloc: Global, found: &ArgMatches<'a>) -> Result<Option<Asked<'a>>, AllocError>
+    ensures read { IfOk result
+        (λ what. option_map task what ≡ gc_of (rows_of (found_of found.now))) }
+    ensures few { IfOk result (λ what. IfSome what (λ what. commits_of what ≤ 1000000)) }
+    ensures set { IfOk result (λ what. IfSome what IsSet) }
+{
+    let Some(journal) = text(found, "journal") else {
+        return Ok(None);
+    };
+    let Some(default) = text(found, "default") else {
+        return Ok(None);
+    };
+    let rules = texts(alloc, found, "rules")?;
+    Ok(Some(Asked::Gc {
+        journal,
+        default,
+        rules,
+    }))
 }
 
 fn drill<'a>(found: &ArgMatches<'_>) -> Option<Asked<'a>>
@@ -95,18 +141,29 @@ fn serve<'a>(found: &ArgMatches<'a>) -> Option<Asked<'a>>
     })
 }
 
-fn asked_in<'a>(matches: &ArgMatches<'a>) -> Option<Asked<'a>>
-    ensures read { option_map task result ≡ task_of (subcommand_rows_of matches.now) }
-    ensures few { IfSome result (λ what. commits_of what ≤ 1000000) }
-    ensures set { IfSome result IsSet }
+// None: a word is missing, or a number has no reading.
+fn asked_in<'a>(alloc: Global, matches: &ArgMatches<'a>) -> Result<Option<Asked<'a>>, AllocError>
+    ensures read { IfOk result
+        (λ what. option_map task what ≡ task_of (subcommand_rows_of matches.now)) }
+    ensures few { IfOk result (λ what. IfSome what (λ what. commits_of what ≤ 1000000)) }
+    ensures set { IfOk result (λ what. IfSome what IsSet) }
 {
-    let (name, found) = entered(matches)?;
+    let Some((name, found)) = entered(matches) else {
+        return Ok(None);
+    };
     match name {
-        "script" => Some(Asked::Script(text(found, "journal")?)),
-        "check" => Some(Asked::Check(text(found, "journal")?)),
-        "drill" => drill(found),
-        "serve" => serve(found),
-        _ => None,
+        "script" => match text(found, "journal") {
+            Some(journal) => Ok(Some(Asked::Script(journal))),
+            None => Ok(None),
+        },
+        "check" => match text(found, "journal") {
+            Some(journal) => Ok(Some(Asked::Check(journal))),
+            None => Ok(None),
+        },
+        "gc" => gc(alloc, found),
+        "drill" => Ok(drill(found)),
+        "serve" => Ok(serve(found)),
+        _ => Ok(None),
     }
 }
 
@@ -120,9 +177,10 @@ pub fn asked_of<'a>(alloc: Global, words: &'a [&'a str]) -> Result<Asked<'a>, Wo
     ensures set { IfOk result IsSet }
 {
     match matches_of(alloc, words) {
-        Ok(matches) => match asked_in(&matches) {
-            Some(what) => Ok(what),
-            None => Err(WordsFault::Usage),
+        Ok(matches) => match asked_in(alloc, &matches) {
+            Ok(Some(what)) => Ok(what),
+            Ok(None) => Err(WordsFault::Usage),
+            Err(_) => Err(WordsFault::NoMemory),
         },
         Err(fault) => Err(fault),
     }

@@ -4,7 +4,7 @@ ghost use Rattle.std.specs.Prelude.{◌≡◌, [], IfErr, IfOk, IsErrOf, map, fa
 ghost use Rattle.clap.specs.Words.{app_of, fault_of, kind_of, rule_of, shape_of, subcommand_of, subcommand_rows_of};
 ghost use Rattle.clap.specs.declared.builder.command.Command.TheViews.{out-Command};
 ghost use Rattle.cat_words.specs.Asked.{is_free};
-ghost use Rattle.cat_words.specs.Line.{bare_line, check_shape, default_rule, drill_shape, line, offline_line, option_rule, script_shape, serve_at_shape, serve_by_shape, serve_shape, word_rule};
+ghost use Rattle.cat_words.specs.Line.{bare_line, check_shape, default_rule, drill_shape, gc_by_default_shape, gc_shape, line, offline_line, option_rule, script_shape, serve_at_shape, serve_by_shape, serve_shape, session_line, word_rule, words_rule};
 
 use clap::error::ErrorKind;
 use clap::{Arg, ArgAction, ArgMatches, Command, Error};
@@ -25,6 +25,14 @@ fn word<'a>(alloc: Global, id: &'a str) -> Arg<'a>
     ensures local { result.global ≡ false }
 {
     Arg::new(alloc, id).required(true).action(ArgAction::Set)
+}
+
+// Any number of words.
+fn words<'a>(alloc: Global, id: &'a str) -> Arg<'a>
+    ensures rule { rule_of result ≡ words_rule id.entry.now }
+    ensures local { result.global ≡ false }
+{
+    Arg::new(alloc, id).action(ArgAction::Append)
 }
 
 fn option<'a>(alloc: Global, id: &'a str) -> Arg<'a>
@@ -70,6 +78,22 @@ fn drill<'a>(alloc: Global) -> Result<Command<'a>, AllocError>
         .arg(option(alloc, "commits"))
 }
 
+fn gc_by_default<'a>(alloc: Global) -> Result<Command<'a>, AllocError>
+    ensures shape { IfOk result (λ c. shape_of c ≡ gc_by_default_shape) }
+    ensures local { IfOk result (λ c. (out-Command c).has_globals ≡ false) }
+{
+    Command::new(alloc, "gc")
+        .arg(word(alloc, "journal"))?
+        .arg(word(alloc, "default"))
+}
+
+fn gc<'a>(alloc: Global) -> Result<Command<'a>, AllocError>
+    ensures shape { IfOk result (λ c. shape_of c ≡ gc_shape) }
+    ensures local { IfOk result (λ c. (out-Command c).has_globals ≡ false) }
+{
+    gc_by_default(alloc)?.arg(words(alloc, "rules"))
+}
+
 fn serve_at<'a>(alloc: Global) -> Result<Command<'a>, AllocError>
     ensures shape { IfOk result (λ c. shape_of c ≡ serve_at_shape) }
     ensures local { IfOk result (λ c. (out-Command c).has_globals ≡ false) }
@@ -101,17 +125,22 @@ fn bare<'a>(alloc: Global) -> Command<'a>
     Command::new(alloc, "nessie").subcommand_required(true)
 }
 
+// The commands of a journal that is there.
+fn session<'a>(alloc: Global) -> Result<Command<'a>, AllocError>
+    ensures { IfOk result (λ c. app_of c ≡ session_line) }
+{
+    let script = script(alloc)?;
+    let check = check(alloc)?;
+    bare(alloc).subcommand(script)?.subcommand(check)
+}
+
 // The commands that serve no connections.
 fn offline<'a>(alloc: Global) -> Result<Command<'a>, AllocError>
     ensures { IfOk result (λ c. app_of c ≡ offline_line) }
 {
-    let script = script(alloc)?;
-    let check = check(alloc)?;
+    let gc = gc(alloc)?;
     let drill = drill(alloc)?;
-    bare(alloc)
-        .subcommand(script)?
-        .subcommand(check)?
-        .subcommand(drill)
+    session(alloc)?.subcommand(gc)?.subcommand(drill)
 }
 
 fn command<'a>(alloc: Global) -> Result<Command<'a>, AllocError>

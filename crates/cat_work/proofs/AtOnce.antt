@@ -23,7 +23,7 @@ use Rattle.cat_work.proofs.Callings.{call_brings, call_draft}
 use Rattle.cat_work.proofs.Endings.{refuses_open}
 use Rattle.cat_work.proofs.Telling.{AloneAt, Numbered, alone_err, alone_ok, answers_ok, book_found, causes, gone_at_once, grew_in, left_by_turn}
 use Rattle.cat_work.proofs.Trails.{place_at}
-use Rattle.cat_work.proofs.Unopened.{found_first, none_still}
+use Rattle.cat_work.proofs.Unopened.{found_first, none_still, same_open}
 
 refers_open : {K : Type 0} (called : Called) (n : ℕ) (s s' : Stored K) (r : Result Told Refused) → Refers called n s s' r → stored.open_of s' ≡ stored.open_of s
 refers_open {K} called n s s' (Ok told) h = ap (λ (x : Stored K). stored.open_of x) h.after
@@ -76,10 +76,12 @@ pub refers_comes : {K : Type 0} (desk : DeskId) (c : Command) (p q : Pass) (atte
     → Turned desk p q s s' → Refers (call_on sha256 n s.book c moment) n s s' r → Comes desk c p q attempts moment r
 refers_comes desk c p q attempts moment n s s' r number opens none legal known_is turn h =
     let own : Refers (call_on sha256 (number_of p) s.book c moment) (number_of p) s s' r = subst (λ (m : ℕ). Refers (call_on sha256 m s.book c moment) m s s' r) number h in
+    let same : stored.open_of s' ≡ stored.open_of s = refers_open (call_on sha256 (number_of p) s.book c moment) (number_of p) s s' r own in
     record {
-      none = none_still desk p q s s' none turn (refers_open (call_on sha256 (number_of p) s.book c moment) (number_of p) s s' r own);
+      none = none_still desk p q s s' none turn same;
       grows = grew_in desk p q s s' turn;
       answers = refers_answers desk c p q attempts moment s s' r opens legal known_is turn own;
       alone = λ only. subst (λ (called : Called). AnswersAlone (number_of p) called (book_of desk p) (book_of desk q) (mark_of p).fault (mark_of q).fault r)
           (ap (λ (b : Book). call_on sha256 (number_of p) b c moment) (book_found desk p q s s' turn only)) (refers_alone desk c p q moment s s' r opens turn own only);
+      rests = λ only nothing. same_open desk p q s s' turn same only ∙ nothing;
     }

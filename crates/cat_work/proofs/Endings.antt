@@ -1,5 +1,5 @@
 -- A call between its attempts, and what ends it.
-use Rattle.std.proofs.Common.{◌≡◌, ◌<◌, ◌≤◌, ◌⊎◌, inl, inr, ℕ, ◌+◌, List, [], ◌∷◌, ◌++◌, length, length-append, reverse, Option, Some, None, Result, Ok, Err, Bool, true, false, vec_capacity, refl, sym, ap, subst, ◌∙◌, arith}
+use Rattle.std.proofs.Common.{◌≡◌, ◌<◌, ◌≤◌, ◌⊎◌, inl, inr, ℕ, ◌+◌, List, [], ◌∷◌, ◌++◌, length, length-append, reverse, Option, Some, None, Result, Ok, Err, Bool, true, false, cond, nat_eq, vec_capacity, refl, sym, ap, subst, ◌∙◌, arith}
 use Rattle.sha2.specs.Sha256.{sha256}
 use Rattle.cat_names.specs.Fields.{Key}
 use Rattle.cat_names.specs.declared.hash.Hash.{Hash}
@@ -8,12 +8,13 @@ use Rattle.cat_decisions.specs.Builds.{HasHead, IsBuilt}
 use Rattle.cat_checks.specs.Histories.{IsLegalFrom, begun}
 use Rattle.cat_checks.specs.HistoryLaws.{limits_stay}
 use Rattle.cat_core.specs.Drafts.{Expires, IsOn, Refuses, RefusesDraft, called_in, closed, command_in, is_expired, may_open, open_draft_of, opening_in, without}
+use Rattle.cat_core.specs.Noting.{and_names, noting}
 use Rattle.cat_core.specs.Stored as stored
 use Rattle.cat_core.specs.Stored.{Stored, log_of}
 use Rattle.cat_core.specs.declared.draft.Draft.{Draft}
 use Rattle.cat_desk.specs.Log.{Follows}
 use Rattle.cat_desk.specs.LogLaws.{follows_on}
-use Rattle.cat_desk.specs.Pass.{DeskId, Keeps, known, left_by, mark_of, number_of, seen, spare_of, stands_for}
+use Rattle.cat_desk.specs.Pass.{DeskId, Keeps, all_left_by, known, left_by, mark_of, number_of, seen, spare_of, stands_for}
 use Rattle.cat_desk.specs.declared.pass.Pass.{Pass}
 use Rattle.cat_model.specs.declared.command.Command.{Command}
 use Rattle.cat_model.specs.declared.limits.Limits.{Limits}
@@ -24,7 +25,7 @@ use Rattle.cat_model.specs.declared.refusal.Refused.{Refused}
 use Rattle.cat_model.specs.declared.reply.Told.{Told}
 use Rattle.cat_model.specs.Book.{Book, attempt_on, call_on}
 use Rattle.cat_model.specs.Calls.{Called, in_draft}
-use Rattle.cat_model.specs.Drafts.{Open, OpenDraft, OpenSweep, StaysOpen, SweepAwaits, drafts_of, nothing_open, open_of}
+use Rattle.cat_model.specs.Drafts.{Names, Open, OpenDraft, OpenSweep, StaysOpen, SweepAwaits, drafts_of, nothing_open, open_of, sweep_of}
 use Rattle.cat_model.specs.Mark.{Grows, Mark}
 use Rattle.cat_model.specs.State.{State}
 use Rattle.cat_model.specs.Step.{opening, opens_draft}
@@ -34,7 +35,7 @@ use Rattle.cat_work.specs.Answers.{Answers, AnswersAlone, Causes, IsDraftAbove, 
 use Rattle.cat_work.specs.Passes.{IsAlone, book_of, state_of}
 use Rattle.cat_work.specs.Turns.{Begins, Comes, Ends, EndsLast, Going, IsSpent, Moves, StoodAlone, Trail, Tries, Turned, out_of_memory}
 use Rattle.cat_work.proofs.Callings.{Brings, called_alone, made_brings, made_draft, may_pass}
-use Rattle.cat_work.proofs.Opened.{drafts_more, drafts_one, none_left}
+use Rattle.cat_work.proofs.Opened.{drafts_more, drafts_one, none_but, none_left}
 use Rattle.cat_work.proofs.Openings.{may_room}
 use Rattle.cat_work.proofs.Telling.{AloneAt, Found, Left, Numbered, alone_err, alone_ok, answers_ok, book_found, causes, faults_same, follows_same, given_up_alone, gone_in_draft, grew_in, left_by_turn, refused_alone, stays_expired}
 use Rattle.cat_work.proofs.Trails.{built_on, one_head, place_at, trail_next, trail_start}
@@ -51,12 +52,26 @@ one_stays x a b is stays =
     let same : StaysOpen (record { drafts = x ∷ []; sweep = None }) b = subst (λ (o : Open). StaysOpen o b) is stays in
     λ i. record { drafts = same.drafts i; sweep = none_awaits b.sweep same.sweep i }
 
+-- names that were noted in another's sweep
+none_noted : (n : ℕ) (names : Names) (held : Option OpenSweep) → sweep_of n held ≡ None → sweep_of n (noting names held) ≡ None
+none_noted n names None none = refl
+none_noted n names (Some s) none = noted (nat_eq s.opening.caller n) none
+  where
+    noted : (b : Bool) → cond b (Some s) None ≡ None → cond b (Some (record s { names = and_names s.names names })) None ≡ None
+    noted true none = absurd cc
+    noted false none = refl
+
 -- a draft that was opened where nothing was
-pub one_opened : (n : ℕ) (x : OpenDraft) (o : Open) → x.opening.caller ≡ n → open_of n o ≡ nothing_open → open_of n (record o { drafts = o.drafts ++ x ∷ [] }) ≡ record { drafts = x ∷ []; sweep = None }
+pub one_opened : (n : ℕ) (x : OpenDraft) (o : Open) → x.opening.caller ≡ n → open_of n o ≡ nothing_open → open_of n (record { drafts = o.drafts ++ x ∷ []; sweep = noting x.names o.sweep }) ≡ record { drafts = x ∷ []; sweep = None }
 one_opened n x o caller none =
     let one : drafts_of n (x ∷ []) ≡ x ∷ [] = ap (λ (m : ℕ). drafts_of m (x ∷ [])) (sym caller) ∙ drafts_one x in
     let drafts : drafts_of n (o.drafts ++ x ∷ []) ≡ x ∷ [] = drafts_more n o.drafts (x ∷ []) ∙ (ap (λ (l : List OpenDraft). l ++ drafts_of n (x ∷ [])) (ap (λ (y : Open). y.drafts) none) ∙ one) in
-    λ i. record { drafts = drafts i; sweep = (none i).sweep }
+    let sweep : sweep_of n (noting x.names o.sweep) ≡ None = none_noted n x.names o.sweep (ap (λ (y : Open). y.sweep) none) in
+    λ i. record { drafts = drafts i; sweep = sweep i }
+
+-- what is open, once a draft is
+abbrev and_draft : OpenDraft → Open → Open
+and_draft x o = record { drafts = o.drafts ++ x ∷ []; sweep = noting x.names o.sweep }
 
 -- a draft that was closed where it was the only one
 pub none_open : (n : ℕ) (x : OpenDraft) (o : Open) → x.opening.caller ≡ n → open_of n o ≡ record { drafts = x ∷ []; sweep = None } → open_of n (record o { drafts = without x.opening o.drafts }) ≡ nothing_open
@@ -124,6 +139,7 @@ begins K desk c p q t attempts none legal keeps known_is room b =
         up = ap (λ (m : Mark). m.fault) (sym (turn.alone only).1) ∙ o.up;
         passes = ap (λ (x : Book). may_open x c) (sym (book_found desk p q s s' turn only)) ∙ o.passes;
       };
+      rests = λ only nothing. turn.all_left ∙ (ap (λ (x : Stored K). stored.open_of x) o.after ∙ ap (and_draft (open_draft_of d)) ((turn.alone only).2 ∙ nothing));
     }
 
 -- ---- a later turn
@@ -189,6 +205,7 @@ goes_on {K} desk c first present next t u attempts number s s' g keeps legal tur
     let mark : mark_of next ≡ s.mark = turn.mark_is ∙ ap (λ (x : Stored K). x.mark) m.moved.after in
     let view : u.view ≡ state_of desk (seen next) = m.moved.view_is ∙ (sym turn.led ∙ ap (state_of desk) (sym log)) in
     let left : left_by next ≡ record { drafts = open_draft_of d ∷ []; sweep = None } = turn.left ∙ (ap (λ (x : Stored K). open_of (number_of present) (stored.open_of x)) m.moved.after ∙ found_open desk present next s s' d g.tries.left_is turn) in
+    let never : IsAlone first → ⊥ = λ only. m.moved.other (stays_alone desk present next s s' d t.view m.built g.tries.view_is m.is_built turn (alone_still desk first present g.kept only)) in
     let has : HasHead u.view (command_in d) m.head = subst (λ (x : Draft). HasHead u.view (command_in x) m.head) m.moved.draft m.has in
     let here : Tries desk next d u.view u.pairs.items = record {
       left_is = left;
@@ -210,7 +227,8 @@ goes_on {K} desk c first present next t u attempts number s s' g keeps legal tur
       room = roomy (attempts + 1) (vec_capacity t.pairs) (vec_capacity u.pairs) g.room room;
       faults = λ x is own. found.no_new x (sym (ap (λ (y : Mark). y.fault) mark) ∙ is) own;
       grows = grown desk c first present next t attempts number s s' g turn;
-      alone = λ only. absurd (m.moved.other (stays_alone desk present next s s' d t.view m.built g.tries.view_is m.is_built turn (alone_still desk first present g.kept only)));
+      alone = λ only. absurd (never only);
+      rests = λ only _. absurd (never only);
     }
 
 -- ---- why a draft was refused
@@ -331,6 +349,8 @@ refuses_open {K} called n s r (refusals.WrongMethod x) s' left_open h = ap (λ (
 refuses_open {K} called n s r refusals.TooLarge s' left_open h = ap (λ (x : Stored K). (stored.open_of x)) h.after
 refuses_open {K} called n s r refusals.Encoding s' left_open h = ap (λ (x : Stored K). (stored.open_of x)) h.after
 
+-- ---- nothing is left open by a draft
+
 draft_open : {K : Type 0} (called : Called) (s : Stored K) (d : Draft) (r : Refused) (why : Refusal) (s' : Stored K) → IsGoneIn called s d r why s' ⊎ IsOtherIn called s d r why s' → stored.open_of s' ≡ closed s d
 draft_open {K} called s d r why s' (inl x) = ap (λ (y : Stored K). stored.open_of y) x.expires.after
 draft_open called s d r why s' (inr x) = refuses_open called d.caller s r why s' (closed s d) x.refuses
@@ -344,6 +364,15 @@ ends_closed s s' d view moment (Err e) (inl h) = draft_open (called_in s d momen
 ends_closed {K} s s' d view moment (Err e) (inr h) = ap (λ (x : Stored K). (stored.open_of x)) h.1
 
 -- ---- on the only pass
+
+-- the draft is all that is open, and is closed
+closed_alone : {K : Type 0} (desk : DeskId) (c : Command) (first present next : Pass) (t : Trying) (attempts number : ℕ) (s s' : Stored K) → Going desk c first present t attempts number → Turned desk present next s s' → stored.open_of s' ≡ closed s t.draft → IsAlone first
+    → all_left_by first ≡ nothing_open → all_left_by next ≡ nothing_open
+closed_alone desk c first present next t attempts number s s' g turn left_open only nothing =
+    let there : stored.open_of s ≡ record { drafts = open_draft_of t.draft ∷ []; sweep = None } = (turn.alone (alone_still desk first present g.kept only)).2 ∙ g.rests only nothing in
+    let none : closed s t.draft ≡ nothing_open =
+    ap (λ (o : Open). record o { drafts = without (opening_in t.draft) o.drafts }) there ∙ (λ i. record { drafts = none_but (open_draft_of t.draft) i; sweep = None }) in
+    turn.all_left ∙ (left_open ∙ none)
 
 -- the store is found as the opening left it
 alone_at : {K : Type 0} (desk : DeskId) (c : Command) (first present next : Pass) (t : Trying) (attempts number moment : ℕ) (s s' : Stored K) → opens_draft c ≡ true → Going desk c first present t attempts number → Turned desk present next s s' → IsAlone first
@@ -406,6 +435,7 @@ comes_early desk c first present next t attempts number moment s s' r opens g tu
   grows = grown desk c first present next t attempts number s s' g turn;
   answers = settled_answers desk c first present next t attempts number moment s s' r opens g turn ends;
   alone = settled_alone desk c first present next t attempts number moment s s' r opens g turn ends;
+  rests = closed_alone desk c first present next t attempts number s s' g turn (ends_closed s s' t.draft t.view moment r ends);
 }
 
 -- ---- the last attempt
@@ -452,6 +482,7 @@ spent_comes {K} desk c first present next t attempts moment s s' built r opens g
         (ap (λ (y : State). Some y.place) (sym state), spent_pairs desk c first present next t attempts s s' built r opens g legal turn is x),
       );
       alone = λ only. absurd (x.moved.other (stays_alone desk present next s s' t.draft t.view built g.tries.view_is is turn (alone_still desk first present g.kept only)));
+      rests = closed_alone desk c first present next t attempts attempts s s' g turn (ap (λ (y : Stored K). stored.open_of y) x.after);
     }
 
 pub comes_late : {K : Type 0} (desk : DeskId) (c : Command) (first present next : Pass) (t : Trying) (attempts moment : ℕ) (s s' : Stored K) (r : Result Told Refused) → opens_draft c ≡ true → Going desk c first present t attempts attempts → IsLegalFrom desk.opened (seen next)

@@ -1,5 +1,5 @@
 -- What is open of a caller, as its drafts are opened and closed.
-use Rattle.std.proofs.Common.{◌≡◌, ℕ, List, [], ◌∷◌, ◌++◌, Bool, true, false, cond, nat_eq, ◌&&◌, refl, ap, ◌∙◌, eq-eqb}
+use Rattle.std.proofs.Common.{◌≡◌, ℕ, List, [], ◌∷◌, ◌++◌, Bool, true, false, cond, nat_eq, ◌&&◌, refl, ap, ap₂, ◌∙◌, eq-eqb}
 use Rattle.cat_core.specs.Drafts.{without}
 use Rattle.cat_model.specs.Drafts.{OpenDraft, drafts_of}
 
@@ -13,6 +13,10 @@ drafts_more n (x ∷ xs) ys = more_at (nat_eq x.opening.caller n) x (drafts_of n
 
 pub drafts_one : (d : OpenDraft) → drafts_of d.opening.caller (d ∷ []) ≡ d ∷ []
 drafts_one d = ap (λ (b : Bool). cond b (d ∷ []) []) (eq-eqb d.opening.caller d.opening.caller refl)
+
+-- none is left of one alone
+pub none_but : (d : OpenDraft) → without d.opening (d ∷ []) ≡ []
+none_but d = ap₂ (λ (a b : Bool). cond (a && b) [] (d ∷ [])) (eq-eqb d.opening.caller d.opening.caller refl) (eq-eqb d.opening.number d.opening.number refl)
 
 rest_of : List OpenDraft → List OpenDraft
 rest_of [] = []

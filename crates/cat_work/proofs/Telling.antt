@@ -29,6 +29,7 @@ use Rattle.cat_model.specs.TurnLaws.{grows_on}
 use Rattle.cat_work.specs.Answers.{Answers, AnswersAlone, BeganAt, Causes, ComesToIn, HadNumber, IsAt, IsDraftAbove, IsEntryOf, IsRuledOut, NoFaultIsNew, RefusesAlone}
 use Rattle.cat_work.specs.Passes.{IsAlone, book_of, state_of}
 use Rattle.cat_work.specs.Turns.{Turned}
+pub use Rattle.cat_work.specs.TurnLaws.{Left, book_found, grew_in, left_by_turn}
 use Rattle.cat_work.proofs.Callings.{Brings, Entering, IsGone, Telling, call_gone, draft_gone, entry_draft_is, entry_is, refused_is, told_is, undrafted}
 use Rattle.cat_work.proofs.Expiring.{gone_at_draft, gone_at_state}
 use Rattle.cat_core.specs.PlainLaws.{IsUsual, IsUsualCause}
@@ -47,33 +48,6 @@ pub record Found {K : Type 0} (desk : DeskId) (n : ℕ) (first : Pass) (s : Stor
 pub record Numbered (desk : DeskId) (c : Command) (first : Pass) (draft : ℕ) : Type 0 where
   pub above : IsDraftAbove (mark_of first).draft (opens_draft c) draft
   pub number : HadNumber desk c (mark_of first).draft
-
--- the store as a turn leaves it, against the pass after it
-pub record Left {K : Type 0} (desk : DeskId) (next : Pass) (s : Stored K) : Type 0 where
-  pub seen_is : seen next ≡ log_of s
-  pub mark_is : mark_of next ≡ s.mark
-  pub state_is : state_of desk (seen next) ≡ s.book.state
-  pub book_is : book_of desk next ≡ s.book
-
-pub left_by_turn : {K : Type 0} (desk : DeskId) (p q : Pass) (s s' : Stored K) → Turned desk p q s s' → Left desk q s'
-left_by_turn desk p q s s' t =
-    let state : state_of desk (seen q) ≡ s'.book.state = ap (state_of desk) t.seen_is ∙ t.led_on in
-    let draft : (mark_of q).draft ≡ s'.book.draft = ap (λ (m : Mark). m.draft) t.mark_is ∙ t.draft_on in
-    let log : reverse (seen q) ≡ s'.book.log = ap (λ (l : List LogEntry). reverse l) t.seen_is ∙ reverse-reverse s'.book.log in
-    record { seen_is = t.seen_is; mark_is = t.mark_is; state_is = state; book_is = λ i. record { state = state i; draft = draft i; log = log i; base = sym t.base_on i } }
-
--- the mark that the pass holds grew, between its turns and in this one
-pub grew_in : {K : Type 0} (desk : DeskId) (p q : Pass) (s s' : Stored K) → Turned desk p q s s' → Grows (mark_of p) (mark_of q)
-grew_in desk p q s s' t = subst (Grows (mark_of p)) (sym t.mark_is) (grows_on (mark_of p) s.mark s'.mark t.linked.grows t.grew)
-
--- the book that a pass finds alone is its own
-pub book_found : {K : Type 0} (desk : DeskId) (p q : Pass) (s s' : Stored K) → Turned desk p q s s' → IsAlone p → s.book ≡ book_of desk p
-book_found desk p q s s' t alone =
-    let there = t.alone alone in
-    let state : s.book.state ≡ state_of desk (seen p) = sym t.led ∙ ap (state_of desk) there.0 in
-    let draft : s.book.draft ≡ (mark_of p).draft = sym t.draft ∙ ap (λ (m : Mark). m.draft) there.1 in
-    let log : s.book.log ≡ reverse (seen p) = sym (reverse-reverse s.book.log) ∙ ap (λ (l : List LogEntry). reverse l) there.0 in
-    λ i. record { state = state i; draft = draft i; log = log i; base = t.base i }
 
 -- ---- steps at the state that is left
 

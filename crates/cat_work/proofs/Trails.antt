@@ -26,21 +26,8 @@ use Rattle.cat_decisions.specs.OpenedLaws.{merge_opened, transplant_opened}
 use Rattle.cat_work.specs.Answers.{AreHeadsAt, Climbs, IsHeadAt, Rises, first_place}
 use Rattle.cat_work.specs.Passes.{state_of}
 use Rattle.cat_work.specs.Turns.{Trail}
-
--- ---- logs that go on
-
-pub follows_length : (n : ℕ) (a b : List LogEntry) → Follows n a b → length a ≤ length b
-follows_length n a b f = let e : length b ≡ length a + length f.0 = ap length f.1 ∙ length-append a f.0 in omega arith
-
--- nothing is taken away from the state of a log that goes on
-pub goes_later : (desk : DeskId) (n : ℕ) (a b : List LogEntry) → Follows n a b → IsLater (state_of desk a) (state_of desk b)
-goes_later desk n a b f = subst (λ (x : Book). IsLater (state_of desk a) x.state) (sym (ap (book_at desk.opened) f.1 ∙ book_more sha256 (begun desk.opened) a f.0)) (books_later sha256 (book_at desk.opened a) f.0)
-
-pub place_at : (desk : DeskId) (log : List LogEntry) → IsLegalFrom desk.opened log → (state_of desk log).place ≡ desk.opened.state.place + length log
-place_at desk log is = place_is sha256 (begun desk.opened) log is.legal
-
-legal_before : (desk : DeskId) (n : ℕ) (a b : List LogEntry) → Follows n a b → IsLegalFrom desk.opened b → IsLegalFrom desk.opened a
-legal_before desk n a b f is = begins_legal desk.opened a f.0 (subst (IsLegalFrom desk.opened) f.1 is)
+use Rattle.cat_work.specs.TurnLaws.{legal_before}
+pub use Rattle.cat_work.specs.TurnLaws.{goes_later, place_at}
 
 -- ---- heads
 

@@ -23,32 +23,8 @@ use Rattle.cat_model.specs.State.{State}
 use Rattle.cat_model.specs.Turns.{Opened}
 use Rattle.cat_work.specs.Passes.{IsAlone, state_of}
 use Rattle.cat_work.specs.Turns.{EndsLast, Opens, OpensNone, SettlesLast, Turned}
-use Rattle.cat_work.proofs.Trails.{goes_later}
-
--- the state is the one that the log leads to from the desk's beginning
-led_from : {K : Type 0} (desk : DeskId) (s : Stored K) → opened_of s ≡ desk.opened → (book_at (opened_of s) (log_of s)).state ≡ s.book.state → state_of desk (log_of s) ≡ s.book.state
-led_from desk s opened led = ap (λ (o : Opened). (book_at o (log_of s)).state) (sym opened) ∙ led
-
-pub turned : {K : Type 0} (desk : DeskId) (p during q : Pass) (s s' : Stored K) → number_of during ≡ number_of p → opened_of s ≡ desk.opened → opened_of s' ≡ opened_of s → Follows (number_of p) (seen p) (log_of s) → Linked (number_of p) (mark_of p) s.mark
-    → StaysOpen (left_by p) (open_of (number_of p) (stored.open_of s)) → (IsAlone p → (log_of s ≡ seen p) × (s.mark ≡ mark_of p)) → (book_at (opened_of s) (log_of s)).state ≡ s.book.state → s.mark.draft ≡ s.book.draft → s.book.base ≡ (opened_of s).state
-    → (book_at (opened_of s') (log_of s')).state ≡ s'.book.state → s'.mark.draft ≡ s'.book.draft → s'.book.base ≡ (opened_of s').state → seen q ≡ log_of s' → mark_of q ≡ s'.mark → Grows s.mark s'.mark → left_by q ≡ open_of (number_of during) (stored.open_of s') → Turned desk p q s s'
-turned desk p during q s s' number opened same follows linked own alone led draft base led_on draft_on base_on seen_is mark_is grew left = record {
-  opened = opened;
-  follows = follows;
-  linked = linked;
-  own = own;
-  alone = alone;
-  led = led_from desk s opened led;
-  draft = draft;
-  base = base ∙ ap (λ (o : Opened). o.state) opened;
-  led_on = led_from desk s' (same ∙ opened) led_on;
-  draft_on = draft_on;
-  base_on = base_on ∙ ap (λ (o : Opened). o.state) (same ∙ opened);
-  seen_is = seen_is;
-  mark_is = mark_is;
-  grew = grew;
-  left = left ∙ ap (λ (n : ℕ). open_of n (stored.open_of s')) number;
-}
+use Rattle.cat_work.specs.TurnLaws.{goes_later, led_from}
+pub use Rattle.cat_work.specs.TurnLaws.{turned}
 
 pub opened_in : (K : Type 0) (desk : DeskId) (c : Command) (p q : Pass) (n : ℕ) (s s' : Stored K) (r : Result (Draft × State) Refused) → n ≡ number_of p → Turned desk p q s s' → IfOk r (λ t. IsOpening n c s s' t.0 t.1) → IfOk r (λ t. Opens K desk c p q t.0 t.1)
 opened_in K desk c p q n s s' (Ok t) number turn h = (s, s', turn, subst (λ (m : ℕ). IsOpening m c s s' t.0 t.1) number h)

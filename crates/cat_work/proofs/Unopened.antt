@@ -5,7 +5,7 @@ use Rattle.cat_core.specs.Drafts.{NotOpened, may_open}
 use Rattle.cat_core.specs.Stored.{IsUp, Stored}
 use Rattle.cat_desk.specs.Log.{Follows}
 use Rattle.cat_desk.specs.LogLaws.{follows_itself}
-use Rattle.cat_desk.specs.Pass.{DeskId, known, left_by, mark_of, number_of, seen}
+use Rattle.cat_desk.specs.Pass.{DeskId, all_left_by, known, left_by, mark_of, number_of, seen}
 use Rattle.cat_desk.specs.declared.pass.Pass.{Pass}
 use Rattle.cat_model.specs.declared.command.Command.{Command}
 use Rattle.cat_model.specs.declared.refusal.Refusal.{Refusal}
@@ -37,6 +37,10 @@ found_first desk p q s s' turn = record { follows = turn.follows; led = turn.led
 pub none_still : {K : Type 0} (desk : DeskId) (p q : Pass) (s s' : Stored K) → left_by p ≡ nothing_open → Turned desk p q s s' → stored.open_of s' ≡ stored.open_of s → left_by q ≡ nothing_open
 none_still desk p q s s' none turn same =
     turn.left ∙ (ap (λ (o : Open). open_of (number_of p) o) same ∙ nothing_stays (open_of (number_of p) (stored.open_of s)) (subst (λ (o : Open). StaysOpen o (open_of (number_of p) (stored.open_of s))) none turn.own))
+
+-- on the only pass, such a turn leaves open all that was
+pub same_open : {K : Type 0} (desk : DeskId) (p q : Pass) (s s' : Stored K) → Turned desk p q s s' → stored.open_of s' ≡ stored.open_of s → IsAlone p → all_left_by q ≡ all_left_by p
+same_open desk p q s s' turn same only = turn.all_left ∙ (same ∙ (turn.alone only).2)
 
 -- ---- by the tests before a draft
 
@@ -230,6 +234,7 @@ no_turn desk c p attempts moment none = record {
   grows = grows_self (mark_of p);
   answers = (follows_itself (number_of p) (seen p), (refl, λ x is own. is));
   alone = λ only. (unchanged_given_up (book_of desk p) (book_of desk p) out_of_memory refl refl, refl);
+  rests = λ only nothing. nothing;
 }
 
 pub begins_none : (K : Type 0) (desk : DeskId) (c : Command) (p q : Pass) (attempts moment : ℕ) (r : Refused) → opens_draft c ≡ true → left_by p ≡ nothing_open → BeginsNone K desk c p q r → Comes desk c p q attempts moment (Err r)
@@ -239,6 +244,7 @@ begins_none K desk c p q attempts moment r opens none (inr h) = record {
   grows = grew_in desk p q h.0 h.1 h.2;
   answers = answers_none desk moment attempts (known p) c p q h.0 h.1 r r.why opens h.2 h.3 refl h.4;
   alone = λ only. alone_none desk moment c p q h.0 h.1 r r.why opens h.2 h.3 refl h.4 only;
+  rests = λ only nothing. same_open desk p q h.0 h.1 h.2 (ap (λ (y : Stored K). stored.open_of y) h.3) only ∙ nothing;
 }
 
 -- ---- what is known

@@ -6,7 +6,7 @@ use Rattle.cat_names.specs.declared.hash.Hash.{Hash}
 use Rattle.cat_decisions.specs.Builds.{HasHead}
 use Rattle.cat_desk.specs.Log.{Follows}
 use Rattle.cat_io.specs.Clocks.{Ticks}
-use Rattle.cat_desk.specs.Pass.{DeskId, known, mark_of, number_of, seen}
+use Rattle.cat_desk.specs.Pass.{DeskId, all_left_by, known, mark_of, number_of, seen}
 use Rattle.cat_desk.specs.declared.pass.Pass.{Pass}
 use Rattle.cat_state.specs.Kept.{spelling}
 use Rattle.cat_core.specs.Making.{IsNotKept}
@@ -22,6 +22,7 @@ use Rattle.cat_model.specs.declared.reply.Reply.{Reply}
 use Rattle.cat_model.specs.declared.reply.Told.{Told}
 use Rattle.cat_model.specs.Book.{Book, IsCalled, IsGivenUp, call_on}
 use Rattle.cat_model.specs.Calls.{Called, entry_made}
+use Rattle.cat_model.specs.Drafts.{nothing_open}
 use Rattle.cat_model.specs.Mark.{FailedAppend, Mark}
 use Rattle.cat_model.specs.Refusing.{Outcome}
 use Rattle.cat_model.specs.State.{State}
@@ -255,9 +256,10 @@ AnswersAlone n called b b' f f' (Err refused) = RefusesAlone n called b b' f f' 
 
 -- ---- a call
 
--- what a call on a pass answers, at the moment of one reading of the clock and in so many attempts, whatever others do; and what on the only pass of its desk
+-- what a call on a pass answers, at the moment of one reading of the clock and in so many attempts, whatever others do; and what on the only pass of its desk, where nothing is left open if nothing was open
 abbrev pub AnswersTo : DeskId → Command → ℕ → Option (ℕ → ℕ) → Option (ℕ → ℕ) → Pass → Pass → Result Told Refused → Type 0
 AnswersTo desk command attempts ahead ahead' p q result =
     (moment : ℕ) × Ticks ahead ahead' moment
     × Answers desk (number_of p) command moment attempts (known p) (mark_of p) (mark_of q) (seen p) (seen q) result
     × (IsAlone p → AnswersAlone (number_of p) (call_on sha256 (number_of p) (book_of desk p) command moment) (book_of desk p) (book_of desk q) (mark_of p).fault (mark_of q).fault result)
+    × (IsAlone p → all_left_by p ≡ nothing_open → all_left_by q ≡ nothing_open)

@@ -1,6 +1,7 @@
 pub mod Passes
 pub mod Answers
 pub mod Turns
+pub mod TurnLaws
 pub mod BookLaws
 pub mod AnswerLaws
 pub mod ReadyLaws

@@ -12,7 +12,7 @@ use Rattle.cat_core.specs.declared.draft.Settled.{Settled}
 use Rattle.cat_core.specs.declared.draft.Settled.TheVariants as settled
 use Rattle.cat_desk.specs.Log.{Follows}
 use Rattle.cat_desk.specs.Marks.{Linked}
-use Rattle.cat_desk.specs.Pass.{DeskId, Keeps, known, left_by, mark_of, number_of, seen}
+use Rattle.cat_desk.specs.Pass.{DeskId, Keeps, all_left_by, known, left_by, mark_of, number_of, seen}
 use Rattle.cat_desk.specs.declared.pass.Pass.{Pass}
 use Rattle.cat_model.specs.declared.command.Command.{Command}
 use Rattle.cat_model.specs.declared.command.Command.TheVariants as commands
@@ -53,7 +53,7 @@ pub record Turned {K : Type 0} (desk : DeskId) (p q : Pass) (s s' : Stored K) : 
   pub follows : Follows (number_of p) (seen p) (log_of s)
   pub linked : Linked (number_of p) (mark_of p) s.mark
   pub own : StaysOpen (left_by p) (open_of (number_of p) (stored.open_of s))
-  pub alone : IsAlone p → (log_of s ≡ seen p) × (s.mark ≡ mark_of p)
+  pub alone : IsAlone p → (log_of s ≡ seen p) × (s.mark ≡ mark_of p) × (s.left_open ≡ all_left_by p)
   pub led : state_of desk (log_of s) ≡ s.book.state
   pub draft : s.mark.draft ≡ s.book.draft
   pub base : s.book.base ≡ desk.opened.state
@@ -64,6 +64,7 @@ pub record Turned {K : Type 0} (desk : DeskId) (p q : Pass) (s s' : Stored K) : 
   pub mark_is : mark_of q ≡ s'.mark
   pub grew : Grows s.mark s'.mark
   pub left : left_by q ≡ open_of (number_of p) (stored.open_of s')
+  pub all_left : all_left_by q ≡ s'.left_open
 
 -- a turn that opened a draft
 abbrev pub Opens : (K : Type 0) → DeskId → Command → Pass → Pass → Draft → State → Type 0
@@ -184,6 +185,7 @@ pub record Going (desk : DeskId) (c : Command) (first present : Pass) (t : Tryin
   pub faults : NoFaultIsNew (number_of first) (mark_of first) (mark_of present)
   pub grows : Grows (mark_of first) (mark_of present)
   pub alone : IsAlone first → StoodAlone desk c first present t.draft.number t.draft.place
+  pub rests : IsAlone first → all_left_by first ≡ nothing_open → all_left_by present ≡ record { drafts = open_draft_of t.draft ∷ []; sweep = None }
 
 -- the first turn of a call, and the head that is built on first
 pub record Begins (K : Type 0) (desk : DeskId) (c : Command) (p q : Pass) (t : Trying) : Type 0 where
@@ -202,3 +204,4 @@ pub record Comes (desk : DeskId) (c : Command) (first next : Pass) (attempts mom
   pub grows : Grows (mark_of first) (mark_of next)
   pub answers : Answers desk (number_of first) c moment attempts (known first) (mark_of first) (mark_of next) (seen first) (seen next) r
   pub alone : IsAlone first → AnswersAlone (number_of first) (call_on sha256 (number_of first) (book_of desk first) c moment) (book_of desk first) (book_of desk next) (mark_of first).fault (mark_of next).fault r
+  pub rests : IsAlone first → all_left_by first ≡ nothing_open → all_left_by next ≡ nothing_open

@@ -2,7 +2,7 @@
 
 ghost use Rattle.std.specs.Prelude.{◌≡◌, IfErr, IfOk, reverse};
 ghost use Rattle.cat_core.specs.Stored.{opened_of};
-ghost use Rattle.cat_desk.specs.Pass.{mark_of, number_of, seen, spare_of};
+ghost use Rattle.cat_desk.specs.Pass.{all_left_by, mark_of, number_of, seen, spare_of};
 ghost use Rattle.cat_model.specs.Drafts.{nothing_open};
 ghost use Rattle.cat_work.specs.Passes.{IsAlone, IsReady, book_of};
 
@@ -24,7 +24,8 @@ pub fn hold<K: Keeper>(
     ensures book { IfOk result (λ t. book_of t.0 t.1 ≡ store.book) }
     ensures begun { IfOk result
         (λ t. (t.0.begun ≡ reverse store.book.log) × (seen t.1 ≡ t.0.begun)) }
-    ensures mark { IfOk result (λ t. mark_of t.1 ≡ store.mark) }
+    ensures mark { IfOk result
+        (λ t. (mark_of t.1 ≡ store.mark) × (all_left_by t.1 ≡ nothing_open)) }
     ensures opened { IfOk result (λ t. t.0.opened ≡ opened_of store) }
     ensures refused { IfErr result (λ e. e.0 ≡ store) }
 {
@@ -37,7 +38,7 @@ pub fn release<K: Keeper>(desk: Desk<Store<K>>, pass: Pass) -> Store<K>
     requires ready { IsReady desk pass }
     requires alone { IsAlone pass }
     ensures book { result.book ≡ book_of desk pass }
-    ensures mark { result.mark ≡ mark_of pass }
+    ensures mark { (result.mark ≡ mark_of pass) × (result.left_open ≡ all_left_by pass) }
     ensures opened { opened_of result ≡ desk.opened }
 {
     match desk.close(pass) {

@@ -2,7 +2,7 @@
 ghost use Rattle.std.specs.Prelude.{◌≡◌, ◌≤◌, length};
 ghost use Rattle.sha2.specs.Sha256.{sha256};
 ghost use Rattle.cat_desk.specs.Log.{Follows};
-ghost use Rattle.cat_desk.specs.Pass.{Keeps, known, mark_of, number_of, seen};
+ghost use Rattle.cat_desk.specs.Pass.{Keeps, all_left_by, known, mark_of, number_of, seen};
 ghost use Rattle.cat_model.specs.Book.{Reads};
 ghost use Rattle.cat_model.specs.Mark.{Grows};
 ghost use Rattle.cat_work.specs.Passes.{IsAlone, IsReady, book_of};
@@ -34,7 +34,8 @@ pub fn read<R: Wait, K: Keeper>(
     ensures reads { Reads sha256 (book_of desk.now pass.new) ask.now result }
     ensures alone { IsAlone pass.old
         → (book_of desk.now pass.new ≡ book_of desk.now pass.old)
-        × ((mark_of pass.new).fault ≡ (mark_of pass.old).fault) }
+        × ((mark_of pass.new).fault ≡ (mark_of pass.old).fault)
+        × (all_left_by pass.new ≡ all_left_by pass.old) }
 {
     let held = desk.enter(rt, pass);
     held.value.history();

@@ -2,9 +2,10 @@
 ghost use Rattle.std.specs.Prelude.{ℕ, ◌≡◌, ◌≤◌, false, length, IsTrue};
 ghost use Rattle.sha2.specs.Sha256.{sha256};
 ghost use Rattle.cat_checks.specs.Histories.{IsLegalFrom};
-ghost use Rattle.cat_desk.specs.Pass.{Keeps, known, mark_of, number_of, seen};
+ghost use Rattle.cat_desk.specs.Pass.{Keeps, all_left_by, known, mark_of, number_of, seen};
 ghost use Rattle.cat_io.specs.Clocks.{Ticks};
 ghost use Rattle.cat_model.specs.Book.{call_on};
+ghost use Rattle.cat_model.specs.Drafts.{nothing_open};
 ghost use Rattle.cat_model.specs.Mark.{Grows};
 ghost use Rattle.cat_model.specs.Step.{opens_draft};
 ghost use Rattle.cat_model.specs.WellMade.{is_well_made};
@@ -74,7 +75,10 @@ pub fn refer<R: Wait, K: Keeper, C: Clock>(
         → AnswersAlone (number_of pass.old)
         (call_on sha256 (number_of pass.old) (book_of desk.now pass.old) command.now moment)
         (book_of desk.now pass.old) (book_of desk.now pass.new) (mark_of pass.old).fault
-        (mark_of pass.new).fault result) }
+        (mark_of pass.new).fault result)
+        × (IsAlone pass.old
+        → all_left_by pass.old ≡ nothing_open
+        → all_left_by pass.new ≡ nothing_open) }
 {
     let moment = Moment::from_micros(clock.now());
     refer_at(rt, alloc, desk, pass, moment, command)

@@ -23,7 +23,7 @@ use Rattle.cat_model.specs.Commits.{given_ops, given_request, request_commit, co
 use Rattle.cat_model.specs.Answer.{answer_reference, answer_content}
 use Rattle.cat_model.specs.Calls.{attempt, entry_made}
 use Rattle.cat_model.specs.Requests.{Session}
-use Rattle.cat_model.proofs.Rows.Script.{script}
+use Rattle.cat_model.proofs.Rows.Script.{script, at_state}
 use Rattle.cat_model.proofs.Rows.Words.{main, H0, table, no_id, new, again, commit, put_new, put, both, read, after, said, head, done, gives, not, refused_at, t1, t2, t9, a, a-t, m1, empty, ids, head_commit, parent_of_head, one}
 
 the_first_commit : said empty (put_new (Some H0) t1 m1 ∷ read (Some main) None t1 ∷ read (Some main) None t2 ∷ [])
@@ -69,7 +69,7 @@ unfolding u8_spelling u16_spelling u32_spelling u64_spelling i64_spelling i32_sp
 its_draft_is_used = refl
 
 -- a call refused before its draft has used none
-no_draft_is_used : (after one (put_new (Some (record { bytes = 1 ∷ [] })) t2 m1 ∷ commit (codes "none") None (Unchanged t1 ∷ []) [] ∷ [])).draft ≡ 1
+no_draft_is_used : (after one (put_new (Some (record { bytes = 1 ∷ [] })) t2 m1 ∷ commit (codes "none") None (Unchanged t1 ∷ []) [] ∷ [])).book.draft ≡ 1
 unfolding u8_spelling u16_spelling u32_spelling u64_spelling i64_spelling i32_spelling list ascending text_code short_text_code hash_code id_code element_code key_code moment_code kind_code entry_code meta_code commit_code table_code namespace_code of_table of_namespace content_code emptied_fault changes_of op_fault judge entries commit_bytes content_bytes with_commit with_content given_ops given_request request_commit commit_opening needs_commit_room step_commit answer_reference answer_content entry_made attempt script
 no_draft_is_used = refl
 
@@ -127,7 +127,7 @@ there_and_back : said one (
 unfolding u8_spelling u16_spelling u32_spelling u64_spelling i64_spelling i32_spelling list ascending text_code short_text_code hash_code id_code element_code key_code moment_code kind_code entry_code meta_code commit_code table_code namespace_code of_table of_namespace content_code emptied_fault changes_of op_fault judge entries commit_bytes content_bytes with_commit with_content given_ops given_request request_commit commit_opening needs_commit_room step_commit answer_reference answer_content entry_made attempt script
 there_and_back = refl
 
-a_tag_takes_no_commits : said (record empty { state = record empty.state { references = record { name = main; kind = Tag; head = H0 } ∷ [] } }) (put_new None t1 m1 ∷ []) ≡ not (Some 0) (BadRequest NotABranch) ∷ []
+a_tag_takes_no_commits : said (at_state empty (record empty.book.state { references = record { name = main; kind = Tag; head = H0 } ∷ [] })) (put_new None t1 m1 ∷ []) ≡ not (Some 0) (BadRequest NotABranch) ∷ []
 unfolding u8_spelling u16_spelling u32_spelling u64_spelling i64_spelling i32_spelling list ascending text_code short_text_code hash_code id_code element_code key_code moment_code kind_code entry_code meta_code commit_code table_code namespace_code of_table of_namespace content_code emptied_fault changes_of op_fault judge entries commit_bytes content_bytes with_commit with_content given_ops given_request request_commit commit_opening needs_commit_room step_commit answer_reference answer_content entry_made attempt script
 a_tag_takes_no_commits = refl
 
@@ -145,13 +145,13 @@ another_value_was_expected = refl
 
 -- a session whose branch is back at the first hash, with the commits as they were
 abbrev turned_back : Session → Session
-turned_back s = record s { state = record s.state { references = record { name = codes "dev"; kind = Branch; head = head s } ∷ record { name = main; kind = Branch; head = H0 } ∷ [] } }
+turned_back s = at_state s (record s.book.state { references = record { name = codes "dev"; kind = Branch; head = head s } ∷ record { name = main; kind = Branch; head = H0 } ∷ [] })
 
 commits_of_another_chain : ids (after (turned_back one) (put_new None t2 m1 ∷ [])) ≡ (t2, fresh_id 2 0) ∷ []
 unfolding u8_spelling u16_spelling u32_spelling u64_spelling i64_spelling i32_spelling list ascending text_code short_text_code hash_code id_code element_code key_code moment_code kind_code entry_code meta_code commit_code table_code namespace_code of_table of_namespace content_code emptied_fault changes_of op_fault judge entries commit_bytes content_bytes with_commit with_content given_ops given_request request_commit commit_opening needs_commit_room step_commit answer_reference answer_content entry_made attempt script
 commits_of_another_chain = refl
 
-other_branches_stay : map (λ r. r.head) (after (turned_back one) (put_new None t2 m1 ∷ [])).state.references ≡ head one ∷ head (after (turned_back one) (put_new None t2 m1 ∷ [])) ∷ []
+other_branches_stay : map (λ r. r.head) (after (turned_back one) (put_new None t2 m1 ∷ [])).book.state.references ≡ head one ∷ head (after (turned_back one) (put_new None t2 m1 ∷ [])) ∷ []
 unfolding u8_spelling u16_spelling u32_spelling u64_spelling i64_spelling i32_spelling list ascending text_code short_text_code hash_code id_code element_code key_code moment_code kind_code entry_code meta_code commit_code table_code namespace_code of_table of_namespace content_code emptied_fault changes_of op_fault judge entries commit_bytes content_bytes with_commit with_content given_ops given_request request_commit commit_opening needs_commit_room step_commit answer_reference answer_content entry_made attempt script
 other_branches_stay = refl
 
@@ -159,6 +159,6 @@ a_hash_off_the_chain : said (turned_back one) (put_new (Some (head one)) t2 m1 �
 unfolding u8_spelling u16_spelling u32_spelling u64_spelling i64_spelling i32_spelling list ascending text_code short_text_code hash_code id_code element_code key_code moment_code kind_code entry_code meta_code commit_code table_code namespace_code of_table of_namespace content_code emptied_fault changes_of op_fault judge entries commit_bytes content_bytes with_commit with_content given_ops given_request request_commit commit_opening needs_commit_room step_commit answer_reference answer_content entry_made attempt script
 a_hash_off_the_chain = refl
 
-the_kind_is_looked_at_before_the_hash : said (record empty { state = record empty.state { references = record { name = main; kind = Tag; head = H0 } ∷ [] } }) (put_new (Some (record { bytes = 1 ∷ [] })) t1 m1 ∷ []) ≡ not (Some 0) (BadRequest NotABranch) ∷ []
+the_kind_is_looked_at_before_the_hash : said (at_state empty (record empty.book.state { references = record { name = main; kind = Tag; head = H0 } ∷ [] })) (put_new (Some (record { bytes = 1 ∷ [] })) t1 m1 ∷ []) ≡ not (Some 0) (BadRequest NotABranch) ∷ []
 unfolding u8_spelling u16_spelling u32_spelling u64_spelling i64_spelling i32_spelling list ascending text_code short_text_code hash_code id_code element_code key_code moment_code kind_code entry_code meta_code commit_code table_code namespace_code of_table of_namespace content_code emptied_fault changes_of op_fault judge entries commit_bytes content_bytes with_commit with_content given_ops given_request request_commit commit_opening needs_commit_room step_commit answer_reference answer_content entry_made attempt script
 the_kind_is_looked_at_before_the_hash = refl

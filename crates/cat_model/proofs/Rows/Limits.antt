@@ -22,7 +22,7 @@ use Rattle.cat_model.specs.Commits.{given_ops, given_request, request_commit, co
 use Rattle.cat_model.specs.Answer.{answer_reference, answer_content}
 use Rattle.cat_model.specs.Calls.{attempt, entry_made}
 use Rattle.cat_model.specs.Requests.{Session}
-use Rattle.cat_model.proofs.Rows.Script.{first_session, Outcomes, script}
+use Rattle.cat_model.proofs.Rows.Script.{first_session, Outcomes, script, at_state}
 use Rattle.cat_model.proofs.Rows.Words.{quick, clock, Request, short, main, H0, table, no_id, new, again, commit, put_new, put, after, said, done, not, refused_at, t1, t2, t9, m1, empty, limited, ample, one}
 
 limits_of_each_quantity : (said (limited (record ample { log = 1 })) (put_new None t1 m1 ∷ put_new None t1 m1 ∷ []) ≡ done 1 ∷ not (Some 1) (Limit Log 1) ∷ [])
@@ -90,16 +90,16 @@ a_commit_of_the_first_hash = refl
 
 -- the branch is back at the first hash
 abbrev turned_back : Session → Session
-turned_back s = record s { state = record s.state { references = record { name = main; kind = Branch; head = H0 } ∷ [] } }
+turned_back s = at_state s (record s.book.state { references = record { name = main; kind = Branch; head = H0 } ∷ [] })
 
 -- the same call at the same moment and head makes the same commit, which stands once
 abbrev repeated : Outcomes
 repeated = script quick 1 (λ n. 5) (turned_back (script quick 1 (λ n. 5) empty (commit main None (Unchanged t1 ∷ []) [] ∷ [])).after) (commit main None (Unchanged t1 ∷ []) [] ∷ [])
 
-the_same_commit_again : (map short repeated.said ≡ done 2 ∷ []) × (length repeated.after.state.commits ≡ 1)
+the_same_commit_again : (map short repeated.said ≡ done 2 ∷ []) × (length repeated.after.book.state.commits ≡ 1)
 unfolding u8_spelling u16_spelling u32_spelling u64_spelling i64_spelling i32_spelling list ascending text_code short_text_code hash_code id_code element_code key_code moment_code kind_code entry_code meta_code commit_code table_code namespace_code of_table of_namespace content_code emptied_fault changes_of op_fault judge entries commit_bytes content_bytes with_commit with_content given_ops given_request request_commit commit_opening needs_commit_room step_commit answer_reference answer_content entry_made attempt script
 the_same_commit_again = (refl, refl)
 
-the_same_content_again : length (after one (commit main None (Unchanged t1 ∷ again t9 (table (fresh_id 1 0) m1) ∷ Delete t1 ∷ []) (table (fresh_id 1 0) m1 ∷ []) ∷ [])).state.present ≡ 1
+the_same_content_again : length (after one (commit main None (Unchanged t1 ∷ again t9 (table (fresh_id 1 0) m1) ∷ Delete t1 ∷ []) (table (fresh_id 1 0) m1 ∷ []) ∷ [])).book.state.present ≡ 1
 unfolding u8_spelling u16_spelling u32_spelling u64_spelling i64_spelling i32_spelling list ascending text_code short_text_code hash_code id_code element_code key_code moment_code kind_code entry_code meta_code commit_code table_code namespace_code of_table of_namespace content_code emptied_fault changes_of op_fault judge entries commit_bytes content_bytes with_commit with_content given_ops given_request request_commit commit_opening needs_commit_room step_commit answer_reference answer_content entry_made attempt script
 the_same_content_again = refl

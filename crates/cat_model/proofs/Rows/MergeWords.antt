@@ -6,7 +6,7 @@ use Rattle.cat_names.specs.declared.hash.Hash.{Hash}
 use Rattle.cat_model.specs.Chain.{commit_of}
 use Rattle.cat_model.specs.State.{fresh_id}
 use Rattle.cat_model.specs.Requests.{Session}
-use Rattle.cat_model.proofs.Rows.Script.{script}
+use Rattle.cat_model.proofs.Rows.Script.{script, at_state}
 use Rattle.cat_model.specs.declared.commit.Commit.{Commit}
 use Rattle.cat_model.specs.declared.conflict.ConflictKind.{ConflictKind}
 use Rattle.cat_model.specs.declared.limits.Limits.{Limits}
@@ -46,7 +46,7 @@ abbrev pub shape : Commit → Shape
 shape c = (c.parent, (c.merge_parent, (c.generation, (c.time, c.meta.message))))
 
 abbrev pub at_head : Session → Option Shape
-at_head s = option_map shape (commit_of s.state.commits (head s))
+at_head s = option_map shape (commit_of s.book.state.commits (head s))
 
 abbrev pub merge_told : Reply → Option Merged
 merge_told (replies.Merged m) = Some m
@@ -80,8 +80,8 @@ abbrev pub three : Session
 three = after begin (new_on dev t2 (codes "x") ∷ [])
 
 abbrev pub with_limits : Limits → Session → Session
-with_limits limits s = record s { state = record s.state { limits = limits } }
+with_limits limits s = at_state s (record s.book.state { limits = limits })
 
 -- a state that holds no contents
 abbrev pub swept : Session → Session
-swept s = record s { state = record s.state { present = [] } }
+swept s = at_state s (record s.book.state { present = [] })

@@ -48,7 +48,7 @@ is_set ((key, Some entry) ∷ changes) = (key, true) ∷ is_set changes
 
 -- the keys that the head of a branch changed
 abbrev changed : List ℕ → Session → Option (List (Key × Bool))
-changed branch s = option_map (λ c. is_set c.ops) (commit_of s.state.commits (head_of branch s))
+changed branch s = option_map (λ c. is_set c.ops) (commit_of s.book.state.commits (head_of branch s))
 
 -- ---- both sides changed
 
@@ -76,11 +76,11 @@ the_head_of_conflicts : option_map heads (told_of both_changed (merge_as false t
 unfolding u8_spelling u16_spelling u32_spelling u64_spelling i64_spelling i32_spelling list ascending text_code short_text_code hash_code id_code element_code key_code moment_code kind_code entry_code meta_code commit_code table_code namespace_code of_table of_namespace content_code emptied_fault changes_of op_fault judge entries commit_bytes content_bytes with_commit with_content expired_keys given_ops given_request request_commit commit_opening needs_commit_room step_commit needs_contents step_create step_assign step_delete common_ancestors is_nearer base plan needs_planned_room step_applied merge_opening merge_planned step_merge answer_reference answer_content entry_made attempt script
 the_head_of_conflicts = refl
 
-conflicts_as_the_reply_use_a_draft : (after both_changed (merge_as false true main None dev (head_of dev both_changed) Normal ∷ [])).draft ≡ 4
+conflicts_as_the_reply_use_a_draft : (after both_changed (merge_as false true main None dev (head_of dev both_changed) Normal ∷ [])).book.draft ≡ 4
 unfolding u8_spelling u16_spelling u32_spelling u64_spelling i64_spelling i32_spelling list ascending text_code short_text_code hash_code id_code element_code key_code moment_code kind_code entry_code meta_code commit_code table_code namespace_code of_table of_namespace content_code emptied_fault changes_of op_fault judge entries commit_bytes content_bytes with_commit with_content expired_keys given_ops given_request request_commit commit_opening needs_commit_room step_commit needs_contents step_create step_assign step_delete common_ancestors is_nearer base plan needs_planned_room step_applied merge_opening merge_planned step_merge answer_reference answer_content entry_made attempt script
 conflicts_as_the_reply_use_a_draft = refl
 
-a_refused_merge_uses_a_draft : (after both_changed (merge main dev (head_of dev both_changed) Normal ∷ [])).draft ≡ 4
+a_refused_merge_uses_a_draft : (after both_changed (merge main dev (head_of dev both_changed) Normal ∷ [])).book.draft ≡ 4
 unfolding u8_spelling u16_spelling u32_spelling u64_spelling i64_spelling i32_spelling list ascending text_code short_text_code hash_code id_code element_code key_code moment_code kind_code entry_code meta_code commit_code table_code namespace_code of_table of_namespace content_code emptied_fault changes_of op_fault judge entries commit_bytes content_bytes with_commit with_content expired_keys given_ops given_request request_commit commit_opening needs_commit_room step_commit needs_contents step_create step_assign step_delete common_ancestors is_nearer base plan needs_planned_room step_applied merge_opening merge_planned step_merge answer_reference answer_content entry_made attempt script
 a_refused_merge_uses_a_draft = refl
 
@@ -98,7 +98,7 @@ a_dry_run_and_a_second_merge : said three (merge_as true false main None dev (he
 unfolding u8_spelling u16_spelling u32_spelling u64_spelling i64_spelling i32_spelling list ascending text_code short_text_code hash_code id_code element_code key_code moment_code kind_code entry_code meta_code commit_code table_code namespace_code of_table of_namespace content_code emptied_fault changes_of op_fault judge entries commit_bytes content_bytes with_commit with_content expired_keys given_ops given_request request_commit commit_opening needs_commit_room step_commit needs_contents step_create step_assign step_delete common_ancestors is_nearer base plan needs_planned_room step_applied merge_opening merge_planned step_merge answer_reference answer_content entry_made attempt script
 a_dry_run_and_a_second_merge = refl
 
-drafts_and_moments_of_merges : (after three (merge_as true false main None dev (head_of dev three) Normal ∷ merge main dev (head_of dev three) Normal ∷ merge main dev (head_of dev three) Normal ∷ [])).draft ≡ 5
+drafts_and_moments_of_merges : (after three (merge_as true false main None dev (head_of dev three) Normal ∷ merge main dev (head_of dev three) Normal ∷ merge main dev (head_of dev three) Normal ∷ [])).book.draft ≡ 5
 unfolding u8_spelling u16_spelling u32_spelling u64_spelling i64_spelling i32_spelling list ascending text_code short_text_code hash_code id_code element_code key_code moment_code kind_code entry_code meta_code commit_code table_code namespace_code of_table of_namespace content_code emptied_fault changes_of op_fault judge entries commit_bytes content_bytes with_commit with_content expired_keys given_ops given_request request_commit commit_opening needs_commit_room step_commit needs_contents step_create step_assign step_delete common_ancestors is_nearer base plan needs_planned_room step_applied merge_opening merge_planned step_merge answer_reference answer_content entry_made attempt script
 drafts_and_moments_of_merges = refl
 
@@ -133,7 +133,7 @@ the_head_of_a_dry_run = refl
 abbrev six : Session
 six = after merged_once (commit main None (again t2 (table (fresh_id 2 0) (codes "y")) ∷ []) (table (fresh_id 2 0) (codes "y") ∷ []) ∷ new_on dev t3 (codes "z") ∷ [])
 
-the_base_is_what_was_merged : base six.state.commits (head_of dev six) (head six) ≡ head_of dev three
+the_base_is_what_was_merged : base six.book.state.commits (head_of dev six) (head six) ≡ head_of dev three
 unfolding u8_spelling u16_spelling u32_spelling u64_spelling i64_spelling i32_spelling list ascending text_code short_text_code hash_code id_code element_code key_code moment_code kind_code entry_code meta_code commit_code table_code namespace_code of_table of_namespace content_code emptied_fault changes_of op_fault judge entries commit_bytes content_bytes with_commit with_content expired_keys given_ops given_request request_commit commit_opening needs_commit_room step_commit needs_contents step_create step_assign step_delete common_ancestors is_nearer base plan needs_planned_room step_applied merge_opening merge_planned step_merge answer_reference answer_content entry_made attempt script
 the_base_is_what_was_merged = refl
 
@@ -154,7 +154,7 @@ abbrev crossed : Session
 crossed = after crossing (merge main dev (head_of dev crossing) Normal ∷ merge dev main (head crossing) Normal ∷ [])
 
 abbrev is_lesser : Bool
-is_lesser = is_nearer crossed.state.commits (head crossing) (head_of dev crossing)
+is_lesser = is_nearer crossed.book.state.commits (head crossing) (head_of dev crossing)
 
 two_bases : said crossed (merge_as true false main None dev (head_of dev crossed) Normal ∷ []) ≡ merged 6 false true ∷ []
 unfolding u8_spelling u16_spelling u32_spelling u64_spelling i64_spelling i32_spelling list ascending text_code short_text_code hash_code id_code element_code key_code moment_code kind_code entry_code meta_code commit_code table_code namespace_code of_table of_namespace content_code emptied_fault changes_of op_fault judge entries commit_bytes content_bytes with_commit with_content expired_keys given_ops given_request request_commit commit_opening needs_commit_room step_commit needs_contents step_create step_assign step_delete common_ancestors is_nearer base plan needs_planned_room step_applied merge_opening merge_planned step_merge answer_reference answer_content entry_made attempt script
@@ -186,7 +186,7 @@ names_then_kinds_then_hashes : said three (merge (codes "none") dev other Normal
 unfolding u8_spelling u16_spelling u32_spelling u64_spelling i64_spelling i32_spelling list ascending text_code short_text_code hash_code id_code element_code key_code moment_code kind_code entry_code meta_code commit_code table_code namespace_code of_table of_namespace content_code emptied_fault changes_of op_fault judge entries commit_bytes content_bytes with_commit with_content expired_keys given_ops given_request request_commit commit_opening needs_commit_room step_commit needs_contents step_create step_assign step_delete common_ancestors is_nearer base plan needs_planned_room step_applied merge_opening merge_planned step_merge answer_reference answer_content entry_made attempt script
 names_then_kinds_then_hashes = refl
 
-tests_before_a_draft_use_none : (after three (merge main dev other Normal ∷ merge_as false false main (Some other) dev (head_of dev three) Normal ∷ [])).draft ≡ 2
+tests_before_a_draft_use_none : (after three (merge main dev other Normal ∷ merge_as false false main (Some other) dev (head_of dev three) Normal ∷ [])).book.draft ≡ 2
 unfolding u8_spelling u16_spelling u32_spelling u64_spelling i64_spelling i32_spelling list ascending text_code short_text_code hash_code id_code element_code key_code moment_code kind_code entry_code meta_code commit_code table_code namespace_code of_table of_namespace content_code emptied_fault changes_of op_fault judge entries commit_bytes content_bytes with_commit with_content expired_keys given_ops given_request request_commit commit_opening needs_commit_room step_commit needs_contents step_create step_assign step_delete common_ancestors is_nearer base plan needs_planned_room step_applied merge_opening merge_planned step_merge answer_reference answer_content entry_made attempt script
 tests_before_a_draft_use_none = refl
 

@@ -16,7 +16,7 @@ use Rattle.cat_model.specs.Pages.{history}
 use Rattle.cat_model.specs.Answer.{references_page, answer_reference, answer_entries, history_item, answer_history, answer_contents, answer_content}
 use Rattle.cat_model.specs.Calls.{attempt, entry_made}
 use Rattle.cat_model.specs.Requests.{Session}
-use Rattle.cat_model.proofs.Rows.Script.{script}
+use Rattle.cat_model.proofs.Rows.Script.{script, at_state}
 use Rattle.cat_model.specs.declared.command.Command.{Command}
 use Rattle.cat_model.specs.declared.command.Command.TheVariants as commands
 use Rattle.cat_model.specs.declared.conflict.ConflictKind.TheVariants.{UnexpectedHash}
@@ -82,7 +82,7 @@ moves_that_are_refused = refl
 
 -- the contents of one are gone
 abbrev swept : Session
-swept = record one { state = record one.state { present = [] } }
+swept = at_state one (record one.book.state { present = [] })
 
 contents_that_are_gone : said swept (create dev Branch (from_branch main) ∷ create dev Branch (from_hash H0) ∷ assign dev None None (from_branch main) ∷ assign dev None (Some (head one)) (from_branch main) ∷ [])
     ≡ not (Some 1) (Expired (t1 ∷ []) 1) ∷ stands 2 dev Branch H0 ∷ not (Some 2) (Expired (t1 ∷ []) 2) ∷ moved_off 2 ∷ []
@@ -101,7 +101,7 @@ unfolding u8_spelling u16_spelling u32_spelling u64_spelling i64_spelling i32_sp
 a_full_log = refl
 
 abbrev names : Session → List (List ℕ)
-names s = map (λ r. r.name) s.state.references
+names s = map (λ r. r.name) s.book.state.references
 
 names_ascend : names (after empty (create (codes "b") Branch (from_branch main) ∷ create (codes "z") Tag (from_branch main) ∷ create (codes "a") Branch (from_branch main) ∷ delete (codes "z") None None ∷ [])) ≡ codes "a" ∷ codes "b" ∷ main ∷ []
 unfolding u8_spelling u16_spelling u32_spelling u64_spelling i64_spelling i32_spelling list ascending text_code short_text_code hash_code id_code element_code key_code moment_code kind_code entry_code meta_code commit_code table_code namespace_code of_table of_namespace content_code emptied_fault changes_of op_fault judge entries commit_bytes content_bytes with_commit with_content expired_keys given_ops given_request request_commit commit_opening needs_commit_room step_commit needs_contents step_create step_assign step_delete history references_page answer_reference answer_entries history_item answer_history answer_contents answer_content entry_made attempt script

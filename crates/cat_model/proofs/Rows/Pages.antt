@@ -16,8 +16,8 @@ use Rattle.cat_model.specs.Moves.{needs_contents, step_create, step_assign, step
 use Rattle.cat_model.specs.Pages.{history}
 use Rattle.cat_model.specs.Answer.{references_page, answer_reference, answer_entries, history_item, answer_history, answer_contents, answer_content}
 use Rattle.cat_model.specs.Calls.{attempt, entry_made}
-use Rattle.cat_model.specs.Requests.{Session}
-use Rattle.cat_model.proofs.Rows.Script.{script}
+use Rattle.cat_model.specs.Requests.{Session, Read}
+use Rattle.cat_model.proofs.Rows.Script.{script, at_state}
 use Rattle.cat_model.specs.declared.ask.Ask.TheVariants as asks
 use Rattle.cat_model.specs.declared.content.Content.{Content}
 use Rattle.cat_model.specs.declared.filter.Filter.{Filter}
@@ -34,7 +34,6 @@ use Rattle.cat_model.specs.declared.reply.HistoryItem.{HistoryItem}
 use Rattle.cat_model.specs.declared.reply.Reply.{Reply}
 use Rattle.cat_model.specs.declared.reply.Reply.TheVariants as replies
 use Rattle.cat_model.specs.declared.reply.Told.{Told}
-use Rattle.cat_model.specs.declared.wanted.Wanted.TheVariants.{Read}
 use Rattle.cat_model.proofs.Rows.Words.{Request, quick, clock, main, dev, H0, note, table, no_id, new, commit, put_new, create, from_branch, from_hash, after, head, t1, t2, t9, a, a-t, m1, empty, one, both}
 
 abbrev t0 : Key
@@ -145,7 +144,7 @@ a_history_up_to_a_hash : pages later (walked (Some main) None (Some (head middle
 unfolding u8_spelling u16_spelling u32_spelling u64_spelling i64_spelling i32_spelling list ascending text_code short_text_code hash_code id_code element_code key_code moment_code kind_code entry_code meta_code commit_code table_code namespace_code of_table of_namespace content_code emptied_fault changes_of op_fault judge entries commit_bytes content_bytes with_commit with_content expired_keys given_ops given_request request_commit commit_opening needs_commit_room step_commit needs_contents step_create step_assign step_delete history references_page answer_reference answer_entries history_item answer_history answer_contents answer_content entry_made attempt script
 a_history_up_to_a_hash = refl
 
-a_history_with_its_operations : pages (record later { state = record later.state { present = [] } }) (walked None (Some (head later)) None true 1 None ∷ walked None (Some (head two)) None true 9 None ∷ []) ≡ commits 3 ((head later, (head middle, Some ((t2, None) ∷ []))) ∷ []) (Some (head middle)) ∷ commits 3 ((head two, (H0, Some ((t1, Some false) ∷ (t2, Some false) ∷ []))) ∷ []) None ∷ []
+a_history_with_its_operations : pages (at_state later (record later.book.state { present = [] })) (walked None (Some (head later)) None true 1 None ∷ walked None (Some (head two)) None true 9 None ∷ []) ≡ commits 3 ((head later, (head middle, Some ((t2, None) ∷ []))) ∷ []) (Some (head middle)) ∷ commits 3 ((head two, (H0, Some ((t1, Some false) ∷ (t2, Some false) ∷ []))) ∷ []) None ∷ []
 unfolding u8_spelling u16_spelling u32_spelling u64_spelling i64_spelling i32_spelling list ascending text_code short_text_code hash_code id_code element_code key_code moment_code kind_code entry_code meta_code commit_code table_code namespace_code of_table of_namespace content_code emptied_fault changes_of op_fault judge entries commit_bytes content_bytes with_commit with_content expired_keys given_ops given_request request_commit commit_opening needs_commit_room step_commit needs_contents step_create step_assign step_delete history references_page answer_reference answer_entries history_item answer_history answer_contents answer_content entry_made attempt script
 a_history_with_its_operations = refl
 
@@ -168,6 +167,6 @@ contents_as_they_are_asked_for : pages later (asked (Some main) None (t1 ∷ t9 
 unfolding u8_spelling u16_spelling u32_spelling u64_spelling i64_spelling i32_spelling list ascending text_code short_text_code hash_code id_code element_code key_code moment_code kind_code entry_code meta_code commit_code table_code namespace_code of_table of_namespace content_code emptied_fault changes_of op_fault judge entries commit_bytes content_bytes with_commit with_content expired_keys given_ops given_request request_commit commit_opening needs_commit_room step_commit needs_contents step_create step_assign step_delete history references_page answer_reference answer_entries history_item answer_history answer_contents answer_content entry_made attempt script
 contents_as_they_are_asked_for = refl
 
-contents_that_were_swept : pages (record later { state = record later.state { present = [] } }) (asked (Some main) None (t1 ∷ []) ∷ []) ≡ contents 3 (head later) [] ∷ []
+contents_that_were_swept : pages (at_state later (record later.book.state { present = [] })) (asked (Some main) None (t1 ∷ []) ∷ []) ≡ contents 3 (head later) [] ∷ []
 unfolding u8_spelling u16_spelling u32_spelling u64_spelling i64_spelling i32_spelling list ascending text_code short_text_code hash_code id_code element_code key_code moment_code kind_code entry_code meta_code commit_code table_code namespace_code of_table of_namespace content_code emptied_fault changes_of op_fault judge entries commit_bytes content_bytes with_commit with_content expired_keys given_ops given_request request_commit commit_opening needs_commit_room step_commit needs_contents step_create step_assign step_delete history references_page answer_reference answer_entries history_item answer_history answer_contents answer_content entry_made attempt script
 contents_that_were_swept = refl

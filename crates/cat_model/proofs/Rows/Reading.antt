@@ -11,7 +11,6 @@ use Rattle.cat_model.specs.declared.refusal.Refused.{Refused}
 use Rattle.cat_model.specs.declared.reply.Reply.{Reply}
 use Rattle.cat_model.specs.declared.reply.Reply.TheVariants as replies
 use Rattle.cat_model.specs.declared.reply.Told.{Told}
-use Rattle.cat_model.specs.declared.wanted.Wanted.TheVariants.{Read}
 use Rattle.cat_model.specs.Formats.{moment_code, kind_code, entry_code, meta_code, commit_code}
 use Rattle.cat_model.specs.Contents.{table_code, namespace_code, of_table, of_namespace, content_code}
 use Rattle.cat_model.specs.Namespaces.{emptied_fault}
@@ -22,8 +21,8 @@ use Rattle.cat_model.specs.Records.{commit_bytes, content_bytes, with_commit, wi
 use Rattle.cat_model.specs.Commits.{given_ops, given_request, request_commit, commit_opening, needs_commit_room, step_commit}
 use Rattle.cat_model.specs.Answer.{answer_reference, answer_content}
 use Rattle.cat_model.specs.Calls.{attempt, entry_made}
-use Rattle.cat_model.specs.Requests.{Session}
-use Rattle.cat_model.proofs.Rows.Script.{script}
+use Rattle.cat_model.specs.Requests.{Session, Read}
+use Rattle.cat_model.proofs.Rows.Script.{script, at_state}
 use Rattle.cat_model.specs.declared.reference.Kind.{Kind}
 use Rattle.cat_model.specs.declared.reference.Effective.{Effective}
 use Rattle.cat_model.specs.declared.reference.Effective.TheVariants.{Named, Detached}
@@ -52,13 +51,13 @@ at_what_is_there : said two (look (Some main) (Some H0) ∷ look (Some main) (So
 unfolding u8_spelling u16_spelling u32_spelling u64_spelling i64_spelling i32_spelling list ascending text_code short_text_code hash_code id_code element_code key_code moment_code kind_code entry_code meta_code commit_code table_code namespace_code of_table of_namespace content_code emptied_fault changes_of op_fault judge entries commit_bytes content_bytes with_commit with_content given_ops given_request request_commit commit_opening needs_commit_room step_commit answer_reference answer_content entry_made attempt script
 at_what_is_there = refl
 
-a_content_that_was_swept : said (record one { state = record one.state { present = [] } }) (read (Some main) None t1 ∷ []) ≡ not (Some 1) (ContentNotFound Expired) ∷ []
+a_content_that_was_swept : said (at_state one (record one.book.state { present = [] })) (read (Some main) None t1 ∷ []) ≡ not (Some 1) (ContentNotFound Expired) ∷ []
 unfolding u8_spelling u16_spelling u32_spelling u64_spelling i64_spelling i32_spelling list ascending text_code short_text_code hash_code id_code element_code key_code moment_code kind_code entry_code meta_code commit_code table_code namespace_code of_table of_namespace content_code emptied_fault changes_of op_fault judge entries commit_bytes content_bytes with_commit with_content given_ops given_request request_commit commit_opening needs_commit_room step_commit answer_reference answer_content entry_made attempt script
 a_content_that_was_swept = refl
 
 -- the branch is back at the first hash, and its commits are known
 abbrev back : Session
-back = record one { state = record one.state { references = record { name = main; kind = Branch; head = H0 } ∷ [] } }
+back = at_state one (record one.book.state { references = record { name = main; kind = Branch; head = H0 } ∷ [] })
 
 a_known_hash_off_the_chain : said back (look (Some main) (Some (head one)) ∷ look None (Some (head one)) ∷ read (Some main) (Some (head one)) t1 ∷ read None (Some (head one)) t1 ∷ [])
     ≡ not (Some 1) RefNotFound ∷ points 1 None (head one) ∷ not (Some 1) RefNotFound ∷ gives 1 m1 ∷ []

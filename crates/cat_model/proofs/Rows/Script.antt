@@ -5,13 +5,17 @@ use Rattle.cat_model.specs.declared.log_entry.LogEntry.{LogEntry}
 use Rattle.cat_model.specs.declared.refusal.Refusal.{Refusal}
 use Rattle.cat_model.specs.declared.refusal.Refused.{Refused}
 use Rattle.cat_model.specs.declared.reply.Told.{Told}
-use Rattle.cat_model.specs.declared.wanted.Wanted.{Wanted}
-use Rattle.cat_model.specs.State.{Digest, first_state}
-use Rattle.cat_model.specs.Requests.{Session, request}
+use Rattle.cat_model.specs.State.{Digest, State}
+use Rattle.cat_model.specs.Book.{first_book}
+use Rattle.cat_model.specs.Requests.{Session, Wants, request}
 
 -- the session on an empty catalogue
 abbrev pub first_session : Digest → Limits → Session
-first_session digest limits = record { state = first_state digest limits; draft = 0; readings = 0 }
+first_session digest limits = record { book = first_book digest limits; readings = 0 }
+
+-- a session, at another state
+abbrev pub at_state : Session → State → Session
+at_state s state = record s { book = record s.book { state = state } }
 
 -- what requests bring: what they are told, the entries, the oldest first, and the session after them
 pub record Outcomes : Type 0 where
@@ -20,9 +24,9 @@ pub record Outcomes : Type 0 where
   pub after : Session
 
 -- one request after another
-unfoldable pub script : Digest → ℕ → (ℕ → ℕ) → Session → List (Result Wanted Refusal) → Outcomes
+unfoldable pub script : Digest → ℕ → (ℕ → ℕ) → Session → List (Result Wants Refusal) → Outcomes
 script digest caller clock s [] = record { said = []; logged = []; after = s }
-script digest caller clock s (wanted ∷ requests) =
-    let one = request digest caller clock s wanted in
+script digest caller clock s (wants ∷ requests) =
+    let one = request digest caller clock s wants in
     let others = script digest caller clock one.after requests in
     record { said = one.said ∷ others.said; logged = one.logged ++ others.logged; after = others.after }

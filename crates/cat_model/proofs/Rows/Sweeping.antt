@@ -14,7 +14,7 @@ use Rattle.cat_model.specs.Records.{commit_bytes, content_bytes, with_commit, wi
 use Rattle.cat_model.specs.Commits.{given_ops, given_request, request_commit, commit_opening, needs_commit_room, step_commit}
 use Rattle.cat_model.specs.Moves.{needs_contents, step_create, step_assign, step_delete}
 use Rattle.cat_model.specs.Cutoffs.{live_from, live}
-use Rattle.cat_model.specs.Drafts.{Names}
+use Rattle.cat_model.specs.Drafts.{Names, no_names}
 use Rattle.cat_model.specs.State.{State, first_state, fresh_id, content_hash}
 use Rattle.cat_model.specs.Calls.{Called, attempt, entry_made}
 use Rattle.cat_model.specs.Requests.{Session, request}
@@ -33,7 +33,6 @@ use Rattle.cat_model.specs.declared.cutoff.Resolved.{Resolved}
 use Rattle.cat_model.specs.declared.limits.Limits.{Limits}
 use Rattle.cat_model.specs.declared.limits.Quantity.TheVariants as quantities
 use Rattle.cat_model.specs.declared.log_entry.Action.TheVariants as actions
-use Rattle.cat_model.specs.declared.log_entry.LogEntry.{LogEntry}
 use Rattle.cat_model.specs.declared.reference.Kind.TheVariants.{Branch, Tag}
 use Rattle.cat_model.specs.declared.refusal.Refusal.TheVariants.{Limit}
 use Rattle.cat_model.specs.declared.reply.Reply.TheVariants as replies
@@ -45,24 +44,24 @@ use Rattle.cat_model.proofs.Rows.Words.{Request, Short, quick, clock, main, dev,
 
 -- the states that accepted requests lead through
 abbrev led_from : Session → List State → List Request → Course
-led_from s past [] = record { state = s.state; past = past }
-led_from s past (wanted ∷ requests) = led_from (request quick 1 clock s wanted).after (s.state ∷ past) requests
+led_from s past [] = record { state = s.book.state; past = past }
+led_from s past (wants ∷ requests) = led_from (request quick 1 clock s wants).after (s.book.state ∷ past) requests
 
 abbrev led : List Request → Course
 led = led_from empty []
 
 -- the id of the first draft's content
-abbrev id1 : ContentId
+abbrev pub id1 : ContentId
 id1 = fresh_id 1 0
 
 -- a location of the table at t1, as it is held
-abbrev held : List ℕ → Hash × Content
+abbrev pub held : List ℕ → Hash × Content
 held location = (content_hash quick (table id1 location), table id1 location)
 
-abbrev m2 : List ℕ
+abbrev pub m2 : List ℕ
 m2 = codes "m2"
 
-abbrev m3 : List ℕ
+abbrev pub m3 : List ℕ
 m3 = codes "m3"
 
 abbrev m4 : List ℕ
@@ -72,13 +71,13 @@ abbrev first_two : List Request
 first_two = put_new None t1 m1 ∷ put t1 id1 m2 ∷ []
 
 -- three locations of one table, one after the other
-abbrev first_three : List Request
+abbrev pub first_three : List Request
 first_three = put_new None t1 m1 ∷ put t1 id1 m2 ∷ put t1 id1 m3 ∷ []
 
-abbrev c1 : Hash
+abbrev pub c1 : Hash
 c1 = head (after empty (put_new None t1 m1 ∷ []))
 
-abbrev c2 : Hash
+abbrev pub c2 : Hash
 c2 = head (after empty first_two)
 
 abbrev c3 : Hash
@@ -89,38 +88,35 @@ three = led first_three
 
 -- these and one more
 abbrev followed_by : Request → Course
-followed_by wanted = led (first_three ++ wanted ∷ [])
-
-abbrev nothing_named : Names
-nothing_named = record { commits = []; contents = [] }
+followed_by wants = led (first_three ++ wants ∷ [])
 
 abbrev sweep : ℕ → Resolved → Names → Sweep
 sweep opened policy names = record { opened = opened; policy = policy; commits = names.commits; contents = names.contents }
 
-abbrev always : Cutoff → Resolved
+abbrev pub always : Cutoff → Resolved
 always cutoff = record { default = cutoff; cutoffs = [] }
 
 -- the head of each reference alone
-abbrev heads : Resolved
+abbrev pub heads : Resolved
 heads = always (cutoffs.Commits 1)
 
 -- by caller 7 at the moment 9, where the last draft number is 5
 abbrev swept_on : Course → Sweep → Called
 swept_on c s = sweep_call 7 c.state c.past 5 9 s
 
-abbrev location_in : Body → List ℕ
+abbrev pub location_in : Body → List ℕ
 location_in (bodies.IcebergTable t) = t.metadata_location
 location_in _ = []
 
 -- locations that are left, the newest first
-abbrev left_in : State → List (List ℕ)
+abbrev pub left_in : State → List (List ℕ)
 left_in state = map (λ x. location_in x.1.body) state.present
 
 -- what a sweep is told, and the locations that it leaves
 abbrev sweeps : Course → Sweep → Short × List (List ℕ)
 sweeps c s = (short (swept_on c s).said, left_in (swept_on c s).state)
 
-abbrev swept : ℕ → ℕ → ℕ → ℕ → Short
+abbrev pub swept : ℕ → ℕ → ℕ → ℕ → Short
 swept place opened kept removed = told place (replies.Swept (record { kept = kept; opened = opened; removed = removed }))
 
 -- ---- states since an opening
@@ -137,36 +133,36 @@ the_states_since_an_opening = refl
 
 -- ---- cutoffs
 
-the_head_alone : sweeps three (sweep 3 heads nothing_named) ≡ (swept 4 3 1 2, m3 ∷ [])
+the_head_alone : sweeps three (sweep 3 heads no_names) ≡ (swept 4 3 1 2, m3 ∷ [])
 unfolding u8_spelling u16_spelling u32_spelling u64_spelling i64_spelling i32_spelling list ascending text_code short_text_code hash_code id_code element_code key_code moment_code kind_code entry_code meta_code commit_code table_code namespace_code of_table of_namespace content_code emptied_fault changes_of op_fault judge entries commit_bytes content_bytes with_commit with_content expired_keys given_ops given_request request_commit commit_opening needs_commit_room step_commit needs_contents step_create step_assign step_delete entry_made attempt script live_from live live_since saved kept_contents removed_contents needs_sweep_room step_sweep sweep_entry sweep_call past_of
 the_head_alone = refl
 
-abbrev main_by_two : Resolved
+abbrev pub main_by_two : Resolved
 main_by_two = record { default = cutoffs.All; cutoffs = (Name main, cutoffs.Commits 2) ∷ [] }
 
-two_commits : sweeps three (sweep 3 main_by_two nothing_named) ≡ (swept 4 3 2 1, m3 ∷ m2 ∷ [])
+two_commits : sweeps three (sweep 3 main_by_two no_names) ≡ (swept 4 3 2 1, m3 ∷ m2 ∷ [])
 unfolding u8_spelling u16_spelling u32_spelling u64_spelling i64_spelling i32_spelling list ascending text_code short_text_code hash_code id_code element_code key_code moment_code kind_code entry_code meta_code commit_code table_code namespace_code of_table of_namespace content_code emptied_fault changes_of op_fault judge entries commit_bytes content_bytes with_commit with_content expired_keys given_ops given_request request_commit commit_opening needs_commit_room step_commit needs_contents step_create step_assign step_delete entry_made attempt script live_from live live_since saved kept_contents removed_contents needs_sweep_room step_sweep sweep_entry sweep_call past_of
 two_commits = refl
 
-nothing_is_removed : sweeps three (sweep 3 (always cutoffs.All) nothing_named) ≡ (swept 4 3 3 0, m3 ∷ m2 ∷ m1 ∷ [])
+nothing_is_removed : sweeps three (sweep 3 (always cutoffs.All) no_names) ≡ (swept 4 3 3 0, m3 ∷ m2 ∷ m1 ∷ [])
 unfolding u8_spelling u16_spelling u32_spelling u64_spelling i64_spelling i32_spelling list ascending text_code short_text_code hash_code id_code element_code key_code moment_code kind_code entry_code meta_code commit_code table_code namespace_code of_table of_namespace content_code emptied_fault changes_of op_fault judge entries commit_bytes content_bytes with_commit with_content expired_keys given_ops given_request request_commit commit_opening needs_commit_room step_commit needs_contents step_create step_assign step_delete entry_made attempt script live_from live live_since saved kept_contents removed_contents needs_sweep_room step_sweep sweep_entry sweep_call past_of
 nothing_is_removed = refl
 
 -- the second commit was made at 2000000
-at_the_time_of_a_commit : sweeps three (sweep 3 (always (cutoffs.Since 2000000)) nothing_named) ≡ (swept 4 3 2 1, m3 ∷ m2 ∷ [])
+at_the_time_of_a_commit : sweeps three (sweep 3 (always (cutoffs.Since 2000000)) no_names) ≡ (swept 4 3 2 1, m3 ∷ m2 ∷ [])
 unfolding u8_spelling u16_spelling u32_spelling u64_spelling i64_spelling i32_spelling list ascending text_code short_text_code hash_code id_code element_code key_code moment_code kind_code entry_code meta_code commit_code table_code namespace_code of_table of_namespace content_code emptied_fault changes_of op_fault judge entries commit_bytes content_bytes with_commit with_content expired_keys given_ops given_request request_commit commit_opening needs_commit_room step_commit needs_contents step_create step_assign step_delete entry_made attempt script live_from live live_since saved kept_contents removed_contents needs_sweep_room step_sweep sweep_entry sweep_call past_of
 at_the_time_of_a_commit = refl
 
-one_microsecond_after_it : sweeps three (sweep 3 (always (cutoffs.Since 2000001)) nothing_named) ≡ (swept 4 3 1 2, m3 ∷ [])
+one_microsecond_after_it : sweeps three (sweep 3 (always (cutoffs.Since 2000001)) no_names) ≡ (swept 4 3 1 2, m3 ∷ [])
 unfolding u8_spelling u16_spelling u32_spelling u64_spelling i64_spelling i32_spelling list ascending text_code short_text_code hash_code id_code element_code key_code moment_code kind_code entry_code meta_code commit_code table_code namespace_code of_table of_namespace content_code emptied_fault changes_of op_fault judge entries commit_bytes content_bytes with_commit with_content expired_keys given_ops given_request request_commit commit_opening needs_commit_room step_commit needs_contents step_create step_assign step_delete entry_made attempt script live_from live live_since saved kept_contents removed_contents needs_sweep_room step_sweep sweep_entry sweep_call past_of
 one_microsecond_after_it = refl
 
-one_microsecond_before_it : sweeps three (sweep 3 (always (cutoffs.Since 1999999)) nothing_named) ≡ (swept 4 3 2 1, m3 ∷ m2 ∷ [])
+one_microsecond_before_it : sweeps three (sweep 3 (always (cutoffs.Since 1999999)) no_names) ≡ (swept 4 3 2 1, m3 ∷ m2 ∷ [])
 unfolding u8_spelling u16_spelling u32_spelling u64_spelling i64_spelling i32_spelling list ascending text_code short_text_code hash_code id_code element_code key_code moment_code kind_code entry_code meta_code commit_code table_code namespace_code of_table of_namespace content_code emptied_fault changes_of op_fault judge entries commit_bytes content_bytes with_commit with_content expired_keys given_ops given_request request_commit commit_opening needs_commit_room step_commit needs_contents step_create step_assign step_delete entry_made attempt script live_from live live_since saved kept_contents removed_contents needs_sweep_room step_sweep sweep_entry sweep_call past_of
 one_microsecond_before_it = refl
 
 -- of an empty catalogue
-nothing_is_there : sweeps (led []) (sweep 0 heads nothing_named) ≡ (swept 1 0 0 0, [])
+nothing_is_there : sweeps (led []) (sweep 0 heads no_names) ≡ (swept 1 0 0 0, [])
 unfolding u8_spelling u16_spelling u32_spelling u64_spelling i64_spelling i32_spelling list ascending text_code short_text_code hash_code id_code element_code key_code moment_code kind_code entry_code meta_code commit_code table_code namespace_code of_table of_namespace content_code emptied_fault changes_of op_fault judge entries commit_bytes content_bytes with_commit with_content expired_keys given_ops given_request request_commit commit_opening needs_commit_room step_commit needs_contents step_create step_assign step_delete entry_made attempt script live_from live live_since saved kept_contents removed_contents needs_sweep_room step_sweep sweep_entry sweep_call past_of
 nothing_is_there = refl
 
@@ -174,14 +170,14 @@ nothing_is_there = refl
 abbrev two_tables : Course
 two_tables = led (put_new None t1 m1 ∷ put_new None t2 m2 ∷ put t1 id1 m3 ∷ [])
 
-what_older_commits_put_is_visible : sweeps two_tables (sweep 3 heads nothing_named) ≡ (swept 4 3 2 1, m3 ∷ m2 ∷ [])
+what_older_commits_put_is_visible : sweeps two_tables (sweep 3 heads no_names) ≡ (swept 4 3 2 1, m3 ∷ m2 ∷ [])
 unfolding u8_spelling u16_spelling u32_spelling u64_spelling i64_spelling i32_spelling list ascending text_code short_text_code hash_code id_code element_code key_code moment_code kind_code entry_code meta_code commit_code table_code namespace_code of_table of_namespace content_code emptied_fault changes_of op_fault judge entries commit_bytes content_bytes with_commit with_content expired_keys given_ops given_request request_commit commit_opening needs_commit_room step_commit needs_contents step_create step_assign step_delete entry_made attempt script live_from live live_since saved kept_contents removed_contents needs_sweep_room step_sweep sweep_entry sweep_call past_of
 what_older_commits_put_is_visible = refl
 
 -- ---- several references
 
 -- dev at the first commit
-the_heads_of_two_references : sweeps (followed_by (create dev Branch (from_hash c1))) (sweep 4 heads nothing_named) ≡ (swept 5 4 2 1, m3 ∷ m1 ∷ [])
+the_heads_of_two_references : sweeps (followed_by (create dev Branch (from_hash c1))) (sweep 4 heads no_names) ≡ (swept 5 4 2 1, m3 ∷ m1 ∷ [])
 unfolding u8_spelling u16_spelling u32_spelling u64_spelling i64_spelling i32_spelling list ascending text_code short_text_code hash_code id_code element_code key_code moment_code kind_code entry_code meta_code commit_code table_code namespace_code of_table of_namespace content_code emptied_fault changes_of op_fault judge entries commit_bytes content_bytes with_commit with_content expired_keys given_ops given_request request_commit commit_opening needs_commit_room step_commit needs_contents step_create step_assign step_delete entry_made attempt script live_from live live_since saved kept_contents removed_contents needs_sweep_room step_sweep sweep_entry sweep_call past_of
 the_heads_of_two_references = refl
 
@@ -190,7 +186,7 @@ abbrev dev_at_two : Course
 dev_at_two = followed_by (create dev Branch (from_hash c2))
 
 abbrev by_patterns : List (Pattern × Cutoff) → Sweep
-by_patterns patterns = sweep 4 (record { default = cutoffs.Commits 1; cutoffs = patterns }) nothing_named
+by_patterns patterns = sweep 4 (record { default = cutoffs.Commits 1; cutoffs = patterns }) no_names
 
 -- the second is kept by both
 a_commit_of_two_references : sweeps dev_at_two (by_patterns ((Name main, cutoffs.Commits 2) ∷ [])) ≡ (swept 5 4 2 1, m3 ∷ m2 ∷ [])
@@ -246,15 +242,15 @@ names_that_name_nothing = refl
 abbrev made_and_removed : Course
 made_and_removed = led (first_three ++ create (codes "keep") Tag (from_hash c1) ∷ delete (codes "keep") None None ∷ [])
 
-a_root_that_was_made_since : sweeps made_and_removed (sweep 3 heads nothing_named) ≡ (swept 6 3 2 1, m3 ∷ m1 ∷ [])
+a_root_that_was_made_since : sweeps made_and_removed (sweep 3 heads no_names) ≡ (swept 6 3 2 1, m3 ∷ m1 ∷ [])
 unfolding u8_spelling u16_spelling u32_spelling u64_spelling i64_spelling i32_spelling list ascending text_code short_text_code hash_code id_code element_code key_code moment_code kind_code entry_code meta_code commit_code table_code namespace_code of_table of_namespace content_code emptied_fault changes_of op_fault judge entries commit_bytes content_bytes with_commit with_content expired_keys given_ops given_request request_commit commit_opening needs_commit_room step_commit needs_contents step_create step_assign step_delete entry_made attempt script live_from live live_since saved kept_contents removed_contents needs_sweep_room step_sweep sweep_entry sweep_call past_of
 a_root_that_was_made_since = refl
 
-a_root_of_the_opening : sweeps made_and_removed (sweep 4 heads nothing_named) ≡ (swept 6 4 2 1, m3 ∷ m1 ∷ [])
+a_root_of_the_opening : sweeps made_and_removed (sweep 4 heads no_names) ≡ (swept 6 4 2 1, m3 ∷ m1 ∷ [])
 unfolding u8_spelling u16_spelling u32_spelling u64_spelling i64_spelling i32_spelling list ascending text_code short_text_code hash_code id_code element_code key_code moment_code kind_code entry_code meta_code commit_code table_code namespace_code of_table of_namespace content_code emptied_fault changes_of op_fault judge entries commit_bytes content_bytes with_commit with_content expired_keys given_ops given_request request_commit commit_opening needs_commit_room step_commit needs_contents step_create step_assign step_delete entry_made attempt script live_from live live_since saved kept_contents removed_contents needs_sweep_room step_sweep sweep_entry sweep_call past_of
 a_root_of_the_opening = refl
 
-a_root_that_was_removed_before : sweeps made_and_removed (sweep 5 heads nothing_named) ≡ (swept 6 5 1 2, m3 ∷ [])
+a_root_that_was_removed_before : sweeps made_and_removed (sweep 5 heads no_names) ≡ (swept 6 5 1 2, m3 ∷ [])
 unfolding u8_spelling u16_spelling u32_spelling u64_spelling i64_spelling i32_spelling list ascending text_code short_text_code hash_code id_code element_code key_code moment_code kind_code entry_code meta_code commit_code table_code namespace_code of_table of_namespace content_code emptied_fault changes_of op_fault judge entries commit_bytes content_bytes with_commit with_content expired_keys given_ops given_request request_commit commit_opening needs_commit_room step_commit needs_contents step_create step_assign step_delete entry_made attempt script live_from live live_since saved kept_contents removed_contents needs_sweep_room step_sweep sweep_entry sweep_call past_of
 a_root_that_was_removed_before = refl
 
@@ -262,16 +258,16 @@ a_root_that_was_removed_before = refl
 abbrev moved_back : Course
 moved_back = led (first_three ++ put t1 id1 m4 ∷ assign main None None (from_hash c3) ∷ [])
 
-a_head_that_was_moved_away : sweeps moved_back (sweep 4 heads nothing_named) ≡ (swept 6 4 2 2, m4 ∷ m3 ∷ [])
+a_head_that_was_moved_away : sweeps moved_back (sweep 4 heads no_names) ≡ (swept 6 4 2 2, m4 ∷ m3 ∷ [])
 unfolding u8_spelling u16_spelling u32_spelling u64_spelling i64_spelling i32_spelling list ascending text_code short_text_code hash_code id_code element_code key_code moment_code kind_code entry_code meta_code commit_code table_code namespace_code of_table of_namespace content_code emptied_fault changes_of op_fault judge entries commit_bytes content_bytes with_commit with_content expired_keys given_ops given_request request_commit commit_opening needs_commit_room step_commit needs_contents step_create step_assign step_delete entry_made attempt script live_from live live_since saved kept_contents removed_contents needs_sweep_room step_sweep sweep_entry sweep_call past_of
 a_head_that_was_moved_away = refl
 
-a_head_that_was_moved_away_before : sweeps moved_back (sweep 5 heads nothing_named) ≡ (swept 6 5 1 3, m3 ∷ [])
+a_head_that_was_moved_away_before : sweeps moved_back (sweep 5 heads no_names) ≡ (swept 6 5 1 3, m3 ∷ [])
 unfolding u8_spelling u16_spelling u32_spelling u64_spelling i64_spelling i32_spelling list ascending text_code short_text_code hash_code id_code element_code key_code moment_code kind_code entry_code meta_code commit_code table_code namespace_code of_table of_namespace content_code emptied_fault changes_of op_fault judge entries commit_bytes content_bytes with_commit with_content expired_keys given_ops given_request request_commit commit_opening needs_commit_room step_commit needs_contents step_create step_assign step_delete entry_made attempt script live_from live live_since saved kept_contents removed_contents needs_sweep_room step_sweep sweep_entry sweep_call past_of
 a_head_that_was_moved_away_before = refl
 
 -- opened on the empty catalogue: each location was once a head's
-all_heads_that_there_were : sweeps moved_back (sweep 0 heads nothing_named) ≡ (swept 6 0 4 0, m4 ∷ m3 ∷ m2 ∷ m1 ∷ [])
+all_heads_that_there_were : sweeps moved_back (sweep 0 heads no_names) ≡ (swept 6 0 4 0, m4 ∷ m3 ∷ m2 ∷ m1 ∷ [])
 unfolding u8_spelling u16_spelling u32_spelling u64_spelling i64_spelling i32_spelling list ascending text_code short_text_code hash_code id_code element_code key_code moment_code kind_code entry_code meta_code commit_code table_code namespace_code of_table of_namespace content_code emptied_fault changes_of op_fault judge entries commit_bytes content_bytes with_commit with_content expired_keys given_ops given_request request_commit commit_opening needs_commit_room step_commit needs_contents step_create step_assign step_delete entry_made attempt script live_from live live_since saved kept_contents removed_contents needs_sweep_room step_sweep sweep_entry sweep_call past_of
 all_heads_that_there_were = refl
 
@@ -335,19 +331,13 @@ what_a_refused_sweep_brings = refl
 
 -- ---- books
 
--- the entries of requests above older ones
-abbrev logged_on : Session → List LogEntry → List Request → List LogEntry
-logged_on s older [] = older
-logged_on s older (wanted ∷ requests) = logged_on (request quick 7 clock s wanted).after ((request quick 7 clock s wanted).logged ++ older) requests
+-- a session whose book starts from its state
+abbrev started : Session → Session
+started s = record s { book = record s.book { log = []; base = s.book.state } }
 
 -- the book of these requests after these ones, whose entries it doesn't have
 abbrev book_from : List Request → List Request → Book
-book_from earlier requests = record {
-  state = (after (after empty earlier) requests).state;
-  draft = (after (after empty earlier) requests).draft;
-  log = logged_on (after empty earlier) [] requests;
-  base = (after empty earlier).state;
-}
+book_from earlier requests = (after (started (after empty earlier)) requests).book
 
 abbrev swept_in : Book → Sweep → Called
 swept_in book s = sweep_call 7 book.state (past_of quick book) book.draft 9 s
@@ -359,7 +349,7 @@ abbrev places : Book → List ℕ
 places book = map (λ s. s.place) (past_of quick book)
 
 -- a tag at the second commit, made by the fourth entry and removed by the fifth
-abbrev kept_for_a_while : List Request
+abbrev pub kept_for_a_while : List Request
 kept_for_a_while = create (codes "keep") Tag (from_hash c2) ∷ delete (codes "keep") None None ∷ []
 
 abbrev before_sweeps : Book
@@ -367,7 +357,7 @@ before_sweeps = book_from [] (first_three ++ kept_for_a_while)
 
 -- opened before the tag was removed
 abbrev first_sweep : Sweep
-first_sweep = sweep 4 heads nothing_named
+first_sweep = sweep 4 heads no_names
 
 abbrev once_swept : Book
 once_swept = after_call before_sweeps (swept_in before_sweeps first_sweep)
@@ -393,11 +383,11 @@ unfolding u8_spelling u16_spelling u32_spelling u64_spelling i64_spelling i32_sp
 the_first_sweep = refl
 
 -- opened before the first one's entry
-a_second_sweep : sweeps_in once_swept (sweep 4 heads nothing_named) ≡ (swept 7 4 2 0, m3 ∷ m2 ∷ [])
+a_second_sweep : sweeps_in once_swept (sweep 4 heads no_names) ≡ (swept 7 4 2 0, m3 ∷ m2 ∷ [])
 unfolding u8_spelling u16_spelling u32_spelling u64_spelling i64_spelling i32_spelling list ascending text_code short_text_code hash_code id_code element_code key_code moment_code kind_code entry_code meta_code commit_code table_code namespace_code of_table of_namespace content_code emptied_fault changes_of op_fault judge entries commit_bytes content_bytes with_commit with_content expired_keys given_ops given_request request_commit commit_opening needs_commit_room step_commit needs_contents step_create step_assign step_delete entry_made attempt script live_from live live_since saved kept_contents removed_contents needs_sweep_room step_sweep sweep_entry sweep_call past_of
 a_second_sweep = refl
 
-a_second_sweep_after_the_first : sweeps_in once_swept (sweep 6 heads nothing_named) ≡ (swept 7 6 1 1, m3 ∷ [])
+a_second_sweep_after_the_first : sweeps_in once_swept (sweep 6 heads no_names) ≡ (swept 7 6 1 1, m3 ∷ [])
 unfolding u8_spelling u16_spelling u32_spelling u64_spelling i64_spelling i32_spelling list ascending text_code short_text_code hash_code id_code element_code key_code moment_code kind_code entry_code meta_code commit_code table_code namespace_code of_table of_namespace content_code emptied_fault changes_of op_fault judge entries commit_bytes content_bytes with_commit with_content expired_keys given_ops given_request request_commit commit_opening needs_commit_room step_commit needs_contents step_create step_assign step_delete entry_made attempt script live_from live live_since saved kept_contents removed_contents needs_sweep_room step_sweep sweep_entry sweep_call past_of
 a_second_sweep_after_the_first = refl
 
@@ -406,7 +396,7 @@ what_was_removed_stays_so : sweeps_in once_swept (sweep 1 (always cutoffs.All) (
 unfolding u8_spelling u16_spelling u32_spelling u64_spelling i64_spelling i32_spelling list ascending text_code short_text_code hash_code id_code element_code key_code moment_code kind_code entry_code meta_code commit_code table_code namespace_code of_table of_namespace content_code emptied_fault changes_of op_fault judge entries commit_bytes content_bytes with_commit with_content expired_keys given_ops given_request request_commit commit_opening needs_commit_room step_commit needs_contents step_create step_assign step_delete entry_made attempt script live_from live live_since saved kept_contents removed_contents needs_sweep_room step_sweep sweep_entry sweep_call past_of
 what_was_removed_stays_so = refl
 
-contents_after_each_entry : map left_in (past_of quick (after_call once_swept (swept_in once_swept (sweep 6 heads nothing_named)))) ≡ (m3 ∷ m2 ∷ []) ∷ (m3 ∷ m2 ∷ m1 ∷ []) ∷ (m3 ∷ m2 ∷ m1 ∷ []) ∷ (m3 ∷ m2 ∷ m1 ∷ []) ∷ (m2 ∷ m1 ∷ []) ∷ (m1 ∷ []) ∷ [] ∷ []
+contents_after_each_entry : map left_in (past_of quick (after_call once_swept (swept_in once_swept (sweep 6 heads no_names)))) ≡ (m3 ∷ m2 ∷ []) ∷ (m3 ∷ m2 ∷ m1 ∷ []) ∷ (m3 ∷ m2 ∷ m1 ∷ []) ∷ (m3 ∷ m2 ∷ m1 ∷ []) ∷ (m2 ∷ m1 ∷ []) ∷ (m1 ∷ []) ∷ [] ∷ []
 unfolding u8_spelling u16_spelling u32_spelling u64_spelling i64_spelling i32_spelling list ascending text_code short_text_code hash_code id_code element_code key_code moment_code kind_code entry_code meta_code commit_code table_code namespace_code of_table of_namespace content_code emptied_fault changes_of op_fault judge entries commit_bytes content_bytes with_commit with_content expired_keys given_ops given_request request_commit commit_opening needs_commit_room step_commit needs_contents step_create step_assign step_delete entry_made attempt script live_from live live_since saved kept_contents removed_contents needs_sweep_room step_sweep sweep_entry sweep_call past_of
 contents_after_each_entry = refl
 

@@ -21,7 +21,7 @@ use Rattle.cat_model.specs.Merges.{needs_planned_room, step_applied}
 use Rattle.cat_model.specs.Transplants.{transplant_opening, transplant_planned, step_transplant}
 use Rattle.cat_model.specs.Answer.{answer_reference, answer_content}
 use Rattle.cat_model.specs.Calls.{attempt, entry_made}
-use Rattle.cat_model.specs.Requests.{Session}
+use Rattle.cat_model.specs.Requests.{Session, Change}
 use Rattle.cat_model.proofs.Rows.Script.{first_session, script}
 use Rattle.cat_model.specs.WellMade.{is_well_made}
 use Rattle.cat_model.specs.declared.command.Command.{Command}
@@ -44,7 +44,6 @@ use Rattle.cat_model.specs.declared.refusal.Reason.TheVariants.{NotABranch, NotC
 use Rattle.cat_model.specs.declared.refusal.Missing.TheVariants.{Absent}
 use Rattle.cat_model.specs.declared.refusal.Refused.{Refused}
 use Rattle.cat_model.specs.declared.reply.Told.{Told}
-use Rattle.cat_model.specs.declared.wanted.Wanted.TheVariants.{Change}
 use Rattle.cat_model.proofs.Rows.Words.{quick, clock, main, dev, H0, note, Request, no_id, table, new, again, commit, read, create, from_branch, after, said, head, head_of, Short, gives, stands, merged, not, refused_at, t1, t2, ample, one}
 use Rattle.cat_model.proofs.Rows.MergeWords.{new_on, put_on, t3, a1, other, Shape, shape, at_head, told_of, heads, found, begin, three, with_limits, swept}
 
@@ -74,7 +73,7 @@ noted branch message ops contents = Ok (Change (commands.Commit (record { branch
 
 -- the newest commits of main, and how many keys each set or deleted
 abbrev pub newest : ℕ → Session → List (Shape × ℕ)
-newest n s = map (λ x. (shape x.1, length x.1.ops)) (take n (chain s.state.commits (head s)))
+newest n s = map (λ x. (shape x.1, length x.1.ops)) (take n (chain s.book.state.commits (head s)))
 
 -- ---- one commit
 
@@ -89,7 +88,7 @@ a_dry_run_the_call_and_the_call_again = refl
 abbrev applied : Session
 applied = after three (transplant (d1 ∷ []) Normal ∷ [])
 
-drafts_of_transplants : (after three (transplant_as true false main None dev (d1 ∷ []) Normal ∷ transplant (d1 ∷ []) Normal ∷ transplant (d1 ∷ []) Normal ∷ [])).draft ≡ 5
+drafts_of_transplants : (after three (transplant_as true false main None dev (d1 ∷ []) Normal ∷ transplant (d1 ∷ []) Normal ∷ transplant (d1 ∷ []) Normal ∷ [])).book.draft ≡ 5
 unfolding u8_spelling u16_spelling u32_spelling u64_spelling i64_spelling i32_spelling list ascending text_code short_text_code hash_code id_code element_code key_code moment_code kind_code entry_code meta_code commit_code table_code namespace_code of_table of_namespace content_code emptied_fault changes_of op_fault judge entries commit_bytes content_bytes with_commit with_content expired_keys given_ops given_request request_commit commit_opening needs_commit_room step_commit needs_contents step_create plan needs_planned_room step_applied transplant_opening transplant_planned step_transplant answer_reference answer_content entry_made attempt script
 drafts_of_transplants = refl
 
@@ -187,7 +186,7 @@ what_conflicts : option_map found (told_of row (transplant_as false true main No
 unfolding u8_spelling u16_spelling u32_spelling u64_spelling i64_spelling i32_spelling list ascending text_code short_text_code hash_code id_code element_code key_code moment_code kind_code entry_code meta_code commit_code table_code namespace_code of_table of_namespace content_code emptied_fault changes_of op_fault judge entries commit_bytes content_bytes with_commit with_content expired_keys given_ops given_request request_commit commit_opening needs_commit_room step_commit needs_contents step_create plan needs_planned_room step_applied transplant_opening transplant_planned step_transplant answer_reference answer_content entry_made attempt script
 what_conflicts = refl
 
-refused_transplants_use_a_draft : (after row (transplant (d1 ∷ d2 ∷ []) Normal ∷ transplant_as false true main None dev (d1 ∷ d2 ∷ []) Normal ∷ [])).draft ≡ 6
+refused_transplants_use_a_draft : (after row (transplant (d1 ∷ d2 ∷ []) Normal ∷ transplant_as false true main None dev (d1 ∷ d2 ∷ []) Normal ∷ [])).book.draft ≡ 6
 unfolding u8_spelling u16_spelling u32_spelling u64_spelling i64_spelling i32_spelling list ascending text_code short_text_code hash_code id_code element_code key_code moment_code kind_code entry_code meta_code commit_code table_code namespace_code of_table of_namespace content_code emptied_fault changes_of op_fault judge entries commit_bytes content_bytes with_commit with_content expired_keys given_ops given_request request_commit commit_opening needs_commit_room step_commit needs_contents step_create plan needs_planned_room step_applied transplant_opening transplant_planned step_transplant answer_reference answer_content entry_made attempt script
 refused_transplants_use_a_draft = refl
 
@@ -243,7 +242,7 @@ hashes_on_no_chain_of_the_source : said more (refusals on_no_chain) ≡ refused_
 unfolding u8_spelling u16_spelling u32_spelling u64_spelling i64_spelling i32_spelling list ascending text_code short_text_code hash_code id_code element_code key_code moment_code kind_code entry_code meta_code commit_code table_code namespace_code of_table of_namespace content_code emptied_fault changes_of op_fault judge entries commit_bytes content_bytes with_commit with_content expired_keys given_ops given_request request_commit commit_opening needs_commit_room step_commit needs_contents step_create plan needs_planned_room step_applied transplant_opening transplant_planned step_transplant answer_reference answer_content entry_made attempt script
 hashes_on_no_chain_of_the_source = refl
 
-such_tests_use_no_draft : (after more (refusals in_no_row)).draft ≡ 5
+such_tests_use_no_draft : (after more (refusals in_no_row)).book.draft ≡ 5
 unfolding u8_spelling u16_spelling u32_spelling u64_spelling i64_spelling i32_spelling list ascending text_code short_text_code hash_code id_code element_code key_code moment_code kind_code entry_code meta_code commit_code table_code namespace_code of_table of_namespace content_code emptied_fault changes_of op_fault judge entries commit_bytes content_bytes with_commit with_content expired_keys given_ops given_request request_commit commit_opening needs_commit_room step_commit needs_contents step_create plan needs_planned_room step_applied transplant_opening transplant_planned step_transplant answer_reference answer_content entry_made attempt script
 such_tests_use_no_draft = refl
 
@@ -375,7 +374,7 @@ two_commits_of_one_call_collide : map collides (script rough 1 clock uneven (one
 unfolding u8_spelling u16_spelling u32_spelling u64_spelling i64_spelling i32_spelling list ascending text_code short_text_code hash_code id_code element_code key_code moment_code kind_code entry_code meta_code commit_code table_code namespace_code of_table of_namespace content_code emptied_fault changes_of op_fault judge entries commit_bytes content_bytes with_commit with_content expired_keys given_ops given_request request_commit commit_opening needs_commit_room step_commit needs_contents step_create plan needs_planned_room step_applied transplant_opening transplant_planned step_transplant answer_reference answer_content entry_made attempt script
 two_commits_of_one_call_collide = refl
 
-nothing_of_them_stays : length (roughly uneven (one_of_each false ∷ [])).state.commits ≡ 2
+nothing_of_them_stays : length (roughly uneven (one_of_each false ∷ [])).book.state.commits ≡ 2
 unfolding u8_spelling u16_spelling u32_spelling u64_spelling i64_spelling i32_spelling list ascending text_code short_text_code hash_code id_code element_code key_code moment_code kind_code entry_code meta_code commit_code table_code namespace_code of_table of_namespace content_code emptied_fault changes_of op_fault judge entries commit_bytes content_bytes with_commit with_content expired_keys given_ops given_request request_commit commit_opening needs_commit_room step_commit needs_contents step_create plan needs_planned_room step_applied transplant_opening transplant_planned step_transplant answer_reference answer_content entry_made attempt script
 nothing_of_them_stays = refl
 

@@ -25,13 +25,11 @@ use Rattle.cat_model.specs.declared.refusal.Refused.{Refused}
 use Rattle.cat_model.specs.declared.reply.Reply.{Reply}
 use Rattle.cat_model.specs.declared.reply.Reply.TheVariants as replies
 use Rattle.cat_model.specs.declared.reply.Told.{Told}
-use Rattle.cat_model.specs.declared.wanted.Wanted.{Wanted}
-use Rattle.cat_model.specs.declared.wanted.Wanted.TheVariants.{Read, Change}
 use Rattle.cat_model.specs.declared.commit.Commit.{Commit}
 use Rattle.cat_model.specs.Limits.{program_limits}
 use Rattle.cat_model.specs.Chain.{entries, commit_of}
 use Rattle.cat_model.specs.State.{Digest, entry_for, no_ancestor, reference_of}
-use Rattle.cat_model.specs.Requests.{Session}
+use Rattle.cat_model.specs.Requests.{Session, Wants, Read, Change}
 use Rattle.cat_model.proofs.Rows.Script.{first_session, script}
 
 -- a digest of one number
@@ -55,7 +53,7 @@ abbrev pub note : Meta
 note = record { message = codes "one"; authors = []; signed = []; properties = []; author_time = None }
 
 abbrev pub Request : Type 0
-Request = Result Wanted Refusal
+Request = Result Wants Refusal
 
 -- ---- contents
 
@@ -168,7 +166,7 @@ abbrev pub said : Session → List Request → List Short
 said s requests = map short (script quick 1 clock s requests).said
 
 abbrev pub head_of : List ℕ → Session → Hash
-head_of branch s = option_map_or (λ r. r.head) (reference_of s.state.references branch) H0
+head_of branch s = option_map_or (λ r. r.head) (reference_of s.book.state.references branch) H0
 
 abbrev pub head : Session → Hash
 head s = head_of main s
@@ -208,11 +206,11 @@ ample = program_limits
 
 -- the keys and ids at the head of main
 abbrev pub ids : Session → List (Key × ContentId)
-ids s = map (λ x. (x.0, x.1.id)) (entries s.state.commits (head s))
+ids s = map (λ x. (x.0, x.1.id)) (entries s.book.state.commits (head s))
 
 -- the commit at the head of main
 abbrev pub head_commit : Session → Option Commit
-head_commit s = commit_of s.state.commits (head s)
+head_commit s = commit_of s.book.state.commits (head s)
 
 abbrev pub parent_of_head : Session → Option Hash
 parent_of_head s = option_map (λ c. c.parent) (head_commit s)

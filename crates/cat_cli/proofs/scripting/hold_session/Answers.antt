@@ -12,7 +12,7 @@ release-store-requires-clause-alone g c lives alive = omega (arith, c.serve_conn
 pub returns-in-Ok-clause-ends : goal.returns-in-Ok-clause-ends
 returns-in-Ok-clause-ends g c b w e f =
     let ready = c.in-Ok.ensures.ready in
-    let begins = started c.in-Ok.desk c.in-Ok.pass c.args.store.book c.args.store.mark _ _ b w ready.0 ready.1 ready.2 c.in-Ok.ensures.book c.in-Ok.ensures.mark c.requires.up e f in
+    let begins = started c.in-Ok.desk c.in-Ok.pass c.args.store.book c.args.store.mark _ _ b w ready.0 ready.1 ready.2 c.in-Ok.ensures.book c.in-Ok.ensures.mark.0 c.requires.up c.in-Ok.ensures.mark.1 e f in
     let ends = c.serve_connection-end.ensures.alone in
     let k = some_readings ends.0 _ _ ends.1 in
     let x = ends.2 k.0 (start c.args.store.book b w) k.2 refl begins in (
@@ -22,9 +22,9 @@ returns-in-Ok-clause-ends g c b w e f =
       x.1,
       x.2,
       x.3,
-      left_so g.K0.Keeper.down g.K0.Keeper.in_flight c.in-Ok.desk x.2 c.serve_connection-end.new.pass c.release-store.result x.4 c.release-store.ensures.book c.release-store.ensures.mark
+      left_so g.K0.Keeper.down g.K0.Keeper.in_flight c.in-Ok.desk x.2 c.serve_connection-end.new.pass c.release-store.result x.4 c.release-store.ensures.book c.release-store.ensures.mark.0
           c.log_is_kept.ensures.fallen c.log_is_kept.ensures.flies,
-      reads_on ends.0 _ _ x.2.readings ends.1 x.5,
+      reads_on ends.0 _ _ x.2.session.readings ends.1 x.5,
     )
 
 pub returns-in-Ok-clause-later : goal.returns-in-Ok-clause-later

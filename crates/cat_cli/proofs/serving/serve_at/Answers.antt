@@ -22,7 +22,7 @@ returns-in-Ok-clause-stays g c other small = c.serve_all.ensures.stays other (su
 -- `listen` failed
 pub returns-in-Err-clause-comes : goal.returns-in-Err-clause-comes
 returns-in-Err-clause-comes g c = inr (
-  (record { seen = refl; known = refl; mark = refl; turn = refl }, refl),
+  (record { seen = refl; known = refl; mark = refl; turn = refl; all_left = refl }, refl),
   record {
     rose = c.in-Err.ensures.cause.failed;
     listens = c.in-Err.ensures.hears.short;

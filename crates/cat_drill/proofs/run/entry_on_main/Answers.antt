@@ -24,7 +24,7 @@ returns-clause-book g c =
 pub returns-clause-ready : goal.returns-clause-ready
 returns-clause-ready g c =
     let follows = c.enter-held.ensures.follows.0 in
-    left_ready c.args.desk.now c.args.pass.now c.leave.new.pass _ _ c.requires.ready c.leave.ensures.free.0 c.leave.ensures.left c.enter-held.ensures.turn.1 c.enter-held.ensures.own c.leave.ensures.legal (follows.0, c.leave.ensures.seen.0 ∙ follows.1)
+    left_ready c.args.desk.now c.args.pass.now c.leave.new.pass _ _ c.requires.ready c.leave.ensures.free.0 c.leave.ensures.left.0 c.enter-held.ensures.turn.1 c.enter-held.ensures.own c.leave.ensures.legal (follows.0, c.leave.ensures.seen.0 ∙ follows.1)
 
 pub returns-clause-kept : goal.returns-clause-kept
 returns-clause-kept g c = record {

@@ -1,5 +1,5 @@
 use Rattle.std.proofs.Common.{[], ◌∷◌, refl, inl, inr}
-use Rattle.cat_serve.proofs.Standing.{from_change, from_reading, from_refusal, keeps_self}
+use Rattle.cat_serve.proofs.Standing.{from_change, from_collection, from_reading, from_refusal, keeps_self}
 use Rattle.cat_serve.proofs.Visiting.{called_for}
 use Rattle.cat_serve.proofs.answer.said_to.Goals as goal
 
@@ -19,7 +19,17 @@ returns-in-Ok-Change-clause-says g c =
       answers.0 ∷ [],
       (_, answers.1, refl),
       λ k s at begins.
-          from_change c.args.desk.now k s c.args.request.now c.in-Ok-Change.command c.args.pass.now _ answers.0 c.call.result at wants c.call.ensures.kept c.call.ensures.ready begins.0 answers.3,
+          from_change c.args.desk.now k s c.args.request.now c.in-Ok-Change.command c.args.pass.now _ answers.0 c.call.result at wants c.call.ensures.kept c.call.ensures.ready begins.0 answers.3 answers.4,
+    )
+
+pub returns-in-Ok-Collect-clause-says : goal.returns-in-Ok-Collect-clause-says
+returns-in-Ok-Collect-clause-says g c =
+    let wants = rw c.in-Ok-Collect.field-0-is at c.in-Ok-Collect.ensures.wanted in
+    let collects = c.collect.ensures.collects in (
+      collects.0 ∷ [],
+      (_, collects.1, refl),
+      λ k s at begins.
+          from_collection c.args.desk.now k s c.args.request.now c.in-Ok-Collect.policy c.args.pass.now _ collects.0 c.collect.result at wants c.collect.ensures.kept c.collect.ensures.ready begins.0 collects.3 collects.4,
     )
 
 pub returns-in-Err-clause-says : goal.returns-in-Err-clause-says
@@ -54,6 +64,21 @@ returns-in-Ok-Change-clause-comes g c =
         answers = answers.2;
         knows = c.call.ensures.known;
         grows = c.call.ensures.grows;
+      })),
+    )
+
+pub returns-in-Ok-Collect-clause-comes : goal.returns-in-Ok-Collect-clause-comes
+returns-in-Ok-Collect-clause-comes g c =
+    let wants = rw c.in-Ok-Collect.field-0-is at c.in-Ok-Collect.ensures.wanted in
+    let collects = c.collect.ensures.collects in (
+      collects.0 ∷ [],
+      (_, collects.1, refl),
+      inl (called_for c.args.desk.now c.args.attempts _ _ (collects.0 ∷ []) c.args.pass.now _ c.collect.result wants (record {
+        moment = collects.0;
+        one = refl;
+        answers = collects.2;
+        knows = c.collect.ensures.known;
+        grows = c.collect.ensures.grows;
       })),
     )
 

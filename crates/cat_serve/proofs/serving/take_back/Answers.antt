@@ -4,14 +4,14 @@ use Rattle.cat_serve.proofs.Workers.{counts_up}
 use Rattle.cat_serve.proofs.serving.take_back.Goals as goal
 
 pub returns-clause-ready : goal.returns-clause-ready
-returns-clause-ready g c = join_is_ready c.args.desk.now c.args.pass.now _ _ c.requires.ready.0 c.requires.ready.1 c.join.ensures.free.0 c.join.ensures.left c.join.ensures.seen.0 c.join.ensures.whole.0
+returns-clause-ready g c = join_is_ready c.args.desk.now c.args.pass.now _ _ c.requires.ready.0 c.requires.ready.1 c.join.ensures.free.0 c.join.ensures.left.0 c.join.ensures.seen.0 c.join.ensures.whole.0
 
 pub returns-clause-begins : goal.returns-clause-begins
 returns-clause-begins g c = c.join.ensures.whole
 
 pub returns-clause-remembers : goal.returns-clause-remembers
 returns-clause-remembers g c p one two =
-    joined_remembers p c.args.pass.now _ _ one two c.join.ensures.seen.0 c.join.ensures.seen.1 c.join.ensures.mark.0 c.join.ensures.mark.1
+    joined_remembers p c.args.pass.now _ _ one two c.join.ensures.seen.0 c.join.ensures.seen.1 c.join.ensures.mark.0 c.join.ensures.mark.1 c.join.ensures.left.1
 
 pub returns-clause-counts : goal.returns-clause-counts
 returns-clause-counts g c counts = counts_up c.args.worker.failed _ _ _ c.rejoin.ensures.faults counts

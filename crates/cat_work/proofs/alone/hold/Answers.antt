@@ -25,3 +25,8 @@ pub returns-clause-spare : goal.returns-clause-spare
 returns-clause-spare g c =
     from_three c.new.result _ _ _ _ (λ t desk pass number. number.1)
     c.new.ensures.desk c.new.ensures.pass c.new.ensures.number
+
+pub returns-clause-mark : goal.returns-clause-mark
+returns-clause-mark g c =
+    from_three c.new.result _ _ _ _ (λ t desk pass number. (pass.2, pass.4 ∙ c.requires))
+    c.new.ensures.desk c.new.ensures.pass c.new.ensures.number

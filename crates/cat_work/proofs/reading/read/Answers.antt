@@ -9,7 +9,7 @@ use Rattle.cat_work.specs.ReadyLaws.{ready_on}
 use Rattle.cat_work.specs.Turns.{Turned}
 use Rattle.cat_work.proofs.Telling.{book_found, grew_in, left_by_turn}
 use Rattle.cat_work.proofs.Turning.{turned}
-use Rattle.cat_work.proofs.Unopened.{none_still}
+use Rattle.cat_work.proofs.Unopened.{none_still, same_open}
 use Rattle.cat_work.proofs.reading.read.Goals as goal
 
 pub returns-clause-ready : goal.returns-clause-ready
@@ -37,4 +37,5 @@ returns-clause-alone g c only = let held = c.enter-held.result.value in let turn
     c.history.ensures.led c.history.ensures.draft c.history.ensures.base c.history.ensures.led c.history.ensures.draft c.history.ensures.base c.leave.ensures.seen.0 c.leave.ensures.mark.0 (grows_self held.mark) c.leave.ensures.left in (
       (left_by_turn c.args.desk.now c.args.pass.now c.leave.new.pass held held turn).book_is ∙ book_found c.args.desk.now c.args.pass.now c.leave.new.pass held held turn only,
       ap (λ (m : Mark). m.fault) (turn.mark_is ∙ (turn.alone only).1),
+      same_open c.args.desk.now c.args.pass.now c.leave.new.pass held held turn refl only,
     )

@@ -24,4 +24,4 @@ pub returns-clause-own : goal.returns-clause-own
 returns-clause-own g c = let f = free_view _ c.args.pass c.into_seat.result.me.0 c.requires.free c.into_seat.ensures.2 in
     let d = closes_at _ _ _ _ _ _ _ _ _ _ c.close_with-closed.ensures.values.2 f.idle (sym (ap₂ (λ (a b : ℕ). a + b) f.held (sym f.spare)) ∙ c.requires.all) c.take-inside.result c.take-inside.ensures.value in
     let n : Some c.in-Some.value ≡ Some d.0 = sym c.in-Some.is ∙ d.1 in let same : c.in-Some.value ≡ d.0 = cc in
-    stays_at _ _ (sym f.left) f.number (sym (ap g.V.Logged.left_open same)) d.6
+    (stays_at _ _ (sym f.left) f.number (sym (ap g.V.Logged.left_open same)) d.6, ap g.V.Logged.left_open same ∙ (d.7 ∙ sym f.all_left))

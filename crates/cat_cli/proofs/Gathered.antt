@@ -1,0 +1,490 @@
+-- A collection on the only pass of a desk: from its answer to the store, and to the journal that the store was opened from.
+use Rattle.std.proofs.Common.{◌≡◌, ◌≢◌, ◌⊎◌, ℕ, ◌<◌, List, [], ◌∷◌, ◌++◌, reverse, length, Option, Some, None, IfSome, Bool, true, false, Result, Ok, Err, ◌+◌, refl, sym, ◌∙◌, ap, subst, inl, inr, ⊎_elim, arith}
+use Rattle.std.specs.Prelude.{nat_lt, nat_le}
+use Rattle.std.specs.Option.{option_map}
+use Rattle.std.proofs.lemmas.List.{reverse-append, reverse-reverse}
+use Rattle.sha2.specs.Sha256.{sha256}
+use Rattle.cat_checks.specs.Histories.{IsLegalFrom}
+use Rattle.cat_core.specs.Stored.{Stored, opened_of}
+use Rattle.cat_io.specs.Causes.{Rose}
+use Rattle.cat_io.specs.Clocks.{Ticks}
+use Rattle.cat_io.specs.Places.{stood, taken}
+use Rattle.cat_names.specs.declared.hash.Hash.{Hash}
+use Rattle.cat_model.specs.declared.limits.Quantity.{Quantity}
+use Rattle.cat_model.specs.declared.limits.Quantity.TheVariants as quantities
+use Rattle.cat_model.specs.declared.log_entry.LogEntry.{LogEntry}
+use Rattle.cat_model.specs.declared.refusal.Refusal.{Refusal}
+use Rattle.cat_model.specs.declared.refusal.Refusal.TheVariants as refusals
+use Rattle.cat_model.specs.declared.refusal.Refused.{Refused}
+use Rattle.cat_model.specs.declared.reply.Reply.{Reply}
+use Rattle.cat_model.specs.declared.reply.Reply.TheVariants as replies
+use Rattle.cat_model.specs.declared.reply.Swept.{Swept}
+use Rattle.cat_model.specs.declared.reply.Told.{Told}
+use Rattle.cat_model.specs.declared.sweep.Sweep.{Sweep}
+use Rattle.cat_model.specs.Book.{Book, first_book}
+use Rattle.cat_model.specs.Calls.{Called}
+use Rattle.cat_model.specs.Drafts.{no_names}
+use Rattle.cat_model.specs.Mark.{FailedAppend, Mark}
+use Rattle.cat_model.specs.Moves.{needs_log}
+use Rattle.cat_model.specs.Past.{past_of, swept_on}
+use Rattle.cat_model.specs.Refusing.{◌>>=◌, Tested, needs, needs_at_most}
+use Rattle.cat_model.specs.Limits.{program_limits}
+use Rattle.cat_model.specs.State.{State, first_state}
+use Rattle.cat_model.specs.Sweeps.{kept_contents, names_in, needs_sweep_room, removed_contents, saved, since, step_sweep, sweep_call, sweep_entry, sweep_of, swept, swept_by}
+use Rattle.cat_model.specs.Turns.{Opened}
+use Rattle.cat_policy.specs.declared.policy.Policy.{Policy}
+use Rattle.cat_policy.specs.Policies.{resolved}
+use Rattle.cat_state.specs.Kept.{spelling, spellings}
+use Rattle.cat_work.specs.Answers.{AnswersAlone, RefusesAlone}
+use Rattle.cat_cli.specs.declared.collecting.Collected.{Collected}
+use Rattle.cat_cli.specs.declared.collecting.Collected.TheVariants as comes
+use Rattle.cat_cli.specs.declared.status.Status.{Status}
+use Rattle.cat_cli.specs.declared.status.Status.TheVariants as statuses
+use Rattle.cat_cli.specs.Collecting.{Collects, CollectsKnown, ComesTo, EndsIn, EndsWith, Gathers, IsAnswer, IsDue, IsGathered, IsOwn, IsUnsaid, Means, MeansBy, collection}
+use Rattle.cat_cli.specs.Journals.{Holds, told_at}
+use Rattle.cat_cli.specs.Opening.{HoldsLog, IsStored}
+use Rattle.cat_cli.specs.Lines.{disk_fault_line, limit_line, no_memory_line, swept_line}
+use Rattle.cat_cli.specs.Runs.{TellsKnown, spares_disks}
+use Rattle.cat_cli.specs.Serving.{IsWritten, Sunk, opened_by_program}
+use Rattle.cat_cli.specs.Surviving.{Images, IsBegun, KeepsThrough, LeavesLog, StandsAs, Survives, images_at, images_of}
+use Rattle.cat_cli.proofs.HostedStores.{limits_of}
+use Rattle.cat_cli.proofs.Opened.{begins_at, left_at}
+use Rattle.cat_cli.proofs.Ran.{log_of}
+use Rattle.cat_cli.proofs.Surviving.{survives, survives_at, tells_of}
+
+-- ---- what the model's sweep brings
+
+-- an entry, and a reply that tells of a sweep
+pub record Accepts (called : Called) : Type 0 where
+  pub place : ℕ
+  pub swept : Swept
+  pub entry : LogEntry
+  pub said : called.said ≡ Ok (record { place = place; reply = replies.Swept swept })
+  pub logged : called.logged ≡ entry ∷ []
+
+-- or a refusal for a limit
+pub record Refuses (called : Called) : Type 0 where
+  pub which : Quantity
+  pub number : ℕ
+  pub place : ℕ
+  pub said : called.said ≡ Err (record { place = Some place; why = refusals.Limit which number })
+  pub logged : called.logged ≡ []
+
+abbrev pub Brings : Called → Type 0
+Brings called = Accepts called ⊎ Refuses called
+
+abbrev IsForLimit : Refusal → Type 0
+IsForLimit why = (which : Quantity) × (number : ℕ) × (why ≡ refusals.Limit which number)
+
+abbrev FailsForLimit : Tested → Type 0
+FailsForLimit (Ok u) = Unit {0}
+FailsForLimit (Err why) = IsForLimit why
+
+tests : (b : Bool) (which : Quantity) (number : ℕ) → FailsForLimit (needs b (refusals.Limit which number))
+tests true which number = tt
+tests false which number = (which, number, refl)
+
+both : (t : Tested) (next : Unit {0} → Tested) → FailsForLimit t → ((u : Unit {0}) → FailsForLimit (next u)) → FailsForLimit (t >>= next)
+both (Ok u) next first more = more u
+both (Err why) next first more = first
+
+room : (state : State) (count : ℕ) → FailsForLimit (needs_sweep_room state count)
+unfolding needs_sweep_room
+room state count =
+    both (needs_log state) (λ _. needs_at_most count state.limits.names quantities.Names)
+    (tests (nat_lt state.place state.limits.log) quantities.Log state.limits.log)
+    (λ u. tests (nat_le count state.limits.names) quantities.Names state.limits.names)
+
+abbrev refusing : ℕ → Refusal → Result Told Refused
+refusing place why = Err (record { place = Some place; why = why })
+
+brought : (caller : ℕ) (state : State) (draft moment : ℕ) (s : Sweep) (kept : List Hash) (t : Tested) → FailsForLimit t → Brings (swept_by caller state draft moment s (t >>= λ _. swept state s.opened kept))
+brought caller state draft moment s kept (Ok u) fails = inl (record {
+  place = state.place + 1;
+  swept = record { kept = length (kept_contents kept state.present); opened = s.opened; removed = length (removed_contents kept state.present) };
+  entry = sweep_entry caller (state.place + 1) moment s;
+  said = refl;
+  logged = refl;
+})
+brought caller state draft moment s kept (Err why) fails = inr (record {
+  which = fails.0;
+  number = fails.1;
+  place = state.place;
+  said = ap (refusing state.place) fails.2;
+  logged = refl;
+})
+
+swept_brings : (caller : ℕ) (state : State) (past : List State) (draft moment : ℕ) (s : Sweep) → Brings (sweep_call caller state past draft moment s)
+unfolding sweep_call step_sweep
+swept_brings caller state past draft moment s =
+    brought caller state draft moment s (saved (since s.opened state past) state.commits s.policy (names_in s)) (needs_sweep_room state (length s.commits + length s.contents)) (room state (length s.commits + length s.contents))
+
+pub brings : (book : Book) (policy : Policy) (moment : ℕ) → Brings (collection book policy moment)
+brings book policy moment = swept_brings 1 book.state (past_of sha256 book) book.draft moment (sweep_of book.state.place (resolved moment policy) no_names)
+
+-- ---- what alone is told of it
+
+abbrev said_ok : Told → Result Told Refused
+said_ok told = Ok told
+
+abbrev said_err : Refused → Result Told Refused
+said_err refused = Err refused
+
+same_told : (a b : Told) → said_ok a ≡ said_ok b → a ≡ b
+same_told a b e = cc
+
+same_refused : (a b : Refused) → said_err a ≡ said_err b → a ≡ b
+same_refused a b e = cc
+
+apart : {A : Type 0} (told : Told) (refused : Refused) → said_ok told ≡ said_err refused → A
+apart told refused e = absurd cc
+
+abbrev is_limit : Refusal → Bool
+is_limit (refusals.Limit which number) = true
+is_limit _ = false
+
+-- the refusal is for a limit where the model's is told
+for_limit : (called : Called) (refused : Refused) → Brings called → called.said ≡ Err refused → is_limit refused.why ≡ true
+for_limit called refused (inl a) said = apart (record { place = a.place; reply = replies.Swept a.swept }) refused (sym a.said ∙ said)
+for_limit called refused (inr r) said = ap (λ (x : Refused). is_limit x.why) (same_refused refused (record { place = Some r.place; why = refusals.Limit r.which r.number }) (sym said ∙ r.said))
+
+unlimited : {A : Type 0} (called : Called) (refused : Refused) (why : Refusal) → is_limit why ≡ false → refused.why ≡ why → Brings called → called.said ≡ Err refused → A
+unlimited called refused why other is b said = absurd (let wrong : false ≡ true = sym other ∙ ap is_limit (sym is) ∙ for_limit called refused b said in cc)
+
+none_failed : {A : Type 0} (fault : FailedAppend) → ◌≡◌ {A = Option FailedAppend} None (Some fault) → A
+none_failed fault e = absurd cc
+
+module _ (n : ℕ) (called : Called) (b b' : Book) (f' : Option FailedAppend) (brings : Brings called) where
+  own : (refused : Refused) (why : Refusal) → refused.why ≡ why → RefusesAlone n called b b' None f' refused why → IsOwn why
+  own refused (refusals.Limit which number) is p = tt
+  own refused refusals.Fault is p = tt
+  own refused refusals.NoMemory is p = tt
+  own refused (refusals.Down count) is p = none_failed p.fault p.was
+  own refused (refusals.RetriesSpent pairs) is p = absurd p
+  own refused (refusals.BadRequest x) is p = unlimited called refused (refusals.BadRequest x) refl is brings p.0.said
+  own refused refusals.RefNotFound is p = unlimited called refused refusals.RefNotFound refl is brings p.0.said
+  own refused refusals.RefExists is p = unlimited called refused refusals.RefExists refl is brings p.0.said
+  own refused (refusals.ContentNotFound x) is p = unlimited called refused (refusals.ContentNotFound x) refl is brings p.0.said
+  own refused (refusals.Conflicts x) is p = unlimited called refused (refusals.Conflicts x) refl is brings p.0.said
+  own refused (refusals.Expired keys opened) is p = unlimited called refused (refusals.Expired keys opened) refl is brings p.0.said
+  own refused (refusals.SweepOpen x) is p = unlimited called refused (refusals.SweepOpen x) refl is brings p.0.said
+  own refused (refusals.Collision hash first second) is p = unlimited called refused (refusals.Collision hash first second) refl is brings p.0.said
+  own refused refusals.NoRoute is p = unlimited called refused refusals.NoRoute refl is brings p.0.said
+  own refused (refusals.WrongMethod x) is p = unlimited called refused (refusals.WrongMethod x) refl is brings p.0.said
+  own refused refusals.TooLarge is p = unlimited called refused refusals.TooLarge refl is brings p.0.said
+  own refused refusals.Encoding is p = unlimited called refused refusals.Encoding refl is brings p.0.said
+
+  -- the reply is a sweep's
+  swept_of : (told : Told) → called.said ≡ Ok told → (x : Accepts called) × (told.reply ≡ replies.Swept x.swept)
+  swept_of told said = by brings
+    where
+      by : Brings called → (x : Accepts called) × (told.reply ≡ replies.Swept x.swept)
+      by (inl a) = (a, ap (λ (t : Told). t.reply) (same_told told (record { place = a.place; reply = replies.Swept a.swept }) (sym said ∙ a.said)))
+      by (inr r) = apart told (record { place = Some r.place; why = refusals.Limit r.which r.number }) (sym said ∙ r.said)
+
+  pub is_answer : (answer : Result Told Refused) → AnswersAlone n called b b' None f' answer → IsAnswer answer
+  is_answer (Ok told) p = let x = swept_of told p.0.said in (x.0.swept, x.1)
+  is_answer (Err refused) p = own refused refused.why refl p
+
+  -- ---- what is left of the store
+
+  abbrev pub payload_of : Option FailedAppend → Option (List ℕ)
+  payload_of f = option_map (λ (x : FailedAppend). x.payload) f
+
+  -- it came to this, and the log has its entry, if that was kept
+  abbrev pub Leaves : Collected → Type 0
+  Leaves what = (added : List LogEntry) × ComesTo called what added (payload_of f') × (b'.log ≡ reverse added ++ b.log)
+
+  none_logged : (refused : Refused) → called.said ≡ Err refused → called.logged ≡ []
+  none_logged refused said = by brings
+    where
+      by : Brings called → called.logged ≡ []
+      by (inl a) = apart (record { place = a.place; reply = replies.Swept a.swept }) refused (sym a.said ∙ said)
+      by (inr r) = r.logged
+
+  limited : (refused : Refused) (which : Quantity) (number : ℕ) → refused.why ≡ refusals.Limit which number → RefusesAlone n called b b' None f' refused (refusals.Limit which number) → Leaves (comes.Limit number)
+  limited refused which number is p =
+      let none = none_logged refused p.0.said in (
+        [],
+        record {
+          which = which;
+          place = refused.place;
+          said = p.0.said ∙ ap (λ (w : Refusal). said_err (record { place = refused.place; why = w })) is;
+          logged = none;
+          added_is = refl;
+          up = ap payload_of p.2;
+        },
+        ap (λ (x : Book). x.log) p.0.book ∙ ap (λ (l : List LogEntry). l ++ b.log) none,
+      )
+
+  refused_so : (refused : Refused) (why : Refusal) (what : Collected) → refused.why ≡ why → RefusesAlone n called b b' None f' refused why → MeansBy why what → Leaves what
+  refused_so refused (refusals.Limit which number) what is p means = subst Leaves (sym means) (limited refused which number is p)
+  refused_so refused refusals.Fault what is p means =
+      subst Leaves (sym means) ([], record { entry = p.entry; logged = p.logged; added_is = refl; flies = ap payload_of p.is ∙ ap (λ (l : List ℕ). Some l) p.payload }, p.unkept.log)
+  refused_so refused refusals.NoMemory what is p means = subst Leaves (sym means) ([], (refl, ap payload_of p.1), p.0.log)
+  refused_so refused (refusals.Down count) what is p means = absurd means
+  refused_so refused (refusals.RetriesSpent pairs) what is p means = absurd means
+  refused_so refused (refusals.BadRequest x) what is p means = absurd means
+  refused_so refused refusals.RefNotFound what is p means = absurd means
+  refused_so refused refusals.RefExists what is p means = absurd means
+  refused_so refused (refusals.ContentNotFound x) what is p means = absurd means
+  refused_so refused (refusals.Conflicts x) what is p means = absurd means
+  refused_so refused (refusals.Expired keys opened) what is p means = absurd means
+  refused_so refused (refusals.SweepOpen x) what is p means = absurd means
+  refused_so refused (refusals.Collision hash first second) what is p means = absurd means
+  refused_so refused refusals.NoRoute what is p means = absurd means
+  refused_so refused (refusals.WrongMethod x) what is p means = absurd means
+  refused_so refused refusals.TooLarge what is p means = absurd means
+  refused_so refused refusals.Encoding what is p means = absurd means
+
+  accepted_so : (told : Told) (swept : Swept) → told.reply ≡ replies.Swept swept → AnswersAlone n called b b' None f' (Ok told) → Leaves (comes.Swept swept.kept swept.removed told.place)
+  accepted_so told swept is p =
+      let x = (swept_of told p.0.said).0 in (
+        x.entry ∷ [],
+        record {
+          opened = swept.opened;
+          said = p.0.said ∙ ap (λ (r : Reply). said_ok (record { place = told.place; reply = r })) is;
+          entry = x.entry;
+          logged = x.logged;
+          added_is = refl;
+          up = ap payload_of p.2;
+        },
+        ap (λ (x : Book). x.log) p.0.book ∙ ap (λ (l : List LogEntry). l ++ b.log) x.logged,
+      )
+
+  pub leaves : (answer : Result Told Refused) (what : Collected) → AnswersAlone n called b b' None f' answer → Means answer what → Leaves what
+  leaves (Ok told) what p means = subst Leaves (sym means.2) (accepted_so told means.0 means.1 p)
+  leaves (Err refused) what p means = refused_so refused refused.why what refl p means
+
+-- ---- on the store that the desk held
+
+module _ {K : Type 0} (in_flight : K → Option (List ℕ)) (policy : Policy) (moment n : ℕ) (b b' : Book) (f f' : Option FailedAppend) (old new : Stored K) (answer : Result Told Refused)
+    (number : n ≡ 1) (book : b ≡ old.book) (up : f ≡ None)
+    (alone : AnswersAlone n (swept_on sha256 n b (resolved moment policy) no_names moment) b b' f f' answer) where
+  first_alone : AnswersAlone 1 (collection old.book policy moment) old.book b' None f' answer
+  first_alone =
+      subst (λ (z : ℕ × Book × Option FailedAppend). AnswersAlone z.0 (swept_on sha256 z.0 z.1 (resolved moment policy) no_names moment) z.1 b' z.2 f' answer)
+      (λ i. (number i, book i, up i)) alone
+
+  pub may_be_told : IsAnswer answer
+  may_be_told = is_answer 1 (collection old.book policy moment) old.book b' f' (brings old.book policy moment) answer first_alone
+
+  pub gathered : (ahead to_come : Option (ℕ → ℕ)) (what : Collected) → Ticks ahead to_come moment → Means answer what → new.book ≡ b' → new.mark.fault ≡ f' → in_flight new.keeper ≡ option_map (λ (x : FailedAppend). x.payload) new.mark.fault
+      → (opened : Opened) (log : List LogEntry) → opened ≡ opened_of old → b'.log ≡ reverse log → IsLegalFrom opened log
+      → IsGathered in_flight policy ahead to_come old new what
+  gathered ahead to_come what ticks means book_is fault_is flies opened log from_here seen_is legal =
+      let x = leaves 1 (collection old.book policy moment) old.book b' f' (brings old.book policy moment) answer what first_alone means in
+      record {
+        moment = moment;
+        ticks = ticks;
+        added = x.0;
+        comes_to = subst (λ (p : Option (List ℕ)). ComesTo (collection old.book policy moment) what x.0 p) (sym (flies ∙ ap (option_map (λ (x : FailedAppend). x.payload)) fault_is)) x.1;
+        log_is = ap (λ (x : Book). x.log) book_is ∙ x.2;
+        legal =
+            let is : log ≡ reverse new.book.log = sym (reverse-reverse log) ∙ ap (λ (l : List LogEntry). reverse l) (sym (ap (λ (x : Book). x.log) book_is ∙ seen_is)) in
+            subst (λ (z : Opened × List LogEntry). IsLegalFrom z.0 z.1) (λ i. (from_here i, is i)) legal;
+      }
+
+-- an append failed
+failed_at : (fault : Option FailedAppend) (p : List ℕ) → option_map (λ (x : FailedAppend). x.payload) fault ≡ Some p → (x : FailedAppend) × (fault ≡ Some x)
+failed_at None p e = absurd cc
+failed_at (Some x) p e = (x, refl)
+
+pub has_failed : {K : Type 0} (in_flight : K → Option (List ℕ)) (policy : Policy) (ahead to_come : Option (ℕ → ℕ)) (old new : Stored K) (what : Collected) → IsGathered in_flight policy ahead to_come old new what → what ≡ comes.Fault
+    → in_flight new.keeper ≡ option_map (λ (x : FailedAppend). x.payload) new.mark.fault → (x : FailedAppend) × (new.mark.fault ≡ Some x)
+has_failed in_flight policy ahead to_come old new what g is flies =
+    let unkept = subst (λ (w : Collected). ComesTo (collection old.book policy g.moment) w g.added (in_flight new.keeper)) is g.comes_to in
+    failed_at new.mark.fault (spelling unkept.entry) (sym flies ∙ unkept.flies)
+
+-- ---- on the journal that the store was opened from
+
+module _ {D K : Type 0} (told : D → Option (List ℕ)) (may_leave : D → List ℕ → Type 0) (moment : D → ℕ) (left_since : D → ℕ → List ℕ → Type 0) (in_flight : K → Option (List ℕ))
+    (since least : ℕ) (early : List ℕ → Type 0) (disk again : D) (old new : Stored K) (down : Option ℕ) (policy : Policy) (ahead to_come : Option (ℕ → ℕ)) (what : Collected)
+    (stored : IsStored (told disk) old.book down) (began : old.began ≡ 0)
+    (g : IsGathered in_flight policy ahead to_come old new what)
+    (begun : IsBegun since least early (told disk) (moment disk) (may_leave disk))
+    (holds : HoldsLog in_flight new.keeper new.book (told again))
+    (leaves : KeepsThrough since least early (may_leave again) (left_since again) in_flight new.keeper new.book (told again)) where
+  pub collects : Collects policy ahead to_come (told disk) (told again) (images_of may_leave moment left_since disk again) what
+  collects =
+      let log : spellings (reverse new.book.log) ≡ stored.payloads ++ spellings g.added =
+      log_of stored.payloads old.book.log new.book.log (reverse g.added) stored.spelled g.log_is ∙ ap (λ (l : List LogEntry). stored.payloads ++ spellings l) (reverse-reverse g.added) in
+      record {
+        payloads = stored.payloads;
+        book = old.book;
+        begins = stored.begins;
+        moment = g.moment;
+        ticks = g.ticks;
+        added = g.added;
+        flying = in_flight new.keeper;
+        comes_to = g.comes_to;
+        legal =
+            let limits : old.book.state.limits ≡ program_limits = limits_of (first_book sha256 program_limits) old.book 0 stored.payloads stored.begins.led in
+            let from_here : opened_of old ≡ opened_by_program = λ i. record { state = first_state sha256 (limits i); draft = 0; faults = began i } in
+            let grown : reverse new.book.log ≡ reverse old.book.log ++ g.added =
+            ap (λ (l : List LogEntry). reverse l) g.log_is ∙ reverse-append (reverse g.added) old.book.log ∙ ap (λ (l : List LogEntry). reverse old.book.log ++ l) (reverse-reverse g.added) in
+            subst (λ (z : Opened × List LogEntry). IsLegalFrom z.0 z.1) (λ i. (from_here i, grown i)) g.legal;
+        keeps = subst (λ (l : List (List ℕ)). IfSome (told again) (Holds l (in_flight new.keeper))) log holds;
+        crash =
+            survives since least early (told disk) (told again) (moment disk) (may_leave disk) (may_leave again) (left_since again) stored.payloads (spellings g.added) (spellings (reverse new.book.log)) (in_flight new.keeper)
+            begun stored.begins.recovers log leaves;
+      }
+
+-- ---- by the status
+
+module _ (fell level : Type 0) (so : Collected → Type 0) (k : Sunk) where
+  -- what is told of one that was made is told of it on the journal
+  gathers_on : (fell' level' : Type 0) (so' : Collected → Type 0) → (fell → fell') → (level → level') → ((what : Collected) → so what → so' what) → (status : Status) → Gathers fell level so k status → Gathers fell' level' so' k status
+  gathers_on fell' level' so' f l g statuses.Done x = (x.0, x.1, x.2, g (comes.Swept x.0 x.1 x.2) x.3, l x.4, x.5)
+  gathers_on fell' level' so' f l g statuses.Limit x = (x.0, g (comes.Limit x.0) x.1, l x.2, x.3)
+  gathers_on fell' level' so' f l g statuses.DiskFault x = (x.0, g x.0 x.1, x.2, f x.3, x.4)
+  gathers_on fell' level' so' f l g statuses.WriteFault x = (x.0, g x.0 x.1, x.2, due x.0 x.2 x.3, x.4)
+    where
+      due : (what : Collected) (line : List ℕ) → IsDue fell level what line → IsDue fell' level' what line
+      due (comes.Swept kept removed place) line (inl d) = inl (l d.0, d.1)
+      due (comes.Swept kept removed place) line (inr d) = inr (f d.0, d.1)
+      due (comes.Limit number) line (inl d) = inl (l d.0, d.1)
+      due (comes.Limit number) line (inr d) = inr (f d.0, d.1)
+      due comes.Fault line d = (f d.0, d.1)
+      due comes.NoMemory line d = absurd d
+  gathers_on fell' level' so' f l g statuses.NoMemory x = (x.0, g x.0 x.1, unsaid x.0 x.2, x.3)
+    where
+      unsaid : (what : Collected) → IsUnsaid level what → IsUnsaid level' what
+      unsaid (comes.Swept kept removed place) u = l u
+      unsaid (comes.Limit number) u = l u
+      unsaid comes.Fault u = absurd u
+      unsaid comes.NoMemory u = tt
+  gathers_on fell' level' so' f l g statuses.Usage x = absurd x
+  gathers_on fell' level' so' f l g statuses.Unreadable x = absurd x
+  gathers_on fell' level' so' f l g statuses.ReadFault x = absurd x
+  gathers_on fell' level' so' f l g statuses.ListenerFault x = absurd x
+  gathers_on fell' level' so' f l g statuses.Cut x = absurd x
+
+  -- the disks failed where the status says so, and not where it spares them
+  pub disks_fell : (status : Status) → status ≡ statuses.DiskFault → Gathers fell level so k status → fell
+  disks_fell status is x = let y = subst (Gathers fell level so k) is x in y.3
+
+  pub disks_level : (status : Status) → spares_disks status ≡ true → Gathers fell level so k status → level
+  disks_level statuses.Done spares x = x.4
+  disks_level statuses.Limit spares x = x.2
+  disks_level statuses.DiskFault spares x = absurd cc
+  disks_level statuses.WriteFault spares x = absurd cc
+  disks_level statuses.NoMemory spares x = absurd cc
+  disks_level statuses.Usage spares x = absurd x
+  disks_level statuses.Unreadable spares x = absurd x
+  disks_level statuses.ReadFault spares x = absurd x
+  disks_level statuses.ListenerFault spares x = absurd x
+  disks_level statuses.Cut spares x = absurd x
+
+module _ (fell level paused : Type 0) (policy : Policy) (ahead to_come : Option (ℕ → ℕ)) (k : Sunk) (journal left : Option (List ℕ)) (images : Images) where
+  abbrev Known : Status → Type 0
+  Known status = CollectsKnown fell level paused policy ahead to_come k journal left images status
+
+  -- a collection doesn't end so
+  pub never_usage : (status : Status) → Known status → status ≢ statuses.Usage
+  never_usage status known is = by (subst Known is known)
+    where
+      by : Known statuses.Usage → ⊥
+      by (inl x) = x
+      by (inr r) = r.cause
+
+  pub never_read : (status : Status) → Known status → status ≢ statuses.ReadFault
+  never_read status known is = by (subst Known is known)
+    where
+      by : Known statuses.ReadFault → ⊥
+      by (inl x) = x
+      by (inr r) = r.cause
+
+  pub never_heard : (status : Status) → Known status → status ≢ statuses.ListenerFault
+  never_heard status known is = by (subst Known is known)
+    where
+      by : Known statuses.ListenerFault → ⊥
+      by (inl x) = x
+      by (inr r) = r.cause
+
+-- by the count of the disk's faults
+pub faulty : (most : ℕ) (failed : Bool) (what : Collected) → (failed ≡ true → 0 < most) → (what ≡ comes.Fault → 0 < most) → (failed ≡ true) ⊎ (what ≡ comes.Fault) → 0 < most
+faulty most failed what some failing (inl is) = some is
+faulty most failed what some failing (inr is) = failing is
+
+pub unfaulty : (most : ℕ) (failed : Bool) → (failed ≡ false → most ≡ 0) → failed ≡ false → most ≡ 0
+unfaulty most failed none is = none is
+
+-- ---- what is told
+
+module _ (what : Collected) (failed : Bool) (k : Sunk) where
+  abbrev Reports : Status → Type 0
+  Reports status = Gathers ((failed ≡ true) ⊎ (what ≡ comes.Fault)) (failed ≡ false) (λ x. x ≡ what) k status
+
+  by_line : (line : List ℕ) (status ending : Status) → EndsIn line status k ending → (IsWritten true line k → Reports status) → (IsWritten false line k → Reports statuses.WriteFault) → (TellsKnown no_memory_line k.held k.after k.before k.now → Reports statuses.NoMemory) → Reports ending
+  by_line line status ending (inl (inl e)) whole front none = subst Reports (sym e.0) (whole e.1)
+  by_line line status ending (inl (inr e)) whole front none = subst Reports (sym e.0) (front e.1)
+  by_line line status ending (inr e) whole front none = subst Reports (sym e.0) (none e.1)
+
+  pub swept_told : (kept removed place : ℕ) (ending : Status) → what ≡ comes.Swept kept removed place → failed ≡ false → EndsIn (swept_line kept removed place) statuses.Done k ending → Reports ending
+  swept_told kept removed place ending is well told =
+      by_line (swept_line kept removed place) statuses.Done ending told (λ w. (kept, removed, place, sym is, well, w)) (λ w. (comes.Swept kept removed place, sym is, swept_line kept removed place, inl (well, refl), w))
+      (λ t. (comes.Swept kept removed place, sym is, well, t))
+
+  pub limit_told : (number : ℕ) (ending : Status) → what ≡ comes.Limit number → failed ≡ false → EndsIn (limit_line number) statuses.Limit k ending → Reports ending
+  limit_told number ending is well told =
+      by_line (limit_line number) statuses.Limit ending told (λ w. (number, sym is, well, w)) (λ w. (comes.Limit number, sym is, limit_line number, inl (well, refl), w)) (λ t. (comes.Limit number, sym is, well, t))
+
+  -- the line of a disk's fault takes no memory
+  pub fault_told : (ending : Status) → (failed ≡ true) ⊎ (what ≡ comes.Fault) → what ≢ comes.NoMemory → EndsWith disk_fault_line statuses.DiskFault k ending → Reports ending
+  fault_told ending fell some (inl e) = subst Reports (sym e.0) (what, refl, some, fell, e.1)
+  fault_told ending fell some (inr e) = subst Reports (sym e.0) (what, refl, disk_fault_line, due what some, e.1)
+    where
+      due : (x : Collected) → x ≢ comes.NoMemory → IsDue ((failed ≡ true) ⊎ (what ≡ comes.Fault)) (failed ≡ false) x disk_fault_line
+      due (comes.Swept kept removed place) other = inr (fell, refl)
+      due (comes.Limit number) other = inr (fell, refl)
+      due comes.Fault other = (fell, refl)
+      due comes.NoMemory other = absurd (other refl)
+
+  pub failing_told : (ending : Status) → what ≡ comes.Fault → EndsWith disk_fault_line statuses.DiskFault k ending → Reports ending
+  failing_told ending is told = fault_told ending (inr is) (λ no. never (sym is ∙ no)) told
+    where
+      never : comes.Fault ≢ comes.NoMemory
+      never e = cc
+
+  pub memory_told : (ending : Status) → what ≡ comes.NoMemory → ending ≡ statuses.NoMemory → TellsKnown no_memory_line k.held k.after k.before k.now → Reports ending
+  memory_told ending is by told = subst Reports (sym by) (comes.NoMemory, sym is, tt, told)
+
+-- ---- the disk is back at its path
+
+module _ {D : Type 0} (told : D → Option (List ℕ)) (may_leave : D → List ℕ → Type 0) (moment : D → ℕ) (left_since : D → ℕ → List ℕ → Type 0) (place mid place' : Option (Option D)) (disk again : D)
+    (is : StandsAs told may_leave moment place disk) (out : mid ≡ taken place) (back : place' ≡ stood again mid) where
+  there : place' ≡ stood again (taken place)
+  there = back ∙ ap (stood again) out
+
+  collects_there : (policy : Policy) (ahead to_come : Option (ℕ → ℕ)) (what : Collected) → Collects policy ahead to_come (told disk) (told again) (images_of may_leave moment left_since disk again) what
+      → Collects policy ahead to_come (told_at told place) (told_at told place') (images_at may_leave moment left_since place place') what
+  collects_there policy ahead to_come what g = record {
+    payloads = g.payloads;
+    book = g.book;
+    begins = begins_at told place disk g.payloads g.book (tells_of told may_leave moment left_since place disk is) g.begins;
+    moment = g.moment;
+    ticks = g.ticks;
+    added = g.added;
+    flying = g.flying;
+    comes_to = g.comes_to;
+    legal = g.legal;
+    keeps =
+        subst (λ (q : Option (Option D)). IfSome (told_at told q) (Holds (g.payloads ++ spellings g.added) g.flying)) (sym there)
+        (left_at told place again (Holds (g.payloads ++ spellings g.added) g.flying) g.keeps);
+    crash =
+        subst (λ (q : Option (Option D)). Survives (told_at told place) (told_at told q) (images_at may_leave moment left_since place q) g.payloads (spellings g.added) g.flying) (sym there)
+        (survives_at told may_leave moment left_since place disk again g.payloads (spellings g.added) g.flying is g.crash);
+  }
+
+  -- by the status; level is so where the disk didn't fail
+  pub gathers : (fell level paused : Type 0) (policy : Policy) (ahead to_come : Option (ℕ → ℕ)) (k : Sunk) (most : ℕ) (what : Collected) (failed : Bool) (status : Status)
+      → Collects policy ahead to_come (told disk) (told again) (images_of may_leave moment left_since disk again) what
+      → Gathers ((failed ≡ true) ⊎ (what ≡ comes.Fault)) (failed ≡ false) (λ x. x ≡ what) k status
+      → (failed ≡ true → 0 < most) → (failed ≡ false → most ≡ 0) → (what ≡ comes.Fault → 0 < most) → (0 < most → fell) → (most ≡ 0 → level)
+      → CollectsKnown fell level paused policy ahead to_come k (told_at told place) (told_at told place') (images_at may_leave moment left_since place place') status
+  gathers fell level paused policy ahead to_come k most what failed status g told_so some none failing falls stays =
+      inl (gathers_on ((failed ≡ true) ⊎ (what ≡ comes.Fault)) (failed ≡ false) (λ x. x ≡ what) k fell level
+      (Collects policy ahead to_come (told_at told place) (told_at told place') (images_at may_leave moment left_since place place'))
+      (λ f. falls (faulty most failed what some failing f)) (λ f. stays (none f))
+      (λ x same. subst (Collects policy ahead to_come (told_at told place) (told_at told place') (images_at may_leave moment left_since place place')) (sym same) (collects_there policy ahead to_come what g)) status told_so)

@@ -1,0 +1,34 @@
+use Rattle.std.proofs.Common.{ℕ, ◌∙◌, subst, sym}
+use Rattle.std.specs.Option.{option_map}
+use Rattle.cat_io.specs.Causes.{Rose}
+use Rattle.cat_journal.specs.declared.journal.Journal.{Journal}
+use Rattle.cat_journal.specs.Frames.{payload_of}
+use Rattle.cat_keeper.specs.KeeperLaws.{none_flies}
+use Rattle.cat_cli.proofs.Counted.{spared, stands}
+use Rattle.cat_cli.proofs.Gathered.{collects}
+use Rattle.cat_cli.proofs.collecting.collection_on.Goals as goal
+
+pub returns-in-Ok-hold_collection-clause-collects : goal.returns-in-Ok-hold_collection-clause-collects
+returns-in-Ok-hold_collection-clause-collects g c =
+    collects {K = Journal g.row.D.Denot g.D.Disk} g.D.Disk.told g.D.Disk.may_leave g.D.Disk.moment g.D.Disk.left_since (λ j. option_map (λ _. payload_of j.frame.items) j.down)
+    g.B.Since.since g.B.Since.least g.B.Since.before c.args.disk c.disk_of.result c.in-Ok.store c.in-Ok-hold_collection.store _ c.args.policy.now _ _ c.in-Ok-hold_collection.what
+    c.in-Ok.ensures.stored (c.in-Ok.ensures.fresh.2 ∙ c.in-Ok.ensures.level ∙ c.requires.fresh) c.in-Ok-hold_collection.ensures.gathered c.requires.begun c.disk_of.ensures.holds c.disk_of.ensures.leaves
+
+pub returns-in-Ok-hold_collection-clause-rose : goal.returns-in-Ok-hold_collection-clause-rose
+returns-in-Ok-hold_collection-clause-rose g c failed =
+    let began = c.in-Ok.ensures.fresh.2 ∙ c.in-Ok.ensures.level ∙ c.requires.fresh in
+    let faults = sym c.disk_of.ensures.faults in
+    subst (λ (x : ℕ × ℕ). Rose x.0 x.1) (λ i. (began i, faults i)) (c.in-Ok-hold_collection.ensures.rose failed)
+
+-- memory ran out before the desk was made
+pub returns-in-Err-hold_collection-clause-stands : goal.returns-in-Err-hold_collection-clause-stands
+returns-in-Err-hold_collection-clause-stands g c =
+    let stored = rw (sym c.in-Err-hold_collection.ensures.back) at c.in-Ok.ensures.stored in
+    stands {K = Journal g.row.D.Denot g.D.Disk} g.D.Disk.told g.D.Disk.may_leave g.D.Disk.moment g.D.Disk.left_since (λ j. j.down) (λ j. option_map (λ _. payload_of j.frame.items) j.down)
+    g.B.Since.since g.B.Since.least g.B.Since.before c.args.disk c.disk_of-in-Err-hold_collection.result c.in-Err-hold_collection.store stored (none_flies _ _ stored.up) c.requires.begun c.disk_of-in-Err-hold_collection.ensures.holds c.disk_of-in-Err-hold_collection.ensures.leaves
+
+pub returns-in-Err-hold_collection-clause-spared : goal.returns-in-Err-hold_collection-clause-spared
+returns-in-Err-hold_collection-clause-spared g c =
+    let stored = rw (sym c.in-Err-hold_collection.ensures.back) at c.in-Ok.ensures.stored in
+    spared {K = Journal g.row.D.Denot g.D.Disk} g.D.Disk.told g.D.Disk.may_leave g.D.Disk.moment g.D.Disk.left_since (λ j. j.down) (λ j. option_map (λ _. payload_of j.frame.items) j.down)
+    g.B.Since.since g.B.Since.least g.B.Since.before c.args.disk c.disk_of-in-Err-hold_collection.result c.in-Err-hold_collection.store stored (none_flies _ _ stored.up) c.requires.begun c.disk_of-in-Err-hold_collection.ensures.holds c.disk_of-in-Err-hold_collection.ensures.leaves

@@ -1,0 +1,9 @@
+mod Brought
+mod Given
+mod Owned
+mod Turning
+mod Goings
+mod Endings
+mod Refusals
+mod Stages
+mod Told

@@ -1,0 +1,22 @@
+use Rattle.std.proofs.Common.{refl, rules, ◌∙◌}
+use Rattle.cat_core.specs.declared.tickets.OpenSweep.{OpenSweep}
+use Rattle.cat_core.proofs.Giving.{begun_is}
+use Rattle.cat_core.proofs.Held.{at_least}
+use Rattle.cat_core.proofs.UnderWay.{last_inside, place_log, swept_begun}
+use Rattle.cat_core.proofs.store.Store.begin.Goals as goal
+
+pub invariant_of-self : goal.invariant_of-self
+invariant_of-self g c = (
+  c.self.invariant.0,
+  c.self.invariant.1,
+  swept_begun c.self.inside.ledger c.self.inside.began _
+      (record { ticket = record { number = c.next_sweep.result; caller = c.args.caller; place = c.place.result }; policy = c.args.policy; commits = c.in_ok-commits.commits; contents = c.in_ok-contents.contents; drained = c.place.result; given_commits = c.len.result; given_contents = c.len-2.result })
+      c.self.inside.sweep c.self.inside.closed c.self.invariant.2 c.self.invariant.1 c.place.ensures refl (search rules) (record { commits = at_least _ _ (search rules); contents = at_least _ _ (search rules) })
+      c.requires.few c.requires.logged (last_inside _ _ c.self.view_is c.self.inside.closed c.next_sweep.result refl c.next_sweep.ensures.last),
+)
+
+pub returns-clause-opened : goal.returns-clause-opened
+returns-clause-opened g c =
+    begun_is c.args.caller _ _ c.self.view_is _
+    (record { ticket = record { number = c.next_sweep.result; caller = c.args.caller; place = c.place.result }; policy = c.args.policy; commits = c.in_ok-commits.commits; contents = c.in_ok-contents.contents; drained = c.place.result; given_commits = c.len.result; given_contents = c.len-2.result })
+    _ c.in_ok-roots.roots c.in_ok-view.view c.requires.up c.requires.none refl c.next_sweep.ensures.next refl c.place.ensures (search rules) (search rules) (c.place.ensures ∙ place_log c.self.inside.ledger c.self.inside.began _ c.self.invariant.1) (search rules) (search rules) (search rules) (search rules) refl

@@ -1,0 +1,32 @@
+use Rattle.std.proofs.Common.{Option, map, refl, rules, subst, ◌∙◌}
+use Rattle.cat_core.specs.declared.tickets.OpenSweep.{OpenSweep}
+use Rattle.cat_core.specs.Stored.{IsSwept, draft_held}
+use Rattle.cat_core.proofs.Giving.{given_is, none_seen}
+use Rattle.cat_core.proofs.Held.{at_least}
+use Rattle.cat_core.proofs.UnderWay.{place_log, swept_given}
+use Rattle.cat_core.proofs.store.Store.give.Goals.{in-Some, in_default}
+use Rattle.cat_core.proofs.store.Store.give.Goals as goal
+
+pub invariant_of-self : goal.invariant_of-self
+invariant_of-self g c =
+    elim c.match-self.branch [
+      | in-Some w ↦
+          let was = subst (λ (h : Option OpenSweep). IsSwept c.self.inside.ledger (map draft_held c.self.inside.drafts.items) h c.self.inside.closed) w.in-Some.is c.self.invariant.2 in
+          rw w.self-inside-is (
+            c.self.invariant.0,
+            c.self.invariant.1,
+            swept_given c.self.inside.ledger c.self.inside.began _ w.in-Some.open (record (w.in-Some.open) { drained = c.place-place.result; given_commits = w.len-open.result; given_contents = w.len-open-in-Some.result })
+                c.self.inside.closed was c.self.invariant.1 refl refl refl c.place-place.ensures (record { commits = at_least _ _ (search rules); contents = at_least _ _ (search rules) }),
+          )
+      | in_default w ↦ rw w.self-inside-is c.self.invariant
+    ]
+
+pub returns : goal.returns
+returns g c = λ o there.
+    elim c.match-self.branch [
+      | in-Some w ↦
+          rw w.self-inside-is
+          (given_is _ _ c.self.view_is _ c.self.inside.sweep w.in-Some.open (record (w.in-Some.open) { drained = c.place-place.result; given_commits = w.len-open.result; given_contents = w.len-open-in-Some.result })
+          w.in-Some.is refl refl refl refl refl refl (c.place-place.ensures ∙ place_log c.self.inside.ledger c.self.inside.began _ c.self.invariant.1) (search rules) (search rules) refl o there)
+      | in_default w ↦ absurd (none_seen _ _ c.self.view_is c.self.inside.sweep w.in_default.is refl o there)
+    ]

@@ -1,0 +1,13 @@
+//! What a request wants.
+
+use cat_model::ask::Ask;
+use cat_model::command::Command;
+use cat_policy::Policy;
+
+/// A reading call, a changing one, or a collection by a policy.
+#[derive(Drop)]
+pub enum Wanted {
+    Read(Ask),
+    Change(Command),
+    Collect(Policy),
+}
