@@ -21,7 +21,6 @@ use Rattle.cat_model.specs.declared.reply.Told.{Told}
 use Rattle.cat_model.specs.declared.sweep.Sweep.{Sweep}
 use Rattle.cat_model.specs.Book.{Book, IsCalled, after_call}
 use Rattle.cat_model.specs.Calls.{Called}
-use Rattle.cat_model.specs.Drafts as drafts
 use Rattle.cat_model.specs.Drafts.{Open, OpenSweep, Opening, no_names, nothing_open, open_of}
 use Rattle.cat_model.specs.Mark.{FailedAppend, Mark}
 use Rattle.cat_model.specs.Past.{course, past_of, swept_on}
@@ -33,7 +32,7 @@ use Rattle.cat_work.specs.Answers.{AnswersAlone, FallsAlone, IsAt, NoFaultIsNew,
 use Rattle.cat_work.specs.Passes.{IsAlone, book_of, state_of}
 use Rattle.cat_work.specs.TurnLaws.{Left, book_found, left_by_turn}
 use Rattle.cat_work.specs.Turns.{Turned}
-use Rattle.cat_collect.specs.Answers.{Answers, Causes, Falls, IsClosedBy, IsRuledOut, IsSweepOf, past_at, step_at}
+use Rattle.cat_collect.specs.Answers.{Answers, Causes, Falls, IsClosedBy, IsNewer, IsRuledOut, IsSweepOf, past_at, step_at}
 use Rattle.cat_collect.specs.Turns.{Comes, DropsIn, Going, SettlesIn, out_of_memory}
 use Rattle.cat_collect.proofs.Brought.{IsSwept, IsUnswept, by_entry, by_refusal, by_reply, is_limit, no_other}
 use Rattle.cat_collect.proofs.Goings.{Found, alone_still, found_alone, found_on, found_same, grown, within_on}
@@ -110,13 +109,14 @@ module _ {K : Type 0} (desk : DeskId) (policy : Resolved) (moment : ℕ) (first 
   none_open same = turn.left ∙ ap (λ (x : Open). open_of (number_of present) x) same ∙ none_left (number_of present) (stored.open_of (shut s o)) found.drafts refl
 
   -- the mark tells of it
-  is_closed : s'.mark.closed ≡ (shut s o).mark.closed → IsClosedBy n w (mark_of next)
+  is_closed : s'.mark.closed ≡ (shut s o).mark.closed → IsClosedBy n w (mark_of first) (mark_of next)
   is_closed same = (
     o.opening.number,
+    subst (λ (x : Opening). IsNewer (mark_of first) x.number) (sym opening) g.newer,
     ap (λ (m : Mark). m.closed) left.mark_is ∙ same ∙ (λ i. Some (record { opening = record { number = o.opening.number; caller = caller i; place = o.opening.place }; names = length w.commits + length w.contents })),
   )
 
-  is_sweep : (log : List LogEntry) → Follows (number_of present) (seen present) log → IsLegalFrom desk.opened log → s'.mark.closed ≡ (shut s o).mark.closed → IsSweepOf desk n policy (known first) (mark_of next) log w
+  is_sweep : (log : List LogEntry) → Follows (number_of present) (seen present) log → IsLegalFrom desk.opened log → s'.mark.closed ≡ (shut s o).mark.closed → IsSweepOf desk n policy (known first) (mark_of first) (mark_of next) log w
   is_sweep log follows is_legal same = record {
     policy_is = policy_is;
     known = subst (λ (x : ℕ). desk.opened.state.place + known first ≤ x) (sym place) g.known_then;
@@ -181,7 +181,7 @@ module _ {K : Type 0} (desk : DeskId) (policy : Resolved) (moment : ℕ) (first 
     step_now : step_at desk (seen next) w ≡ step_sweep s.book.state (past_of sha256 s.book) w
     step_now = ap (λ (l : List LogEntry). step_at desk l w) log_is ∙ step_is
 
-    sweep_now : s'.mark.closed ≡ (shut s o).mark.closed → IsSweepOf desk n policy (known first) (mark_of next) (seen next) w
+    sweep_now : s'.mark.closed ≡ (shut s o).mark.closed → IsSweepOf desk n policy (known first) (mark_of first) (mark_of next) (seen next) w
     sweep_now same = is_sweep (seen next) (subst (Follows (number_of present) (seen present)) (sym log_is) turn.follows) legal same
 
     no_fault : s'.mark.fault ≡ s.mark.fault → NoFaultIsNew n (mark_of first) (mark_of next)
@@ -209,7 +209,7 @@ module _ {K : Type 0} (desk : DeskId) (policy : Resolved) (moment : ℕ) (first 
   }
 
   abbrev Ruled : Option ℕ → Refusal → Type 0
-  Ruled place why = Follows n (seen first) (seen next) × (IsAt desk (seen next) place × IsRuledOut desk n policy (known first) (mark_of next) (seen next) why)
+  Ruled place why = Follows n (seen first) (seen next) × (IsAt desk (seen next) place × IsRuledOut desk n policy (known first) (mark_of first) (mark_of next) (seen next) why)
 
   limited : (r : Refused) (why : Refusal) → r.why ≡ why → IsRefused called (shut s o) r s' (stored.open_of (shut s o)) → step_sweep s.book.state (past_of sha256 s.book) w ≡ Err r.why → r.place ≡ Some s.book.state.place → Ruled r.place why
   limited r why same h is place =

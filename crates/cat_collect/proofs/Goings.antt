@@ -1,5 +1,6 @@
 -- A collection that goes on: its first turn, and those in which it asks for what is missing.
-use Rattle.std.proofs.Common.{◌≡◌, ◌≤◌, ℕ, ◌+◌, List, [], ◌++◌, length, reverse, Some, Bool, true, false, ◌||◌, ◌&&◌, nat_eq, refl, sym, ap, subst, ◌∙◌, arith}
+use Rattle.std.proofs.Common.{◌≡◌, ◌<◌, ◌≤◌, ◌⊎◌, ℕ, ◌+◌, List, [], ◌++◌, length, min, reverse, Some, Bool, true, false, ◌||◌, ◌&&◌, nat_eq, refl, sym, ap, subst, ◌∙◌, inl, inr, ⊎_elim, arith}
+use Rattle.std.proofs.Math.Nat.{eq-or-lt_of_le, min-le_right}
 use Rattle.std.proofs.lemmas.Bool.{and_parts}
 use Rattle.std.proofs.lemmas.Bool.Decides.{nat_tests}
 use Rattle.std.proofs.lemmas.List.{length-reverse, nil_from_length}
@@ -8,7 +9,7 @@ use Rattle.cat_checks.specs.Histories.{IsLegalFrom}
 use Rattle.cat_core.specs.Noting.{names_of_drafts}
 use Rattle.cat_core.specs.Stored as stored
 use Rattle.cat_core.specs.Stored.{AreKnown, KnowsNames, Stored, log_of}
-use Rattle.cat_core.specs.Sweeps.{Completes, IsDrained, IsSweepOpening, drained_on, kept_by, opened_sweep, sweep_opening, with_sweep}
+use Rattle.cat_core.specs.Sweeps.{Completes, IsDrained, IsSweepOpening, drained_on, kept_by, next_sweep, opened_sweep, sweep_opening, with_sweep}
 use Rattle.cat_core.specs.declared.sweeping.Sweep.{Sweep}
 use Rattle.cat_desk.specs.Log.{Follows}
 use Rattle.cat_desk.specs.LogLaws.{follows_on}
@@ -23,7 +24,7 @@ use Rattle.cat_model.specs.Base.{is_among}
 use Rattle.cat_model.specs.Book.{Book}
 use Rattle.cat_model.specs.Chain.{Commits}
 use Rattle.cat_model.specs.Drafts.{Open, OpenSweep, Opening, nothing_open, open_of}
-use Rattle.cat_model.specs.Mark.{FailedAppend, Grows, Mark}
+use Rattle.cat_model.specs.Mark.{FailedAppend, Grows, Mark, last_sweep}
 use Rattle.cat_model.specs.State.{State}
 use Rattle.cat_model.specs.TurnLaws.{grows_on}
 use Rattle.cat_names.specs.declared.hash.Hash.{Hash}
@@ -31,6 +32,7 @@ use Rattle.cat_work.specs.Answers.{NoFaultIsNew}
 use Rattle.cat_work.specs.Passes.{IsAlone, book_of, state_of}
 use Rattle.cat_work.specs.TurnLaws.{Left, book_found, follows_length, grew_in, left_by_turn, legal_before, place_at}
 use Rattle.cat_work.specs.Turns.{Turned}
+use Rattle.cat_collect.specs.Answers.{IsNewer}
 use Rattle.cat_collect.specs.Turns.{DrainsIn, Going, HasMarked, HasOpen, Holds, LeavesIn, OpensSweep, StoodAlone, is_nothing}
 use Rattle.cat_collect.proofs.Given.{all_marked, given_is}
 use Rattle.cat_collect.proofs.Owned.{IsFound, found_as, found_open, none_found, one_left, one_open}
@@ -81,6 +83,17 @@ later_by opened a b x y place le e f low = omega arith
 pub within_on : (desk : DeskId) (n : ℕ) (a b : List LogEntry) (place : ℕ) → Follows n a b → IsLegalFrom desk.opened b → place ≤ (state_of desk a).place → place ≤ (state_of desk b).place
 within_on desk n a b place follows legal low =
     later_by desk.opened.state.place (length a) (length b) (state_of desk a).place (state_of desk b).place place (follows_length n a b follows) (place_at desk a (legal_before desk n a b follows legal)) (place_at desk b legal) low
+
+-- ---- numbers
+
+newer_by : (a b number : ℕ) → a ≤ b → number ≡ min (b + 1) 18446744073709551615 → (a < number) ⊎ (number ≡ 18446744073709551615)
+newer_by a b number le is =
+    let most : number ≤ 18446744073709551615 = (let right = min-le_right (b + 1) 18446744073709551615 in omega (arith, right, is)) in
+    ⊎_elim (λ (last : number ≡ 18446744073709551615). inr last) (λ (below : number < 18446744073709551615). inl (let above : a < number = omega arith in above)) (eq-or-lt_of_le most)
+
+-- the number that is given next on a mark that grew is newer
+newer_on : (before there : Mark) (number : ℕ) → Grows before there → number ≡ next_sweep there → IsNewer before number
+newer_on before there number grew is = newer_by (last_sweep before) (last_sweep there) number grew.sweep is
 
 -- ---- the first turn
 
@@ -144,6 +157,7 @@ module _ (K : Type 0) (desk : DeskId) (policy : Resolved) (p q : Pass) (sweep : 
     legal = legal;
     caller = caller;
     policy_is = refl;
+    newer = newer_on (mark_of p) s.mark (sweep_opening sweep).number turn.linked.grows (ap (λ (y : Opening). y.number) x.opening);
     known_then = known_at desk.opened.state.place (known p) (length (seen q)) (sweep_opening sweep).place (state_of desk (seen q)).place known_is (place_at desk (seen q) legal) place_seen;
     within = no_more (sweep_opening sweep).place (state_of desk (seen q)).place place_seen;
     faults = λ f is own. turn.linked.own_fault f (sym (ap (λ (m : Mark). m.fault) mark) ∙ is) own;
@@ -214,6 +228,7 @@ module _ {K : Type 0} (desk : DeskId) (policy : Resolved) (first present next : 
         legal = legal;
         caller = ap (λ (o : Opening). o.caller) opening ∙ g.caller;
         policy_is = policy_is ∙ g.policy_is;
+        newer = subst (λ (y : Opening). IsNewer (mark_of first) y.number) (sym opening) g.newer;
         known_then = subst (λ (n : ℕ). desk.opened.state.place + known first ≤ n) (sym place_then) g.known_then;
         within = subst (λ (n : ℕ). n ≤ (state_of desk (seen next)).place) (sym place_then) (within_on desk (number_of present) (seen present) (seen next) g.sweep.opening.place more legal g.within);
         faults = λ x is own. found.no_new x (sym (ap (λ (m : Mark). m.fault) marks) ∙ is) own;

@@ -1,5 +1,5 @@
 -- What a collection on a pass answers.
-use Rattle.std.specs.Prelude.{◌≡◌, ◌≢◌, ◌≤◌, ℕ, ◌+◌, List, [], ◌∷◌, ◌++◌, length, reverse, Option, Some, None, Result, Ok, Err}
+use Rattle.std.specs.Prelude.{◌≡◌, ◌≢◌, ◌<◌, ◌≤◌, ◌⊎◌, ℕ, ◌+◌, List, [], ◌∷◌, ◌++◌, length, reverse, Option, Some, None, Result, Ok, Err}
 use Rattle.sha2.specs.Sha256.{sha256}
 use Rattle.cat_desk.specs.Log.{Follows}
 use Rattle.cat_desk.specs.Pass.{DeskId, all_left_by, known, mark_of, number_of, seen}
@@ -14,7 +14,7 @@ use Rattle.cat_model.specs.declared.reply.Reply.{Reply}
 use Rattle.cat_model.specs.declared.reply.Told.{Told}
 use Rattle.cat_model.specs.declared.sweep.Sweep.{Sweep}
 use Rattle.cat_model.specs.Drafts.{Opening, no_names, nothing_open}
-use Rattle.cat_model.specs.Mark.{FailedAppend, Mark}
+use Rattle.cat_model.specs.Mark.{FailedAppend, Mark, last_sweep}
 use Rattle.cat_model.specs.Past.{course, swept_on}
 use Rattle.cat_model.specs.State.{State}
 use Rattle.cat_model.specs.Sweeps.{step_sweep, sweep_entry}
@@ -34,27 +34,31 @@ past_at desk log = (course sha256 desk.opened.state (reverse log)).past
 abbrev pub step_at : DeskId → List LogEntry → Sweep → Result (State × Reply) Refusal
 step_at desk log sweep = step_sweep (state_of desk log) (past_at desk log) sweep
 
--- the mark tells of it as the sweep that its caller closed last
-abbrev pub IsClosedBy : ℕ → Sweep → Mark → Type 0
-IsClosedBy n sweep after = (number : ℕ) × (after.closed ≡ Some (record { opening = record { number = number; caller = n; place = sweep.opened }; names = length sweep.commits + length sweep.contents }))
+-- the number is above that of each sweep that the mark before tells of, or the greatest that there is
+abbrev pub IsNewer : Mark → ℕ → Type 0
+IsNewer before number = (last_sweep before < number) ⊎ (number ≡ 18446744073709551615)
 
--- it has the policy, was opened at a place that is no less than was known and not behind this log, and was closed
-pub record IsSweepOf (desk : DeskId) (n : ℕ) (policy : Resolved) (k : ℕ) (after : Mark) (log : List LogEntry) (sweep : Sweep) : Type 0 where
+-- the mark after tells of it as the sweep that its caller closed last, which was opened since the mark before
+abbrev pub IsClosedBy : ℕ → Sweep → Mark → Mark → Type 0
+IsClosedBy n sweep before after = (number : ℕ) × IsNewer before number × (after.closed ≡ Some (record { opening = record { number = number; caller = n; place = sweep.opened }; names = length sweep.commits + length sweep.contents }))
+
+-- it has the policy, was opened since the mark before, at a place that is no less than was known and not behind this log, and was closed
+pub record IsSweepOf (desk : DeskId) (n : ℕ) (policy : Resolved) (k : ℕ) (before after : Mark) (log : List LogEntry) (sweep : Sweep) : Type 0 where
   pub policy_is : sweep.policy ≡ policy
   pub known : desk.opened.state.place + k ≤ sweep.opened
   pub within : sweep.opened ≤ (state_of desk log).place
-  pub closed : IsClosedBy n sweep after
+  pub closed : IsClosedBy n sweep before after
 
 -- ---- accepted
 
 -- its entry is the last, and no append has failed
-pub record Collects (desk : DeskId) (n : ℕ) (policy : Resolved) (moment k : ℕ) (after : Mark) (l : List LogEntry) (told : Told) (m : List LogEntry) : Type 0 where
+pub record Collects (desk : DeskId) (n : ℕ) (policy : Resolved) (moment k : ℕ) (before after : Mark) (l : List LogEntry) (told : Told) (m : List LogEntry) : Type 0 where
   pub up : after.fault ≡ None
   pub earlier : List LogEntry
   pub sweep : Sweep
   pub follows : Follows n l earlier
   pub log : m ≡ earlier ++ sweep_entry n (state_of desk m).place moment sweep ∷ []
-  pub sweep_is : IsSweepOf desk n policy k after earlier sweep
+  pub sweep_is : IsSweepOf desk n policy k before after earlier sweep
   pub place : told.place ≡ (state_of desk m).place
   pub reply : step_at desk earlier sweep ≡ Ok (state_of desk m, told.reply)
 
@@ -75,17 +79,17 @@ pub record Falls (desk : DeskId) (n : ℕ) (policy : Resolved) (moment k : ℕ) 
   pub caller_is : fault.caller ≡ n
   pub new : before.fault ≡ Some fault → ⊥
   pub sweep : Sweep
-  pub sweep_is : IsSweepOf desk n policy k after m sweep
+  pub sweep_is : IsSweepOf desk n policy k before after m sweep
   pub next : State
   pub reply : Reply
   pub accepted : step_at desk m sweep ≡ Ok (next, reply)
   pub payload : fault.payload ≡ spelling (sweep_entry n next.place moment sweep)
 
 -- the rules refuse it after that log, and no append has failed
-pub record IsRuledOut (desk : DeskId) (n : ℕ) (policy : Resolved) (k : ℕ) (after : Mark) (m : List LogEntry) (why : Refusal) : Type 0 where
+pub record IsRuledOut (desk : DeskId) (n : ℕ) (policy : Resolved) (k : ℕ) (before after : Mark) (m : List LogEntry) (why : Refusal) : Type 0 where
   pub up : after.fault ≡ None
   pub sweep : Sweep
-  pub sweep_is : IsSweepOf desk n policy k after m sweep
+  pub sweep_is : IsSweepOf desk n policy k before after m sweep
   pub is : step_at desk m sweep ≡ Err why
 
 -- a refusal, by its reason
@@ -94,14 +98,14 @@ Causes desk n policy moment k before after m place refusals.NoMemory = (place �
 Causes desk n policy moment k before after m place (refusals.Down count) = IsAt desk m place × IsDown n count before after
 Causes desk n policy moment k before after m place refusals.Fault = IsAt desk m place × Falls desk n policy moment k before after m
 Causes desk n policy moment k before after m place (refusals.SweepOpen opened) = IsAt desk m place × IsSweepOpen n opened after
-Causes desk n policy moment k before after m place (refusals.Limit which number) = IsAt desk m place × IsRuledOut desk n policy k after m (refusals.Limit which number)
+Causes desk n policy moment k before after m place (refusals.Limit which number) = IsAt desk m place × IsRuledOut desk n policy k before after m (refusals.Limit which number)
 Causes desk n policy moment k before after m place why = ⊥
 
 -- ---- answers
 
 -- what a collection at a moment answers on a pass with number n that had seen l, knew of k entries and held the mark before, and has then seen m and holds the mark after
 abbrev pub Answers : DeskId → ℕ → Resolved → ℕ → ℕ → Mark → Mark → List LogEntry → List LogEntry → Result Told Refused → Type 0
-Answers desk n policy moment k before after l m (Ok told) = Collects desk n policy moment k after l told m
+Answers desk n policy moment k before after l m (Ok told) = Collects desk n policy moment k before after l told m
 Answers desk n policy moment k before after l m (Err refused) = Follows n l m × Causes desk n policy moment k before after m refused.place refused.why
 
 -- ---- a collection

@@ -27,7 +27,7 @@ use Rattle.cat_work.specs.Turns.{Turned}
 use Rattle.cat_collect.specs.declared.rounds.Marking.{Marking}
 use Rattle.cat_collect.specs.declared.rounds.Round.{Round}
 use Rattle.cat_collect.specs.declared.rounds.Round.TheVariants as rounds
-use Rattle.cat_collect.specs.Answers.{Answers}
+use Rattle.cat_collect.specs.Answers.{Answers, IsNewer}
 
 -- ---- one turn
 
@@ -104,6 +104,7 @@ pub record Going (desk : DeskId) (policy : Resolved) (first present : Pass) : Ty
   pub legal : IsLegalFrom desk.opened (seen present)
   pub caller : sweep.opening.caller ≡ number_of first
   pub policy_is : sweep.policy ≡ policy
+  pub newer : IsNewer (mark_of first) sweep.opening.number
   pub known_then : desk.opened.state.place + known first ≤ sweep.opening.place
   pub within : sweep.opening.place ≤ (state_of desk (seen present)).place
   pub faults : NoFaultIsNew (number_of first) (mark_of first) (mark_of present)

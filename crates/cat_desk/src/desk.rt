@@ -375,6 +375,7 @@ impl Pass {
             × (mark_of self.new ≡ mark_of self.old)
             × (turn_of self.new ≡ turn_of self.old)
             × (left_by self.new ≡ left_by self.old) }
+        ensures all_left { all_left_by self.new ≡ all_left_by self.old }
     {
         let badge = mem::replace(&mut self.badge, Badge::blank());
         let mut seat = badge.into_seat::<Option<V>>();

@@ -40,7 +40,7 @@ pub record IsCollected (desk : DeskId) (wants : Result Wanted Refusal) (taken : 
   pub one : taken ≡ moment ∷ []
   pub answer : Told
   pub told_is : told ≡ Ok answer
-  pub collects : Collects desk (number_of p) (resolved moment policy) moment (known p) (mark_of q) (seen p) answer (seen q)
+  pub collects : Collects desk (number_of p) (resolved moment policy) moment (known p) (mark_of p) (mark_of q) (seen p) answer (seen q)
   pub entry_is : sweep_entry (number_of p) (state_of desk (seen q)).place moment collects.sweep ≡ entry
 
 -- the entries that a request made: that of a call or of a collection which was accepted; or none, and what the pass has seen more is of other callers
