@@ -62,7 +62,7 @@ all_alone commits (x ∷ hashes) hash =
 
 -- ---- lists of lists
 
-lists_both : {A B : Type 0} (f : A → List B) (xs ys : List A) → flat_map f (xs ++ ys) ≡ flat_map f xs ++ flat_map f ys
+pub lists_both : {A B : Type 0} (f : A → List B) (xs ys : List A) → flat_map f (xs ++ ys) ≡ flat_map f xs ++ flat_map f ys
 lists_both f [] ys = refl
 lists_both f (x ∷ xs) ys = ap (λ l. f x ++ l) (lists_both f xs ys) ∙ assoc (f x) (flat_map f xs) (flat_map f ys)
   where
@@ -70,7 +70,7 @@ lists_both f (x ∷ xs) ys = ap (λ l. f x ++ l) (lists_both f xs ys) ∙ assoc 
     assoc [] ys zs = refl
     assoc (x ∷ xs) ys zs = ap (λ l. x ∷ l) (assoc xs ys zs)
 
-lists_map : {A B C : Type 0} (f : B → List C) (g : A → B) (xs : List A) → flat_map f (map g xs) ≡ flat_map (λ x. f (g x)) xs
+pub lists_map : {A B C : Type 0} (f : B → List C) (g : A → B) (xs : List A) → flat_map f (map g xs) ≡ flat_map (λ x. f (g x)) xs
 lists_map f g [] = refl
 lists_map f g (x ∷ xs) = ap (λ l. f (g x) ++ l) (lists_map f g xs)
 
@@ -86,7 +86,7 @@ or_four false true true d = refl
 or_four false true false d = refl
 or_four false false c d = refl
 
-or_assoc : (a b c : Bool) → ((a || b) || c) ≡ (a || (b || c))
+pub or_assoc : (a b c : Bool) → ((a || b) || c) ≡ (a || (b || c))
 or_assoc true b c = refl
 or_assoc false b c = refl
 
@@ -99,7 +99,7 @@ names_both commits a b hash =
     ∙ (λ i. sym (among_both (flat_map (visible commits) a.commits) a.contents hash) i || sym (among_both (flat_map (visible commits) b.commits) b.contents hash) i)
 
 -- what roots keep: what is live from heads, and what names keep
-roots_both : (commits : Commits) (heads : List (Hash × Cutoff)) (names : Names) (hash : Hash) → is_among (live_of commits (record { heads = heads ++ map alone names.commits; hashes = names.contents })) hash
+pub roots_both : (commits : Commits) (heads : List (Hash × Cutoff)) (names : Names) (hash : Hash) → is_among (live_of commits (record { heads = heads ++ map alone names.commits; hashes = names.contents })) hash
     ≡ (is_among (flat_map (λ head. live_from commits head.1 head.0) heads) hash || is_among (kept_by_names commits names) hash)
 roots_both commits heads names hash =
     among_both (flat_map (λ head. live_from commits head.1 head.0) (heads ++ map alone names.commits)) names.contents hash

@@ -76,7 +76,7 @@ first_completes book left_open opening policy is =
     subst (λ (n : ℕ). Completes book.state.commits [] (first_roots policy book.state.references (names_of_drafts left_open)) (kept_by book (opened_sweep book left_open (record opening { place = n }) policy))) (sym is)
     (completes_first book.state (past_of sha256 book) policy (names_of_drafts left_open))
 
-all_taken : {A : Type 0} (xs : List A) (n : ℕ) → n ≡ length xs → take n xs ≡ xs
+pub all_taken : {A : Type 0} (xs : List A) (n : ℕ) → n ≡ length xs → take n xs ≡ xs
 all_taken {A} xs n is = ap (λ (n : ℕ). take n xs) is ∙ all xs
   where
     all : (xs : List A) → take (length xs) xs ≡ xs

@@ -5,6 +5,7 @@ pub mod Spared
 pub mod Left
 pub mod Since
 pub mod Completing
+pub mod Taking
 pub mod Collecting
 pub mod UnderWay
 pub mod Shutting
@@ -35,5 +36,4 @@ pub mod Following
 pub mod Led
 pub mod Reopened
 pub mod Swept
-pub mod Marked
 pub mod Removing

@@ -129,15 +129,3 @@ spared_heads state past s hashes are =
     heads_spared state.commits s.policy hashes state.references (λ hash e.
     stays (is_some (value_of state.present hash)) (is_among (saved (since s.opened state past) state.commits s.policy (names_in s)) hash) (is_among hashes hash) (are hash)
     (live_saved state past s hash (any_of_lists (λ r. live_from state.commits (cutoff_for s.policy r.name) r.head) state.references hash ∙ e)))
-
--- ---- a commit that is named
-
-one_by : (commits : Commits) (hash : Hash) (some : Commits) → ((x : Hash × Commit) (rest : Commits) → some ≡ x ∷ rest → x.0 ≡ hash) → (some ≡ [] → visible commits hash ≡ [])
-    → flat_map (λ x. visible commits x.0) (kept (cutoffs.Commits 1) some) ≡ visible commits hash
-one_by commits hash [] first none = sym (none refl)
-one_by commits hash (x ∷ rest) first none = append-nil (visible commits x.0) ∙ ap (visible commits) (first x rest refl)
-
--- of its chain it is kept alone
-pub one_commit : (commits : Commits) (hash : Hash) → live_from commits (cutoffs.Commits 1) hash ≡ visible commits hash
-unfolding live_from entries
-one_commit commits hash = one_by commits hash (chain commits hash) (chain_first commits hash) (λ e. ap (λ (l : Commits). map (λ (x : Key × Entry). x.1.hash) (map_of l)) e)

@@ -88,9 +88,18 @@ abbrev pub if_head : Option (Hash × Cutoff) → List (Hash × Cutoff)
 if_head None = []
 if_head (Some head) = head ∷ []
 
+-- the head of a reference that was taken, with its cutoff
+abbrev pub head_taken : Resolved → Option Reference → Option (Hash × Cutoff)
+head_taken policy None = None
+head_taken policy (Some r) = Some (head_at policy r)
+
 -- those of what is live from references, and of what names keep
 abbrev pub first_roots : Resolved → List Reference → Names → Roots
 first_roots policy references names = record { heads = map (head_at policy) references ++ map alone names.commits; hashes = names.contents }
+
+-- those of what is live from references, from those that entries took, and of what names keep
+abbrev pub roots_taken : Resolved → List Reference → List (Option Reference) → Names → Roots
+roots_taken policy references taken names = record { heads = (map (head_at policy) references ++ flat_map (λ t. if_head (head_taken policy t)) taken) ++ map alone names.commits; hashes = names.contents }
 
 -- those of what entries made live, and of what names keep
 abbrev pub roots_since : Resolved → List LogEntry → Names → Roots

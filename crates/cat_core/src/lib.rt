@@ -11,6 +11,7 @@
 #![tactic(auto)]
 
 mod closing;
+mod counting;
 mod draft;
 mod drafting;
 mod ledger;

@@ -2,22 +2,19 @@
 
 ghost use Rattle.std.specs.Prelude.{◌≡◌, ◌++◌, IfOk, OnOk, map};
 ghost use Rattle.std.specs.List.{flat_map};
-ghost use Rattle.cat_mark.specs.Marks.{AddsAll, live_of};
-ghost use Rattle.cat_model.specs.Cutoffs.{live_from};
 ghost use Rattle.cat_core.specs.Noting.{names_of_drafts};
 ghost use Rattle.cat_core.specs.Stored.{draft_held};
-ghost use Rattle.cat_core.specs.Sweeps.{alone, first_roots, head_at, head_made, if_head, roots_since};
+ghost use Rattle.cat_core.specs.Sweeps.{alone, first_roots, head_at, head_made, head_taken, if_head, roots_since, roots_taken};
 
-use crate::marking::{mark_contents, mark_head};
 use crate::replay::name_in;
 use crate::tickets::OpenDraft;
 use cat_codes::fault::NoMemory;
 use cat_codes::seq::Seq;
-use cat_mark::{Marks, Roots};
+use cat_mark::Roots;
 use cat_model::cutoff::{Cutoff, Resolved};
 use cat_model::log_entry::{Action, LogEntry};
+use cat_model::reference::Reference;
 use cat_names::hash::Hash;
-use cat_state::catalogue::Catalogue;
 use cat_tables::references::References;
 use std::alloc::Global;
 
@@ -54,6 +51,16 @@ fn head_made(policy: &Resolved, entry: &LogEntry) -> Option<(Hash, Cutoff)>
             Some((head, *policy.cutoff_for(name_in(command))))
         }
         _ => None,
+    }
+}
+
+/// The head of a reference that was taken, if there is one, with its cutoff.
+fn head_taken(policy: &Resolved, taken: &Option<Reference>) -> Option<(Hash, Cutoff)>
+    ensures { result ≡ head_taken policy.now taken.now }
+{
+    match taken {
+        None => None,
+        Some(reference) => Some((reference.head, *policy.cutoff_for(&reference.name))),
     }
 }
 
@@ -160,31 +167,39 @@ pub(crate) fn roots_since(
     roots_of(alloc, heads, contents)
 }
 
-/// Marks what is live from heads.
-fn mark_heads(
-    marks: &mut Marks,
-    catalogue: &Catalogue,
-    heads: &[(Hash, Cutoff)],
+/// Adds the heads of references that were taken, each with its cutoff.
+fn add_taken(
+    heads: &mut Vec<(Hash, Cutoff)>,
+    policy: &Resolved,
+    taken: &[Option<Reference>],
 ) -> Result<(), NoMemory>
     ensures { OnOk result
-        (AddsAll marks.old marks.new
-        (flat_map (λ head. live_from catalogue.now.commits head.1 head.0) heads.now)) }
+        (heads.new.items ≡ heads.old.items ++ flat_map (λ t. if_head (head_taken policy.now t)) taken.now) }
 {
-    for (head, cutoff) in heads {
-        mark_head(marks, catalogue, head, cutoff)?;
+    for reference in taken {
+        add_head(heads, head_taken(policy, reference))?;
     }
     Ok(())
 }
 
-/// Marks what roots keep.
-pub(crate) fn mark_roots(
-    marks: &mut Marks,
-    catalogue: &Catalogue,
-    roots: &Roots,
-) -> Result<(), NoMemory>
-    ensures { OnOk result
-        (AddsAll marks.old marks.new (live_of catalogue.now.commits roots.now)) }
+/// The roots of what is live from references, from those that were taken, and of what these names
+/// keep.
+pub(crate) fn roots_taken(
+    alloc: Global,
+    policy: &Resolved,
+    references: &References,
+    taken: &[Option<Reference>],
+    commits: &[Hash],
+    contents: &[Hash],
+) -> Result<Roots, NoMemory>
+    ensures { IfOk result
+        (λ roots. roots
+        ≡ roots_taken policy.now references.now taken.now
+        (record { commits = commits.now; contents = contents.now })) }
 {
-    mark_heads(marks, catalogue, roots.heads.as_slice())?;
-    mark_contents(marks, roots.hashes.as_slice())
+    let mut heads = Vec::new(alloc);
+    add_references(&mut heads, policy, references)?;
+    add_taken(&mut heads, policy, taken)?;
+    add_commits(&mut heads, commits)?;
+    roots_of(alloc, heads, contents)
 }

@@ -4,3 +4,4 @@ pub mod Live
 pub mod Rows
 pub mod Unmarked
 pub mod Shares
+pub mod Before

@@ -21,16 +21,9 @@ use Rattle.cat_graph.specs.Linked.{AreLinked}
 use Rattle.cat_graph.proofs.Walks.{chain_step, chain_end}
 use Rattle.cat_keymap.specs.MapsAt.{map_at}
 use Rattle.cat_mark.specs.Marks.{at_keys, found_map, hashes, if_kept}
+use Rattle.cat_mark.specs.Walked.{shown_at, live_on}
 use Rattle.cat_mark.proofs.Marking.{IsParted, both}
 use Rattle.cat_mark.proofs.Visible.{shown_at_keys}
-
--- what is visible at commits
-abbrev pub shown_at : Commits → Commits → List Hash
-shown_at commits some = flat_map (λ x. visible commits x.0) some
-
--- what is visible at the commits that are kept of a chain, by indices from this one on
-abbrev pub live_on : Commits → Cutoff → ℕ → Hash → List Hash
-live_on commits cutoff index at = shown_at commits (kept_from cutoff index (chain commits at))
 
 visible_is : (commits : Commits) (hash : Hash) → visible commits hash ≡ hashes (entries commits hash)
 visible_is commits hash = sym (flat_map_single (λ (x : Key × Entry). x.1.hash) (entries commits hash))
@@ -41,11 +34,11 @@ are_maps : (commits : Commits) → IsMap (map_of commits)
 are_maps [] = refl
 are_maps (x ∷ older) = IsMap-after_changes x.1.ops (map_of older) (are_maps older)
 
-entries_step : (commits : Commits) (at : Hash) (c : Commit) → AreLinked commits → commit_of commits at ≡ Some c → entries commits at ≡ after_changes c.ops (entries commits c.parent)
+pub entries_step : (commits : Commits) (at : Hash) (c : Commit) → AreLinked commits → commit_of commits at ≡ Some c → entries commits at ≡ after_changes c.ops (entries commits c.parent)
 unfolding entries
 entries_step commits at c are e = ap map_of (chain_step commits at c are e)
 
-are_entries : (commits : Commits) (hash : Hash) → IsMap (entries commits hash)
+pub are_entries : (commits : Commits) (hash : Hash) → IsMap (entries commits hash)
 unfolding entries
 are_entries commits hash = are_maps (chain commits hash)
 
@@ -105,7 +98,7 @@ unfolding live_from
 live_none commits cutoff head e = ap (λ (l : Commits). shown_at commits (kept cutoff l)) (chain_end commits head e)
 
 -- a kept commit shows its map, and then what is live from its parent on
-kept_shows : (commits : Commits) (cutoff : Cutoff) (index : ℕ) (at : Hash) (c : Commit) → AreLinked commits → commit_of commits at ≡ Some c → keeps cutoff index c.time ≡ true
+pub kept_shows : (commits : Commits) (cutoff : Cutoff) (index : ℕ) (at : Hash) (c : Commit) → AreLinked commits → commit_of commits at ≡ Some c → keeps cutoff index c.time ≡ true
     → live_on commits cutoff index at ≡ hashes (entries commits at) ++ live_on commits cutoff (index + 1) c.parent
 kept_shows commits cutoff index at c are e keep =
     ap (λ (l : Commits). shown_at commits l) (kept_on commits cutoff index at c are e keep)

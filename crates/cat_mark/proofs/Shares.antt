@@ -26,7 +26,7 @@ turned a b = either_way (same_hash a b) (same_hash b a)
     (λ e. subst (λ (h : Hash). same_hash h a ≡ true) (same_is a b e) (same_self a))
     (λ e. subst (λ (h : Hash). same_hash h b ≡ true) (same_is b a e) (same_self b))
 
-among_marked : (set : List Hash) (x : Hash) → is_among set x ≡ is_marked set x
+pub among_marked : (set : List Hash) (x : Hash) → is_among set x ≡ is_marked set x
 among_marked [] x = refl
 among_marked (h ∷ hs) x = ap (λ b. b || is_among hs x) (turned h x) ∙ ap (λ b. same_hash x h || b) (among_marked hs x)
 

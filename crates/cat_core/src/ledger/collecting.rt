@@ -15,7 +15,7 @@ ghost use Rattle.cat_core.specs.Sweeps.{AreAllMarked, AreUnmarked, sweep_in, swe
 
 use crate::closing::Closing;
 use crate::ledger::Ledger;
-use crate::rooting::mark_roots;
+use crate::marking::mark_roots;
 use cat_codes::fault::NoMemory;
 use cat_keeper::Keeper;
 use cat_mark::{Marks, Roots};
@@ -71,7 +71,7 @@ impl Ledger {
             (λ hashes. AreUnmarked self.now.state marks roots.now hashes.items) }
     {
         let mut marks = marks;
-        mark_roots(&mut marks, self.catalogue(), roots)?;
+        mark_roots(&mut marks, alloc, self.catalogue(), roots)?;
         marks.unmarked(alloc, self.catalogue().contents())
     }
 
