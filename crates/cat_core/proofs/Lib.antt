@@ -37,3 +37,6 @@ pub mod Led
 pub mod Reopened
 pub mod Swept
 pub mod Removing
+pub mod Grown
+pub mod Lasting
+pub mod Gone

@@ -106,7 +106,7 @@ all_kept p cutoff (head ∷ rest) are = let both = and_true (p head) (list_all p
 
 -- ---- what is live from a known head
 
-same_lists : {A B : Type 0} (p : A → Bool) (f g : A → List B) (xs : List A) → ((x : A) → p x ≡ true → f x ≡ g x) → list_all p xs ≡ true → flat_map f xs ≡ flat_map g xs
+pub same_lists : {A B : Type 0} (p : A → Bool) (f g : A → List B) (xs : List A) → ((x : A) → p x ≡ true → f x ≡ g x) → list_all p xs ≡ true → flat_map f xs ≡ flat_map g xs
 same_lists p f g [] same all = refl
 same_lists p f g (x ∷ xs) same all =
     let both = and_true (p x) (list_all p xs) all in

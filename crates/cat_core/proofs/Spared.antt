@@ -46,7 +46,7 @@ all_there (x ∷ older) =
     both_true _ _ (first_there (same_hash x.0 x.0) x.1 (value_of older x.0) (same_self x.0))
     (weaker (λ y. is_some (value_of older y.0)) (λ y. is_some (value_of (x ∷ older) y.0)) older (λ y e. there_by (same_hash x.0 y.0) x.1 (value_of older y.0) e) (all_there older))
 
-same_kept : {A : Type 0} (p f g : A → Bool) (xs : List A) → ((x : A) → p x ≡ true → f x ≡ g x) → list_all p xs ≡ true → filter f xs ≡ filter g xs
+pub same_kept : {A : Type 0} (p f g : A → Bool) (xs : List A) → ((x : A) → p x ≡ true → f x ≡ g x) → list_all p xs ≡ true → filter f xs ≡ filter g xs
 same_kept p f g [] same all = refl
 same_kept p f g (x ∷ xs) same all = by (p x) refl (same_kept p f g xs same) all
   where

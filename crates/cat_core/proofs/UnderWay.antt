@@ -132,7 +132,7 @@ headed_next place after before past next low here rest =
     let n : after.place - place ≡ suc (before.place - place) = omega (arith, next, low) in
     rw n (both_true _ _ here rest)
 
-past_is : (book : Book) (e : LogEntry) (after : State) (draft : ℕ) → (course sha256 book.base book.log).state ≡ book.state → past_of sha256 (record book { state = after; draft = draft; log = e ∷ book.log }) ≡ book.state ∷ past_of sha256 book
+pub past_is : (book : Book) (e : LogEntry) (after : State) (draft : ℕ) → (course sha256 book.base book.log).state ≡ book.state → past_of sha256 (record book { state = after; draft = draft; log = e ∷ book.log }) ≡ book.state ∷ past_of sha256 book
 unfolding past_of
 past_is book e after draft ends = ap (λ (state : State). state ∷ past_of sha256 book) ends
 

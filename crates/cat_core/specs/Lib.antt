@@ -14,3 +14,5 @@ pub mod Opening
 pub mod Whole
 pub mod Sweeping
 pub mod Sweeps
+pub mod Lasting
+pub mod Gone

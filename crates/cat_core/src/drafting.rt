@@ -5,6 +5,7 @@ ghost use Rattle.sha2.specs.Sha256.{sha256};
 ghost use Rattle.cat_decisions.specs.Builds.{HasHead, IsBuilt, IsGivenBy, command_of};
 ghost use Rattle.cat_checks.specs.Histories.{IsLegalFrom};
 ghost use Rattle.cat_core.specs.Drafts.{IsGivenBack, IsOpen, IsOpening, NotOpened, Settles, called_in, closed, command_in, dropping, holding, is_expired, may_open, open_draft_of};
+ghost use Rattle.cat_core.specs.Gone.{TellsGone};
 ghost use Rattle.cat_core.specs.Kept.{IsSettled, IsTold, KeepsSettled};
 ghost use Rattle.cat_core.specs.Stored.{IsFree, IsUp, snap};
 ghost use Rattle.cat_state.specs.Kept.{Leaves};
@@ -70,6 +71,7 @@ impl<K: Keeper> Store<K> {
     /// keep too that is open.
     fn hold(&mut self, alloc: Global, ticket: Ticket, call: &Call<'_>) -> Result<(), NoMemory>
         requires next { ticket.number ≡ self.old.book.draft + 1 }
+        requires place { ticket.place ≡ self.old.book.state.place }
         requires given { IsGivenBy ticket.number call.now }
         requires opened { opening sha256 self.old.book.state (command_of call.now) ≡ Ok tt }
         ensures held { OnOk result (self.new ≡ holding self.old ticket (command_of call.now)) }
@@ -196,6 +198,7 @@ impl<K: Keeper> Store<K> {
             call,
             built,
         );
+        self.ledger.catalogue().commits_are_linked();
         tell(&self.keeper, &mut self.fallen, caller, place, made)
     }
 
@@ -264,7 +267,8 @@ impl<K: Keeper> Store<K> {
 
     /// Settles a draft by what was built for it, unless the branch has another head than the one that
     /// was built on. `Done` acknowledges the entry of an accepted call; a `Fault` may have kept it or
-    /// not, and each later call is refused as `Down` at the count of faults then.
+    /// not, and each later call is refused as `Down` at the count of faults then. `Expired` names only
+    /// keys whose content was there at no moment since the draft's opening.
     pub fn settle<'a>(
         &mut self,
         alloc: Global,
@@ -278,6 +282,7 @@ impl<K: Keeper> Store<K> {
             (drafts_of draft.caller self.old.left_open.drafts) }
         requires built { (v : State) × IsLater v self.old.book.state × IsBuilt v draft.call built }
         ensures settles { Settles self.old draft.entry built moment result self.new }
+        ensures gone { TellsGone self.old draft.entry built.head result }
         ensures acts { Acts IsLegalFrom draft.entry.caller (snap self.old) (snap self.new) }
         ensures keeps { IsUp self.old
             → KeepsSettled K.Keeper self.old.keeper self.new.keeper

@@ -41,6 +41,7 @@ impl<K: Keeper> Store<K> {
         let made = self
             .ledger
             .refer(alloc, &mut self.keeper, caller, moment, command);
+        self.ledger.catalogue().commits_are_linked();
         tell(&self.keeper, &mut self.fallen, caller, place, made)
     }
 

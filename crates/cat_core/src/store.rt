@@ -14,6 +14,7 @@ ghost use Rattle.cat_model.specs.Namespaces.{is_well_formed};
 ghost use Rattle.cat_io.specs.Causes.{Rose};
 ghost use Rattle.cat_state.specs.Counting.{main_head};
 ghost use Rattle.cat_state.specs.Kept.{Stayed, spellings};
+ghost use Rattle.cat_core.specs.Lasting.{AreLasting, IsHolding};
 ghost use Rattle.cat_core.specs.Opening.{IsIllegalAt, IsLedTo};
 ghost use Rattle.cat_graph.specs.Linked.{AreLinked};
 ghost use Rattle.cat_core.specs.Stored.{IsMarked, IsSound, KnowsNames, MayBeDown, is_headed, log_of, opened_of};
@@ -56,7 +57,9 @@ pub struct Store<K: Keeper> {
 
 impl<K: Keeper> Model for Store<K> {
     ghost use Rattle.std.specs.Prelude.{map};
-    ghost use Rattle.cat_core.specs.Stored.{IsInStep, IsSound, IsSwept, Stored, draft_held, failed, held_mark, held_open};
+    ghost use Rattle.std.specs.Option.{option_map};
+    ghost use Rattle.cat_core.specs.Lasting.{IsHolding};
+    ghost use Rattle.cat_core.specs.Stored.{IsInStep, IsSound, IsSwept, Stored, draft_held, failed, held_mark, held_open, sweep_held};
 
     ghost Value = { Stored K };
 
@@ -71,7 +74,8 @@ impl<K: Keeper> Model for Store<K> {
 
     ghost invariant = { λ s. IsInStep K.Keeper s.ledger s.keeper s.fallen s.began
         × IsSound s.ledger s.began (map draft_held s.drafts.items)
-        × IsSwept s.ledger (map draft_held s.drafts.items) s.sweep s.closed };
+        × IsSwept s.ledger (map draft_held s.drafts.items) s.sweep s.closed
+        × IsHolding s.ledger (map draft_held s.drafts.items) (option_map sweep_held s.sweep) };
 }
 
 impl<K: Keeper> Logged for Store<K> {
@@ -244,8 +248,18 @@ impl<K: Keeper> Store<K> {
         ensures draft { self.now.mark.draft ≡ self.now.book.draft }
         ensures sweep { IsMarked self.now.mark self.now.left_open.sweep }
         ensures closes { MayBeClosed self.now.book self.now.left_open.sweep }
+        ensures holding { IsHolding self.now.book self.now.left_open.drafts
+            self.now.left_open.sweep }
     {
         let _ = &self.fallen;
+    }
+
+    /// What holds of the drafts that are open: a content that one of them names, or that is visible at
+    /// a commit that it names, and that was there at some moment since its opening, is there.
+    pub fn keeps_what_drafts_name(&self)
+        ensures { AreLasting self.now.book self.now.left_open.drafts }
+    {
+        self.is_sound();
     }
 
     /// What holds of the open sweep: the mark tells of it, and the commits that drafts gave it are

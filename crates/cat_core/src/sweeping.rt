@@ -7,9 +7,11 @@ ghost use Rattle.cat_checks.specs.Legal.{may_be_swept};
 ghost use Rattle.cat_frames.specs.Sweeps.{resolved_is_logged, sweep_is_logged};
 ghost use Rattle.cat_model.specs.Drafts.{OpenSweep as OpenSweepValue};
 ghost use Rattle.cat_model.specs.Mark.{closed_number};
+ghost use Rattle.cat_model.specs.Sweeps.{names_in};
 ghost use Rattle.cat_model.specs.Turns.{Acts};
 ghost use Rattle.cat_state.specs.Kept.{Leaves};
 ghost use Rattle.cat_core.specs.Kept.{IsTold, KeepsTold};
+ghost use Rattle.cat_core.specs.Lasting.{HasAllNames};
 ghost use Rattle.cat_core.specs.Stored.{IsUp, snap};
 ghost use Rattle.cat_core.specs.Sweeps.{AreAllMarked, AreGiven, Closes, Completes, Drops, IsDrained, IsOpened, IsSettledSweep, IsSweepOpening, IsSweeping, NotSwept, Sweeps, called_sweep, drained_on, given_by, kept_by, next_sweep, sweep_in, sweep_on};
 
@@ -228,6 +230,7 @@ impl<K: Keeper> Store<K> {
         requires up { IsUp self.old }
         requires may { IsTrue (may_be_swept sha256 self.old.book (sweep_in closing)) }
         requires logged { IsTrue (sweep_is_logged (sweep_in closing)) }
+        requires told { HasAllNames (names_in (sweep_in closing)) self.old.left_open.drafts }
         requires marked { AreAllMarked self.old.book (sweep_in closing) marks roots.now }
         ensures { IsTold K.Keeper closing.ticket.caller self.old self.new
             (sweep_on closing.ticket.caller self.old.book moment (sweep_in closing)) result }
@@ -238,6 +241,7 @@ impl<K: Keeper> Store<K> {
         let made = self
             .ledger
             .collect(alloc, &mut self.keeper, moment, closing, marks, roots);
+        self.ledger.catalogue().commits_are_linked();
         tell(&self.keeper, &mut self.fallen, caller, place, made)
     }
 

@@ -2,6 +2,7 @@ use Rattle.std.proofs.Common.{refl, rules, ◌∙◌}
 use Rattle.cat_core.specs.declared.tickets.OpenSweep.{OpenSweep}
 use Rattle.cat_core.proofs.Giving.{begun_is}
 use Rattle.cat_core.proofs.Held.{at_least}
+use Rattle.cat_core.proofs.Lasting.{holding_begun}
 use Rattle.cat_core.proofs.UnderWay.{last_inside, place_log, swept_begun}
 use Rattle.cat_core.proofs.store.Store.begin.Goals as goal
 
@@ -13,6 +14,9 @@ invariant_of-self g c = (
       (record { ticket = record { number = c.next_sweep.result; caller = c.args.caller; place = c.place.result }; policy = c.args.policy; commits = c.in_ok-commits.commits; contents = c.in_ok-contents.contents; drained = c.place.result; given_commits = c.len.result; given_contents = c.len-2.result })
       c.self.inside.sweep c.self.inside.closed c.self.invariant.2 c.self.invariant.1 c.place.ensures refl (search rules) (record { commits = at_least _ _ (search rules); contents = at_least _ _ (search rules) })
       c.requires.few c.requires.logged (last_inside _ _ c.self.view_is c.self.inside.closed c.next_sweep.result refl c.next_sweep.ensures.last),
+  holding_begun c.self.inside.ledger _ _
+      (record { ticket = record { number = c.next_sweep.result; caller = c.args.caller; place = c.place.result }; policy = c.args.policy; commits = c.in_ok-commits.commits; contents = c.in_ok-contents.contents; drained = c.place.result; given_commits = c.len.result; given_contents = c.len-2.result })
+      c.self.invariant.3 (search rules) (search rules),
 )
 
 pub returns-clause-opened : goal.returns-clause-opened

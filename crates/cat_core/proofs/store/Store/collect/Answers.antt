@@ -1,5 +1,8 @@
-use Rattle.std.proofs.Common.{arith, refl}
+use Rattle.std.proofs.Common.{arith, refl, subst}
+use Rattle.cat_graph.specs.Linked.{AreLinked}
+use Rattle.cat_model.specs.State.{State}
 use Rattle.cat_core.specs.Sweeps.{sweep_in, sweep_on}
+use Rattle.cat_core.proofs.Lasting.{holding_made, sweep_on_spares, told_inside}
 use Rattle.cat_core.proofs.Making.{all_told, down_none, up_inside}
 use Rattle.cat_core.proofs.Removing.{sweep_brings, sweep_right}
 use Rattle.cat_core.proofs.Standing.{stands}
@@ -29,8 +32,14 @@ invariant_of-self g c =
     (none_of_none c.self.inside.ledger.draft c.self.inside.ledger.log _ c.self.invariant.1.waiting)
     (up_inside g.K.Keeper.down g.K.Keeper.in_flight laws.flies laws.waits c.self.inside.keeper c.self.inside.fallen c.self.invariant.0.fallen _ _ c.self.view_is refl c.requires.up)
     c.tell.ensures.fallen c.collect-made.ensures.kept c.collect-made.ensures.call c.collect-made.ensures.keeps (c.self.invariant.0, c.self.invariant.1)
-    in
-    (both.0, both.1, swept_made caller 0 c.self.inside.ledger c.self.inside.began _ c.self.inside.sweep c.self.inside.closed c.self.invariant.1 (headed_inside _ _ c.self.view_is c.knows_heads.ensures.heads) c.self.invariant.2 c.collect-made.new.self _ c.collect-made.result brings c.collect-made.ensures.call)
+    in (
+      both.0,
+      both.1,
+      swept_made caller 0 c.self.inside.ledger c.self.inside.began _ c.self.inside.sweep c.self.inside.closed c.self.invariant.1 (headed_inside _ _ c.self.view_is c.knows_heads.ensures.heads) c.self.invariant.2 c.collect-made.new.self _ c.collect-made.result brings c.collect-made.ensures.call,
+      holding_made caller 0 c.self.inside.ledger c.self.inside.began _ _ c.self.invariant.1 c.self.invariant.2.named c.self.invariant.3 c.collect-made.new.self _ c.collect-made.result brings
+          (sweep_on_spares caller c.self.inside.ledger c.args.moment (sweep_in c.args.closing) _ (told_inside _ _ c.self.view_is (sweep_in c.args.closing) c.requires.told))
+          (subst (λ (s : State). AreLinked s.commits) c.catalogue.ensures c.commits_are_linked.ensures) c.collect-made.ensures.call,
+    )
 
 pub returns : goal.returns
 returns g c =

@@ -1,8 +1,11 @@
 use Rattle.std.proofs.Common.{Option, map, refl, rules, subst, ◌∙◌}
+use Rattle.std.specs.Option.{option_map}
 use Rattle.cat_core.specs.declared.tickets.OpenSweep.{OpenSweep}
-use Rattle.cat_core.specs.Stored.{IsSwept, draft_held}
+use Rattle.cat_core.specs.Lasting.{IsHolding}
+use Rattle.cat_core.specs.Stored.{IsSwept, draft_held, sweep_held}
 use Rattle.cat_core.proofs.Giving.{given_is, none_seen}
 use Rattle.cat_core.proofs.Held.{at_least}
+use Rattle.cat_core.proofs.Lasting.{holding_given}
 use Rattle.cat_core.proofs.UnderWay.{place_log, swept_given}
 use Rattle.cat_core.proofs.store.Store.give.Goals.{in-Some, in_default}
 use Rattle.cat_core.proofs.store.Store.give.Goals as goal
@@ -17,6 +20,8 @@ invariant_of-self g c =
             c.self.invariant.1,
             swept_given c.self.inside.ledger c.self.inside.began _ w.in-Some.open (record (w.in-Some.open) { drained = c.place-place.result; given_commits = w.len-open.result; given_contents = w.len-open-in-Some.result })
                 c.self.inside.closed was c.self.invariant.1 refl refl refl c.place-place.ensures (record { commits = at_least _ _ (search rules); contents = at_least _ _ (search rules) }),
+            holding_given c.self.inside.ledger _ (sweep_held w.in-Some.open) (sweep_held (record (w.in-Some.open) { drained = c.place-place.result; given_commits = w.len-open.result; given_contents = w.len-open-in-Some.result }))
+                (subst (λ (h : Option OpenSweep). IsHolding c.self.inside.ledger (map draft_held c.self.inside.drafts.items) (option_map sweep_held h)) w.in-Some.is c.self.invariant.3) refl,
           )
       | in_default w ↦ rw w.self-inside-is c.self.invariant
     ]

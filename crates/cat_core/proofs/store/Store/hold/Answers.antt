@@ -1,9 +1,11 @@
-use Rattle.std.proofs.Common.{◌≡◌, refl, rules, sym, ap, subst}
+use Rattle.std.proofs.Common.{◌≡◌, refl, rules, sym, ap, subst, ◌∙◌}
 use Rattle.cat_decisions.specs.Builds.{command_of}
 use Rattle.cat_model.specs.Book.{Book}
 use Rattle.cat_model.specs.Drafts.{Names}
+use Rattle.cat_model.specs.State.{State}
 use Rattle.cat_core.specs.Stored.{AreKnown}
-use Rattle.cat_core.proofs.Held.{held_for, holds, sound_held, step_held}
+use Rattle.cat_core.proofs.Held.{held_for, holds, sound_held, state_seen, step_held}
+use Rattle.cat_core.proofs.Lasting.{holding_held, noted_as}
 use Rattle.cat_core.proofs.UnderWay.{headed_inside, linked_inside, names_known, opened_inside, swept_held, swept_noted}
 use Rattle.cat_core.proofs.store.Store.hold.Goals as goal
 
@@ -19,4 +21,8 @@ invariant_of-self-2 g c =
           (swept_noted c.self.inside.ledger _ _ c.self.inside.sweep c.note.new.sweep c.self.inside.closed c.note.result c.self.invariant.2
           (subst (AreKnown c.self.inside.ledger.state) (sym c.as_slice.ensures.value) (subst (λ (n : Names). AreKnown c.self.inside.ledger.state n.commits) (sym names) known)) c.note.ensures.ok c.note.ensures.err c.note.ensures.fronts)
           (ap (λ (b : Book). b.state) c.take.ensures) (ap (λ (b : Book). b.log) c.take.ensures) (ap (λ (b : Book). b.base) c.take.ensures) held known,
+      holding_held c.self.inside.ledger c.take.new.self _ _ (held_for c.args.ticket command) _ _ c.self.invariant.3
+          (ap (λ (b : Book). b.state) c.take.ensures) (ap (λ (b : Book). b.log) c.take.ensures) (ap (λ (b : Book). b.base) c.take.ensures) held
+          (c.requires.place ∙ sym (ap (λ (s : State). s.place) (state_seen _ _ c.self.view_is)))
+          (noted_as c.note.new.sweep c.self.inside.sweep _ _ _ _ _ c.in_ok-note.ensures.ok c.as_slice.ensures.value c.as_slice-2.ensures.value names),
     )

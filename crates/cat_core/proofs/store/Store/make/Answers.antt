@@ -1,11 +1,15 @@
-use Rattle.std.proofs.Common.{refl}
+use Rattle.std.proofs.Common.{refl, subst}
 use Rattle.sha2.specs.Sha256.{sha256}
 use Rattle.cat_decisions.specs.Builds.{command_of}
 use Rattle.cat_model.specs.Book.{attempt_on}
+use Rattle.cat_graph.specs.Linked.{AreLinked}
 use Rattle.cat_model.specs.Calls.{in_draft}
+use Rattle.cat_model.specs.State.{State}
 use Rattle.cat_core.specs.LoggedLaws.{call_opens}
+use Rattle.cat_core.proofs.Grown.{attempt_keeps}
 use Rattle.cat_core.proofs.Held.{free_inside}
 use Rattle.cat_core.proofs.InStep.{right_attempt}
+use Rattle.cat_core.proofs.Lasting.{holding_made, keeps_all}
 use Rattle.cat_core.proofs.Making.{all_told, down_none, up_inside}
 use Rattle.cat_core.proofs.Sound.{made_brings}
 use Rattle.cat_core.proofs.Standing.{stands}
@@ -30,8 +34,14 @@ invariant_of-self g c =
     free.below free.none
     (up_inside g.K.Keeper.down g.K.Keeper.in_flight laws.flies laws.waits c.self.inside.keeper c.self.inside.fallen c.self.invariant.0.fallen _ _ c.self.view_is refl c.requires.up)
     c.tell.ensures.fallen c.settle-made.ensures.kept c.settle-made.ensures.call c.settle-made.ensures.keeps (c.self.invariant.0, c.self.invariant.1)
-    in
-    (both.0, both.1, swept_made c.args.caller c.args.number c.self.inside.ledger c.self.inside.began _ c.self.inside.sweep c.self.inside.closed c.self.invariant.1 (headed_inside _ _ c.self.view_is c.knows_heads.ensures.heads) c.self.invariant.2 c.settle-made.new.self _ c.settle-made.result brings c.settle-made.ensures.call)
+    in (
+      both.0,
+      both.1,
+      swept_made c.args.caller c.args.number c.self.inside.ledger c.self.inside.began _ c.self.inside.sweep c.self.inside.closed c.self.invariant.1 (headed_inside _ _ c.self.view_is c.knows_heads.ensures.heads) c.self.invariant.2 c.settle-made.new.self _ c.settle-made.result brings c.settle-made.ensures.call,
+      holding_made c.args.caller c.args.number c.self.inside.ledger c.self.inside.began _ _ c.self.invariant.1 c.self.invariant.2.named c.self.invariant.3 c.settle-made.new.self _ c.settle-made.result brings
+          (keeps_all c.self.inside.ledger.state (attempt_on sha256 c.self.inside.ledger (in_draft c.args.caller c.args.moment c.args.number c.args.opened) (command_of c.args.call)).state _ (attempt_keeps c.self.inside.ledger (in_draft c.args.caller c.args.moment c.args.number c.args.opened) (command_of c.args.call)))
+          (subst (λ (s : State). AreLinked s.commits) c.catalogue.ensures c.commits_are_linked.ensures) c.settle-made.ensures.call,
+    )
 
 pub returns : goal.returns
 returns g c =

@@ -1,5 +1,6 @@
 use Rattle.std.proofs.Common.{rules}
 use Rattle.cat_core.proofs.Held.{at_least, none_held}
+use Rattle.cat_core.proofs.Lasting.{holding_over}
 use Rattle.cat_core.proofs.UnderWay.{swept_none}
 use Rattle.cat_core.proofs.store.Store.over.Goals as goal
 
@@ -8,4 +9,5 @@ invariant_of-result g c = (
   record { payloads = c.requires.payloads; number = c.requires.number; fallen = c.requires.up; later = at_least _ _ (search rules); rose = tt; counted = tt },
   none_held c.args.ledger _ _ (search rules) (c.requires.sound _),
   swept_none c.args.ledger _ (search rules),
+  holding_over c.args.ledger _ (search rules),
 )

@@ -1,8 +1,12 @@
-use Rattle.std.proofs.Common.{arith, refl}
+use Rattle.std.proofs.Common.{arith, refl, subst}
 use Rattle.sha2.specs.Sha256.{sha256}
 use Rattle.cat_model.specs.Book.{call_on}
+use Rattle.cat_graph.specs.Linked.{AreLinked}
 use Rattle.cat_model.specs.Calls.{in_next}
+use Rattle.cat_model.specs.State.{State}
+use Rattle.cat_core.proofs.Grown.{attempt_keeps}
 use Rattle.cat_core.proofs.InStep.{right_attempt}
+use Rattle.cat_core.proofs.Lasting.{holding_made, keeps_all}
 use Rattle.cat_core.proofs.Making.{all_told, down_none, up_inside}
 use Rattle.cat_core.proofs.Sound.{call_brings}
 use Rattle.cat_core.proofs.Standing.{stands}
@@ -28,8 +32,14 @@ invariant_of-self g c =
     (none_of_none c.self.inside.ledger.draft c.self.inside.ledger.log _ c.self.invariant.1.waiting)
     (up_inside g.K.Keeper.down g.K.Keeper.in_flight laws.flies laws.waits c.self.inside.keeper c.self.inside.fallen c.self.invariant.0.fallen _ _ c.self.view_is refl c.requires.up)
     c.tell.ensures.fallen c.refer-made.ensures.kept c.refer-made.ensures.call c.refer-made.ensures.keeps (c.self.invariant.0, c.self.invariant.1)
-    in
-    (both.0, both.1, swept_made c.args.caller 0 c.self.inside.ledger c.self.inside.began _ c.self.inside.sweep c.self.inside.closed c.self.invariant.1 (headed_inside _ _ c.self.view_is c.knows_heads.ensures.heads) c.self.invariant.2 c.refer-made.new.self _ c.refer-made.result brings c.refer-made.ensures.call)
+    in (
+      both.0,
+      both.1,
+      swept_made c.args.caller 0 c.self.inside.ledger c.self.inside.began _ c.self.inside.sweep c.self.inside.closed c.self.invariant.1 (headed_inside _ _ c.self.view_is c.knows_heads.ensures.heads) c.self.invariant.2 c.refer-made.new.self _ c.refer-made.result brings c.refer-made.ensures.call,
+      holding_made c.args.caller 0 c.self.inside.ledger c.self.inside.began _ _ c.self.invariant.1 c.self.invariant.2.named c.self.invariant.3 c.refer-made.new.self _ c.refer-made.result brings
+          (keeps_all c.self.inside.ledger.state (call_on sha256 c.args.caller c.self.inside.ledger c.args.command.now c.args.moment).state _ (attempt_keeps c.self.inside.ledger (in_next c.args.caller c.args.moment) c.args.command.now))
+          (subst (λ (s : State). AreLinked s.commits) c.catalogue.ensures c.commits_are_linked.ensures) c.refer-made.ensures.call,
+    )
 
 pub returns : goal.returns
 returns g c =
