@@ -33,6 +33,8 @@ mod maps;
 #[cfg(test)]
 mod marks;
 #[cfg(test)]
+mod meeting;
+#[cfg(test)]
 mod notes;
 #[cfg(test)]
 mod ordered;
@@ -40,6 +42,8 @@ mod ordered;
 mod policies;
 #[cfg(test)]
 mod records;
+#[cfg(test)]
+mod relay;
 #[cfg(test)]
 mod replies;
 #[cfg(test)]

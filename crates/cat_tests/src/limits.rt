@@ -3,7 +3,7 @@
 use crate::asking::{Outcome, come_to};
 use crate::requests::{
     CREATE_DEV, CREATE_TAG, DELETE_DEV, MERGE_DEV, MERGE_FIRST, PUT_BOTH, PUT_ON_DEV, PUT_T1,
-    PUT_T2, TRANSPLANT_DEV, TRANSPLANT_FIRST,
+    PUT_T1_AGAIN, TRANSPLANT_DEV, TRANSPLANT_FIRST,
 };
 use cat_model::limits::{Limits, Quantity};
 
@@ -20,7 +20,7 @@ fn a_limit_of_one_lets_one_pass(rt: HostRuntime) {
     for (limits, which) in table {
         let changes = [
             (PUT_T1, Outcome::Accepted(1)),
-            (PUT_T2, Outcome::Full(which, 1, Some(1))),
+            (PUT_T1_AGAIN, Outcome::Full(which, 1, Some(1))),
         ];
         assert!(&rt;
             come_to(&rt, rt.alloc(), limits, &[], &changes),

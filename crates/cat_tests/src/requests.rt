@@ -10,6 +10,10 @@ pub(crate) const PUT_T1: &str =
 /// The hash of that commit, where it is the first of the catalogue, made at the first second.
 pub(crate) const FIRST: &str = "f92df14c291c55081a6374c5074b1394016591b1981cd32b3bddb20a3f86d5d4";
 
+/// A commit of `m2` to the table of `PUT_T1`, where that is the first of the catalogue.
+pub(crate) const PUT_T1_AGAIN: &str =
+    "POST /api/v2/trees/main/history/commit HTTP/1.1\r\nContent-Length: 246\r\n\r\n{\"commitMeta\":{\"message\":\"one\"},\"operations\":[{\"type\":\"PUT\",\"key\":{\"elements\":[\"t1\"]},\"content\":{\"type\":\"ICEBERG_TABLE\",\"id\":\"00000000-0000-0001-0000-000000000000\",\"metadataLocation\":\"m2\",\"snapshotId\":1,\"schemaId\":0,\"specId\":0,\"sortOrderId\":0}}]}";
+
 /// A commit of a new table `m1` at `t2` of `main`.
 pub(crate) const PUT_T2: &str =
     "POST /api/v2/trees/main/history/commit HTTP/1.1\r\nContent-Length: 202\r\n\r\n{\"commitMeta\":{\"message\":\"one\"},\"operations\":[{\"type\":\"PUT\",\"key\":{\"elements\":[\"t2\"]},\"content\":{\"type\":\"ICEBERG_TABLE\",\"metadataLocation\":\"m1\",\"snapshotId\":1,\"schemaId\":0,\"specId\":0,\"sortOrderId\":0}}]}";
