@@ -6,7 +6,7 @@ use crate::pattern::write_out;
 use crate::report::Report;
 use crate::sent::{Sent, is_sending};
 use crate::short::{Short, play_short};
-use crate::splits::{bounds, bytes_of_hex, first_word, number, words};
+use crate::splits::{bounds, bytes_of_hex, counting, first_word, number, words};
 use crate::wanted::{Wanted, first_difference, is_wanting};
 use crate::world::{Ran, World};
 use std::alloc::{AllocError, Global};
@@ -150,7 +150,10 @@ impl<'a> Player<'a> {
         time: Option<u64>,
     ) -> Result<(), Fault> {
         let text = write_out(alloc, line, time)?;
-        let (word, rest) = first_word(text.as_str());
+        let Some(line) = counting(text.as_str(), time)? else {
+            return Ok(());
+        };
+        let (word, rest) = first_word(line);
         match word {
             "row" => Ok(self.begin_row(alloc, rest)?),
             "let" => {

@@ -1,7 +1,7 @@
 //! What a run is sent.
 
 use crate::fault::Fault;
-use crate::splits::{bytes_of_hex, first_word};
+use crate::splits::{bytes_of_hex, first_word, number};
 use std::alloc::{AllocError, Global};
 
 /// Bytes, and where the requests in them begin.
@@ -49,6 +49,7 @@ impl Sent {
                 let bytes = bytes_of_hex(alloc, text)?;
                 self.send_bytes(&bytes)?;
             }
+            ">cut" => self.cut(number(text)?),
             method if is_method(method) => self.send_request(alloc, method, text)?,
             _ => return Err(Fault::NoReading),
         }
@@ -87,6 +88,14 @@ impl Sent {
         } else {
             self.send_body(alloc, body)
         }
+    }
+
+    // Keeps the first bytes, so many.
+    fn cut(&mut self, length: u64) {
+        let length = length.min(self.bytes.len() as u64) as usize;
+        let count = self.starts.iter().filter(|start| **start < length).count();
+        self.starts.truncate(count);
+        self.bytes.truncate(length);
     }
 
     /// The bytes of the first requests, and the others; none where there are fewer.

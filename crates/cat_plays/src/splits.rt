@@ -56,3 +56,20 @@ pub fn bounds(text: &str) -> Result<(u64, u64), Fault> {
     let (first, last) = first_word(text);
     Ok((number(first)?, number(last)?))
 }
+
+/// What a line says for a number: of `at A B LINE` the line behind the two, where the number is none
+/// less than A and none above B; of another line all of it.
+pub fn counting(line: &str, time: Option<u64>) -> Result<Option<&str>, Fault> {
+    let (word, rest) = first_word(line);
+    if word != "at" {
+        return Ok(Some(line));
+    }
+    let (first, rest) = first_word(rest);
+    let (last, rest) = first_word(rest);
+    let (first, last) = (number(first)?, number(last)?);
+    match time {
+        Some(time) if first <= time && time <= last => Ok(Some(rest)),
+        Some(_) => Ok(None),
+        None => Err(Fault::NoReading),
+    }
+}

@@ -140,6 +140,7 @@ impl World {
                 Ok(self.put_file(alloc, bytes)?)
             }
             "put" => self.put(alloc, text),
+            "xor" => self.xor(alloc, text),
             _ => self.set_number(alloc, word, number(text)?),
         }
     }
@@ -203,6 +204,24 @@ impl World {
         let mut all = Vec::from_slice(alloc, bytes.get(..place).unwrap_or(bytes))?;
         all.resize(place, 0)?;
         all.extend_from_slice(&piece)?;
+        all.extend_from_slice(bytes.get(all.len()..).unwrap_or(&[]))?;
+        Ok(self.put_file(alloc, all)?)
+    }
+
+    // Changes the bytes from a place on by these.
+    fn xor(&mut self, alloc: Global, text: &str) -> Result<(), Fault> {
+        let (place, digits) = first_word(text);
+        let place = number(place)?;
+        let by = bytes_of_hex(alloc, digits)?;
+        if place > FARTHEST {
+            return Err(Fault::NoReading);
+        }
+        let bytes = self.bytes();
+        let rest = bytes.get(place as usize..).unwrap_or(&[]);
+        let mut all = Vec::from_slice(alloc, bytes.get(..place as usize).unwrap_or(bytes))?;
+        for (byte, by) in rest.iter().zip(by.iter()) {
+            all.push(*byte ^ *by)?;
+        }
         all.extend_from_slice(bytes.get(all.len()..).unwrap_or(&[]))?;
         Ok(self.put_file(alloc, all)?)
     }
