@@ -46,8 +46,8 @@ def replies_and_syncs(log):
 
 
 def syncs(cases, folder):
-    """No reply tells of an entry before its second sync: of four clients that commit and read at once."""
-    server, log = traced(cases.program, folder, "--workers", 4, calls=SYNCS + ",sendto,sendmsg,write")
+    """No reply tells of an entry before its second sync: of four clients that commit and read at once. On a busy machine 8 attempts may be spent."""
+    server, log = traced(cases.program, folder, "--workers", 4, "--attempts", 64, calls=SYNCS + ",sendto,sendmsg,write")
     with server:
         def client(number):
             with server.link() as link:
