@@ -17,6 +17,8 @@ use Rattle.cat_desk.specs.Pass.{DeskId, Keeps, all_left_by, known, left_by, mark
 use Rattle.cat_desk.specs.declared.pass.Pass.{Pass}
 use Rattle.cat_mark.specs.declared.roots.Roots.{Roots}
 use Rattle.cat_mark.specs.Marks.{AddsAll, is_marked, live_from_all, live_of}
+use Rattle.cat_mark.specs.Walked.{HaveWalked}
+use Rattle.cat_mark.specs.declared.marks.Marks.{Marks}
 use Rattle.cat_model.specs.declared.cutoff.Cutoff.{Cutoff}
 use Rattle.cat_model.specs.declared.cutoff.Resolved.{Resolved}
 use Rattle.cat_model.specs.declared.log_entry.LogEntry.{LogEntry}
@@ -24,17 +26,19 @@ use Rattle.cat_model.specs.Base.{is_among}
 use Rattle.cat_model.specs.Book.{Book}
 use Rattle.cat_model.specs.Chain.{Commits}
 use Rattle.cat_model.specs.Drafts.{Open, OpenSweep, Opening, nothing_open, open_of}
+use Rattle.cat_model.specs.Later.{Adds}
 use Rattle.cat_model.specs.Mark.{FailedAppend, Grows, Mark, last_sweep}
 use Rattle.cat_model.specs.State.{State}
 use Rattle.cat_model.specs.TurnLaws.{grows_on}
 use Rattle.cat_names.specs.declared.hash.Hash.{Hash}
 use Rattle.cat_work.specs.Answers.{NoFaultIsNew}
 use Rattle.cat_work.specs.Passes.{IsAlone, book_of, state_of}
-use Rattle.cat_work.specs.TurnLaws.{Left, book_found, follows_length, grew_in, left_by_turn, legal_before, place_at}
+use Rattle.cat_work.specs.TurnLaws.{Left, book_found, follows_length, goes_later, grew_in, left_by_turn, legal_before, place_at}
 use Rattle.cat_work.specs.Turns.{Turned}
 use Rattle.cat_collect.specs.Answers.{IsNewer}
 use Rattle.cat_collect.specs.Turns.{DrainsIn, Going, HasMarked, HasOpen, Holds, LeavesIn, OpensSweep, StoodAlone, is_nothing}
 use Rattle.cat_collect.proofs.Given.{all_marked, given_is}
+use Rattle.cat_collect.proofs.Later.{walked_later}
 use Rattle.cat_collect.proofs.Owned.{IsFound, found_as, found_open, none_found, one_left, one_open}
 
 -- ---- what a turn finds, against the pass at first
@@ -176,16 +180,17 @@ module _ (K : Type 0) (desk : DeskId) (policy : Resolved) (p q : Pass) (sweep : 
   known_names = subst (λ (y : Stored K). KnowsNames y.book.state y.left_open.sweep) x.after opens.4
 
   -- once its roots are marked
-  pub begins_held : (marks : List Hash) → AddsAll [] marks (live_of view.commits roots) → Holds desk q sweep marks
-  begins_held marks adds = (
+  pub begins_held : (marks : Marks) → AddsAll [] marks.set (live_of view.commits roots) → HaveWalked view.commits marks → Holds desk q sweep marks
+  begins_held marks adds walked = (
     o,
     record { left_is = left_is; opening_is = refl; caller = caller ∙ sym keeps.number },
     record {
       drained = sym (ap (λ (l : List LogEntry). length l) log ∙ length-reverse s.book.log);
       given = refl;
       known = subst (λ (y : State). AreKnown y o.names.commits) (sym state) known_names;
-      marked = λ hash. all_marked s.book.state.commits view.commits [] (kept_by s.book o) [] marks roots (ap (λ (y : State). y.commits) x.view_is) (λ h. refl) adds x.roots_are hash
+      marked = λ hash. all_marked s.book.state.commits view.commits [] (kept_by s.book o) [] marks.set roots (ap (λ (y : State). y.commits) x.view_is) (λ h. refl) adds x.roots_are hash
           ∙ ap (λ (b : Book). is_among (kept_by b o) hash) (sym book);
+      walked = subst (λ (y : State). HaveWalked y.commits marks) (x.view_is ∙ sym state) walked;
     },
   )
 
@@ -297,16 +302,24 @@ module _ (K : Type 0) (desk : DeskId) (p q : Pass) (roots : Roots) (view : State
     pub now_open : (sweep : Sweep) → HasOpen p sweep a → HasOpen q sweep c
     now_open sweep has = record { left_is = now_left; opening_is = now_opening ∙ has.opening_is; caller = has.caller ∙ sym keeps.number }
 
+    -- what was walked before was walked on the view's commits
+    pub walked_view : (marks : Marks) → HasMarked desk p a marks → HaveWalked view.commits marks
+    walked_view marks was =
+        subst (λ (y : State). HaveWalked y.commits marks) (sym d.view_is)
+        (walked_later (state_of desk (seen p)).commits (drains.0).book.state.commits marks.set marks.walked drains.4
+        (subst (λ (y : State). Adds (state_of desk (seen p)).commits y.commits) (drains.2).led (goes_later desk (number_of p) (seen p) (log_of drains.0) (drains.2).follows).commits) was.walked)
+
     -- with all that was marked before and what the roots keep
-    pub now_marked : (marks more : List Hash) → HasMarked desk p a marks → AddsAll marks more (live_of view.commits roots) → HasMarked desk q c more
-    now_marked marks more was adds = record {
+    pub now_marked : (marks more : Marks) → HasMarked desk p a marks → AddsAll marks.set more.set (live_of view.commits roots) → HaveWalked view.commits more → HasMarked desk q c more
+    now_marked marks more was adds walked = record {
       drained = sym (ap (λ (l : List LogEntry). length l) drained_log ∙ length-reverse (drains.0).book.log);
       given = refl;
       known = subst (λ (y : State). AreKnown y c.names.commits) (sym drained_state) names_known;
-      marked = λ hash. all_marked (drains.0).book.state.commits view.commits (kept_by (book_of desk p) a) (kept_by (drains.0).book d.sweep) marks more roots (ap (λ (y : State). y.commits) d.view_is) was.marked adds
+      marked = λ hash. all_marked (drains.0).book.state.commits view.commits (kept_by (book_of desk p) a) (kept_by (drains.0).book d.sweep) marks.set more.set roots (ap (λ (y : State). y.commits) d.view_is) was.marked adds
           (subst (λ (l : List Hash). Completes (drains.0).book.state.commits l roots (kept_by (drains.0).book d.sweep))
           (given_is desk (number_of p) p drains.0 a d.sweep found.awaits (drains.2).follows (drains.2).led (drains.2).base drains.4 was.drained was.given was.known) d.roots_are) hash
           ∙ ap (λ (b : Book). is_among (kept_by b c) hash) (sym drained_book);
+      walked = subst (λ (y : State). HaveWalked y.commits more) (d.view_is ∙ sym drained_state) walked;
     }
 
 pub drained_goes : (K : Type 0) (desk : DeskId) (policy : Resolved) (first present next : Pass) (roots : Roots) (view : State) → Going desk policy first present → Keeps desk present next → IsLegalFrom desk.opened (seen next) → DrainsIn K desk present next roots view → Going desk policy first next

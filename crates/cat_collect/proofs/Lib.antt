@@ -1,5 +1,6 @@
 mod Brought
 mod Given
+mod Later
 mod Owned
 mod Turning
 mod Goings

@@ -4,6 +4,8 @@ use Rattle.sha2.specs.Sha256.{sha256}
 use Rattle.cat_names.specs.declared.hash.Hash.{Hash}
 use Rattle.cat_mark.specs.declared.roots.Roots.{Roots}
 use Rattle.cat_mark.specs.Marks.{is_marked}
+use Rattle.cat_mark.specs.Walked.{HaveWalked}
+use Rattle.cat_mark.specs.declared.marks.Marks.{Marks}
 use Rattle.cat_graph.specs.Linked.{AreLinked}
 use Rattle.cat_checks.specs.Histories.{IsLegalFrom}
 use Rattle.cat_core.specs.Stored.{AreKnown, IsMarked, KnowsNames, Stored}
@@ -66,14 +68,15 @@ pub record HasOpen (p : Pass) (sweep : Sweep) (o : OpenSweep) : Type 0 where
 abbrev pub IsOpenIn : Pass → Sweep → Type 0
 IsOpenIn p sweep = (o : OpenSweep) × HasOpen p sweep o
 
--- all that it has to keep after the log that was seen was given, and is marked, with nothing else
-pub record HasMarked (desk : DeskId) (p : Pass) (o : OpenSweep) (marks : List Hash) : Type 0 where
+-- all that it has to keep after the log that was seen was given, and is marked, with nothing else, and was walked on its commits
+pub record HasMarked (desk : DeskId) (p : Pass) (o : OpenSweep) (marks : Marks) : Type 0 where
   pub drained : o.drained ≡ length (seen p)
   pub given : o.given ≡ o.names
   pub known : AreKnown (state_of desk (seen p)) o.names.commits
-  pub marked : (hash : Hash) → is_marked marks hash ≡ is_among (kept_by (book_of desk p) o) hash
+  pub marked : (hash : Hash) → is_marked marks.set hash ≡ is_among (kept_by (book_of desk p) o) hash
+  pub walked : HaveWalked (state_of desk (seen p)).commits marks
 
-abbrev pub Holds : DeskId → Pass → Sweep → List Hash → Type 0
+abbrev pub Holds : DeskId → Pass → Sweep → Marks → Type 0
 Holds desk p sweep marks = (o : OpenSweep) × HasOpen p sweep o × HasMarked desk p o marks
 
 -- ---- a collection

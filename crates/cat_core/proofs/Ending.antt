@@ -12,7 +12,9 @@ use Rattle.cat_model.specs.Calls.{Called}
 use Rattle.cat_model.specs.Drafts.{OpenSweep, Opening}
 use Rattle.cat_model.specs.declared.sweep.Sweep.{Sweep}
 use Rattle.cat_model.specs.Sweeps.{sweep_of}
+use Rattle.cat_mark.specs.declared.marks.Marks.{Marks}
 use Rattle.cat_mark.specs.declared.roots.Roots.{Roots}
+use Rattle.cat_mark.specs.Walked.{HaveWalked}
 use Rattle.cat_names.specs.declared.hash.Hash.{Hash}
 use Rattle.cat_core.specs.declared.closing.Closing.{Closing}
 use Rattle.cat_core.specs.Kept.{IsTold}
@@ -94,6 +96,9 @@ module _ {K : Type 0} (s after : Stored K) (o : OpenSweep) (c : Closing) (is : s
 
   pub marked_it : (marks : List Hash) (roots : Roots) → AreGiven s.book o marks → Completes s.book.state.commits (given_by s.book o) roots (kept_by s.book o) → AreAllMarked after.book (sweep_in c) marks roots
   marked_it marks roots given completes = subst (λ (b : Book). AreAllMarked b (sweep_in c) marks roots) (sym same_book) (all_marked s.book o (sweep_in c) marks roots its.sweep given completes)
+
+  pub walked_it : (marks : Marks) → HaveWalked s.book.state.commits marks → HaveWalked after.book.state.commits marks
+  walked_it marks walked = subst (λ (b : Book). HaveWalked b.state.commits marks) (sym same_book) walked
 
   pub up_it : IsUp s → IsUp after
   up_it up = ap (λ (x : Stored K). x.mark.fault) (drops_it s after s.left_open.sweep o is drops) ∙ up

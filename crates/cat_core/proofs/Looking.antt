@@ -75,7 +75,7 @@ weaker p q (x ∷ xs) more are = let both = and_true (p x) (list_all p xs) are i
 itself_known : (x : Hash × Commit) (older : Commits) → is_known (x ∷ older) x.0 ≡ true
 itself_known x older = rw (same_self x.0) refl
 
-chain_known : (commits : Commits) (head : Hash) → list_all (λ x. is_known commits x.0) (chain commits head) ≡ true
+pub chain_known : (commits : Commits) (head : Hash) → list_all (λ x. is_known commits x.0) (chain commits head) ≡ true
 chain_known [] head = refl
 chain_known (x ∷ older) head = by (same_hash x.0 head) (above x.1.parent (chain_known older x.1.parent)) (above head (chain_known older head))
   where

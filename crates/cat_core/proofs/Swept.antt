@@ -238,11 +238,11 @@ followed_first limits = record { drafts = λ d. refl; ends = refl; count = refl;
 
 -- ---- as they are returned
 
-pub marked_as : {E : Type 0} (book : Book) (numbers : List ℕ) (taken : List (Option Reference)) (s : Sweep) (r : Result (List Hash) E) → IsFollowed numbers taken book → AreLinked book.state.commits
+pub marked_as : {V E : Type 0} (set : V → List Hash) (book : Book) (numbers : List ℕ) (taken : List (Option Reference)) (s : Sweep) (r : Result V E) → IsFollowed numbers taken book → AreLinked book.state.commits
     → IsTrue (heads_pass (is_known book.state.commits) book.state.references) → s.opened ≤ book.state.place
-    → IfOk r (λ marks. (hash : Hash) → is_marked marks hash ≡ is_among (rooted book.state taken s) hash) → IfOk r (λ marks. (hash : Hash) → is_marked marks hash ≡ is_among (saved_on book s) hash)
-marked_as book numbers taken s (Ok marks) followed linked heads opened marked = marks_are book numbers taken s marks followed linked heads opened marked
-marked_as book numbers taken s (Err why) followed linked heads opened marked = tt
+    → IfOk r (λ v. (hash : Hash) → is_marked (set v) hash ≡ is_among (rooted book.state taken s) hash) → IfOk r (λ v. (hash : Hash) → is_marked (set v) hash ≡ is_among (saved_on book s) hash)
+marked_as set book numbers taken s (Ok v) followed linked heads opened marked = marks_are book numbers taken s (set v) followed linked heads opened marked
+marked_as set book numbers taken s (Err why) followed linked heads opened marked = tt
 
 pub removed_as : {V E : Type 0} (items : V → List Hash) (book : Book) (s : Sweep) (marks : List Hash) (r : Result V E) → ((hash : Hash) → is_marked marks hash ≡ is_among (saved_on book s) hash)
     → IfOk r (λ v. (hash : Hash) → is_among (items v) hash ≡ (is_some (value_of book.state.present hash) && not (is_marked marks hash))) → IfOk r (λ v. AreRemoved book s (items v))

@@ -57,7 +57,9 @@ use Rattle.cat_core.specs.Noting.{and_names, names_of_drafts, noting}
 use Rattle.cat_core.specs.Stored.{AreKnown, AreNamed, HasFronts, IsMarked, IsSound, IsSwept, IsUnderWay, KnowsNames, Stored, closed_before, closed_held, draft_held, held_mark, is_headed, sweep_held}
 use Rattle.cat_model.specs.declared.sweep.Sweep.{Sweep}
 use Rattle.cat_model.specs.Sweeps.{sweep_of}
+use Rattle.cat_mark.specs.declared.marks.Marks.{Marks}
 use Rattle.cat_mark.specs.declared.roots.Roots.{Roots}
+use Rattle.cat_mark.specs.Walked.{HaveWalked}
 use Rattle.cat_core.specs.Sweeps.{AreAllMarked, MayBeClosed, next_sweep}
 use Rattle.cat_core.proofs.Collecting.{may_log, may_sweep}
 use Rattle.cat_core.proofs.Held.{place_length}
@@ -205,6 +207,9 @@ may_inside {K} s x same w may = subst (λ (z : Stored K). may_be_swept sha256 z.
 
 pub marked_inside : {K : Type 0} (s x : Stored K) → s ≡ x → (w : Sweep) (marks : List Hash) (roots : Roots) → AreAllMarked x.book w marks roots → AreAllMarked s.book w marks roots
 marked_inside {K} s x same w marks roots are = subst (λ (z : Stored K). AreAllMarked z.book w marks roots) (sym same) are
+
+pub walked_inside : {K : Type 0} (s x : Stored K) → s ≡ x → (marks : Marks) → HaveWalked x.book.state.commits marks → HaveWalked s.book.state.commits marks
+walked_inside {K} s x same marks walked = subst (λ (z : Stored K). HaveWalked z.book.state.commits marks) (sym same) walked
 
 -- ---- what a draft names
 

@@ -3,6 +3,7 @@
 ghost use Rattle.std.specs.Prelude.{◌≡◌, ◌≤◌, IfOk, OnOk, length};
 ghost use Rattle.cat_model.specs.Base.{is_among};
 ghost use Rattle.cat_mark.specs.Marks.{AddsAll, is_marked, live_of};
+ghost use Rattle.cat_mark.specs.Walked.{HaveWalked};
 ghost use Rattle.cat_core.specs.Sweeping.{rooted};
 
 use crate::rooting::roots_taken;
@@ -16,7 +17,7 @@ use std::alloc::Global;
 
 /// Marks each of the contents.
 fn mark_contents(marks: &mut Marks, hashes: &[Hash]) -> Result<(), NoMemory>
-    ensures { OnOk result (AddsAll marks.old marks.new hashes.now) }
+    ensures { OnOk result (AddsAll marks.old.set marks.new.set hashes.now) }
 {
     for hash in hashes {
         marks.add(*hash)?;
@@ -27,15 +28,15 @@ fn mark_contents(marks: &mut Marks, hashes: &[Hash]) -> Result<(), NoMemory>
 /// Marks what roots keep.
 pub(crate) fn mark_roots(
     marks: &mut Marks,
-    alloc: Global,
     catalogue: &Catalogue,
     roots: &Roots,
 ) -> Result<(), NoMemory>
+    requires { HaveWalked catalogue.now.commits marks.old }
     ensures { OnOk result
-        (AddsAll marks.old marks.new (live_of catalogue.now.commits roots.now)) }
+        (AddsAll marks.old.set marks.new.set (live_of catalogue.now.commits roots.now)) }
 {
     let heads = roots.heads.as_slice();
-    marks.mark_heads(alloc, catalogue.commits(), catalogue.maps(), heads)?;
+    marks.mark_heads(catalogue.commits(), catalogue.maps(), heads)?;
     mark_contents(marks, roots.hashes.as_slice())
 }
 
@@ -50,7 +51,7 @@ pub(crate) fn marks_of(
     requires { sweep.now.opened ≤ length taken.now }
     ensures { IfOk result
         (λ marks. (hash : Hash)
-        → is_marked marks hash ≡ is_among (rooted catalogue.now taken.now sweep.now) hash) }
+        → is_marked marks.set hash ≡ is_among (rooted catalogue.now taken.now sweep.now) hash) }
 {
     let roots = roots_taken(
         alloc,
@@ -61,6 +62,6 @@ pub(crate) fn marks_of(
         sweep.contents.as_slice(),
     )?;
     let mut marks = Marks::empty(alloc);
-    mark_roots(&mut marks, alloc, catalogue, &roots)?;
+    mark_roots(&mut marks, catalogue, &roots)?;
     Ok(marks)
 }

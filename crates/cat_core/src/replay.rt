@@ -250,7 +250,7 @@ impl Replay {
         requires opened { sweep.now.opened ≤ self.now.ledger.state.place }
         ensures { IfOk result
             (λ marks. (hash : Hash)
-            → is_marked marks hash ≡ is_among (saved_on self.now.ledger sweep.now) hash) }
+            → is_marked marks.set hash ≡ is_among (saved_on self.now.ledger sweep.now) hash) }
     {
         let catalogue = self.ledger.catalogue();
         let _ = catalogue.commits();

@@ -5,13 +5,14 @@ ghost use Rattle.sha2.specs.Sha256.{sha256};
 ghost use Rattle.cat_checks.specs.Histories.{IsLegalFrom};
 ghost use Rattle.cat_checks.specs.Legal.{may_be_swept};
 ghost use Rattle.cat_frames.specs.Sweeps.{resolved_is_logged, sweep_is_logged};
+ghost use Rattle.cat_mark.specs.Walked.{HaveWalked};
 ghost use Rattle.cat_model.specs.Drafts.{OpenSweep as OpenSweepValue};
 ghost use Rattle.cat_model.specs.Mark.{closed_number};
 ghost use Rattle.cat_model.specs.Sweeps.{names_in};
 ghost use Rattle.cat_model.specs.Turns.{Acts};
 ghost use Rattle.cat_state.specs.Kept.{Leaves};
 ghost use Rattle.cat_core.specs.Kept.{IsTold, KeepsTold};
-ghost use Rattle.cat_core.specs.Lasting.{HasAllNames};
+ghost use Rattle.cat_core.specs.Lasting.{AreLasting, HasAllNames};
 ghost use Rattle.cat_core.specs.Stored.{IsUp, snap};
 ghost use Rattle.cat_core.specs.Sweeps.{AreAllMarked, AreGiven, Closes, Completes, Drops, IsDrained, IsOpened, IsSettledSweep, IsSweepOpening, IsSweeping, NotSwept, Sweeps, called_sweep, drained_on, given_by, kept_by, next_sweep, sweep_in, sweep_on};
 
@@ -231,7 +232,8 @@ impl<K: Keeper> Store<K> {
         requires may { IsTrue (may_be_swept sha256 self.old.book (sweep_in closing)) }
         requires logged { IsTrue (sweep_is_logged (sweep_in closing)) }
         requires told { HasAllNames (names_in (sweep_in closing)) self.old.left_open.drafts }
-        requires marked { AreAllMarked self.old.book (sweep_in closing) marks roots.now }
+        requires marked { AreAllMarked self.old.book (sweep_in closing) marks.set roots.now }
+        requires walked { HaveWalked self.old.book.state.commits marks }
         ensures { IsTold K.Keeper closing.ticket.caller self.old self.new
             (sweep_on closing.ticket.caller self.old.book moment (sweep_in closing)) result }
     {
@@ -255,7 +257,8 @@ impl<K: Keeper> Store<K> {
     ) -> Result<Told, Refused>
         requires is_open { IsSweeping self.old sweep }
         requires marks { (o : OpenSweepValue) → self.old.left_open.sweep ≡ Some o
-            → AreGiven self.old.book o marks }
+            → AreGiven self.old.book o marks.set }
+        requires walked { HaveWalked self.old.book.state.commits marks }
         ensures { (o : OpenSweepValue) → self.old.left_open.sweep ≡ Some o
             → IsSettledSweep K.Keeper self.old self.new o moment result }
     {
@@ -280,8 +283,8 @@ impl<K: Keeper> Store<K> {
     }
 
     /// Removes the contents that the sweep need not keep, given the marks of what its roots keep; it
-    /// marks what was made and named since they were given. The sweep is closed, whatever the answer.
-    /// `Ok` acknowledges its entry; a `Fault` may have kept it or not, and each later call is refused
+    /// marks what was made and named since they were given. The sweep is closed, whatever the answer,
+    /// and what open drafts name is there if it was since their opening. `Ok` acknowledges its entry; a `Fault` may have kept it or not, and each later call is refused
     /// as `Down` at the count of faults then.
     pub fn sweep(
         &mut self,
@@ -292,7 +295,8 @@ impl<K: Keeper> Store<K> {
     ) -> Result<Told, Refused>
         requires is_open { IsSweeping self.old sweep }
         requires marks { (o : OpenSweepValue) → self.old.left_open.sweep ≡ Some o
-            → AreGiven self.old.book o marks }
+            → AreGiven self.old.book o marks.set }
+        requires walked { HaveWalked self.old.book.state.commits marks }
         ensures swept { Sweeps self.old self.old.left_open.sweep moment result self.new }
         ensures acts { Acts IsLegalFrom sweep.ticket.caller (snap self.old) (snap self.new) }
         ensures keeps { IsUp self.old
@@ -303,9 +307,12 @@ impl<K: Keeper> Store<K> {
             → (o : OpenSweepValue) → self.old.left_open.sweep ≡ Some o
             → Leaves K.Keeper self.old.keeper self.new.keeper
             (called_sweep self.old o moment).logged }
+        ensures lasting { AreLasting self.new.book self.new.left_open.drafts }
     {
         self.is_sound();
-        self.swept(alloc, sweep, marks, moment)
+        let told = self.swept(alloc, sweep, marks, moment);
+        self.keeps_what_drafts_name();
+        told
     }
 
     /// Closes a sweep that is given up. It takes no memory.

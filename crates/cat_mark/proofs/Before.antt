@@ -1,5 +1,5 @@
 -- Chains of which a part was walked before.
-use Rattle.std.proofs.Common.{◌≡◌, ℕ, ◌+◌, ◌≤◌, inl, inr, List, [], ◌∷◌, ◌++◌, Option, Some, None, Bool, true, false, cond, ◌||◌, is_some, is_err, OnOk, Result, Ok, Err, refl, sym, ap, subst, ◌∙◌, arith}
+use Rattle.std.proofs.Common.{◌≡◌, ℕ, ◌+◌, inl, inr, List, [], ◌∷◌, Option, Some, None, Bool, true, false, cond, ◌||◌, is_some, is_err, OnOk, Result, Ok, Err, refl, sym, ap, subst, ◌∙◌, arith}
 use Rattle.std.proofs.lemmas.Bool.{cond-true, or_cases, or_left, or_right}
 use Rattle.std.proofs.lemmas.Option.{none-some, same_Some}
 use Rattle.cat_codes.specs.Code.{ascends}
@@ -11,14 +11,14 @@ use Rattle.cat_model.specs.Base.{is_among}
 use Rattle.cat_model.specs.Chain.{Commits, chain, commit_of, entries}
 use Rattle.cat_model.specs.Cutoffs.{keeps, kept_from, visible}
 use Rattle.cat_model.specs.Same.{same_hash}
-use Rattle.cat_graph.specs.GraphLaws.{same_is}
+use Rattle.cat_graph.specs.GraphLaws.{found_is_known, same_is}
 use Rattle.cat_graph.specs.Linked.{AreLinked}
 use Rattle.cat_model.specs.Maps.{Map}
 use Rattle.cat_keymap.specs.MapsAt.{map_at}
 use Rattle.cat_mark.specs.Marks.{is_marked, AddsAll, AddsSome, HaveMaps, at_keys, found_map, hashes}
 use Rattle.cat_mark.specs.Walked.{AreMarked, AreWalked, Covers, IsWalked, KeepsAsFar, Step, live_on, shown_at, step_of}
 use Rattle.cat_mark.proofs.Live.{are_entries, entries_step, kept_shows}
-use Rattle.cat_mark.proofs.Marking.{IsParted, IsUnder, both, or_none}
+use Rattle.cat_mark.proofs.Marking.{IsUnder, both, unmarked}
 use Rattle.cat_mark.proofs.Shares.{among_marked}
 use Rattle.cat_mark.proofs.Visible.{shown_at_keys}
 
@@ -64,6 +64,7 @@ kept_within commits cutoff first index (c ∷ some) x far e =
 -- it stays so while more is marked
 pub walked_on : (commits : Commits) (marks more : List Hash) (walked : List (Hash × Step)) → ((x : Hash) → is_marked marks x ≡ true → is_marked more x ≡ true) → AreWalked commits marks walked → AreWalked commits more walked
 walked_on commits marks more walked grows are hash step found = record {
+  known = (are hash step found).known;
   kept = λ x e. grows x ((are hash step found).kept x e);
   shows = λ x e. grows x ((are hash step found).shows x e);
 }
@@ -85,10 +86,6 @@ shown commits marks walked at are = by (step_of walked at) refl
 -- none was walked from
 pub none_walked : (commits : Commits) (marks : List Hash) (walked : List (Hash × Step)) → walked ≡ [] → AreWalked commits marks walked
 none_walked commits marks walked none hash step found = absurd (none-some step (ap (λ (l : List (Hash × Step)). step_of l hash) (sym none) ∙ found))
-
--- nor was anything noted
-pub not_noted : (commits : Commits) (marks : List Hash) (old new : List (Hash × Step)) → ((hash : Hash) → step_of new hash ≡ step_of old hash) → AreWalked commits marks old → AreWalked commits marks new
-not_noted commits marks old new same are hash step found = are hash step (sym (same hash) ∙ found)
 
 -- a commit was noted
 pub noted : (commits : Commits) (marks : List Hash) (old new : List (Hash × Step)) (at : Hash) (step : Step) → ((hash : Hash) → step_of new hash ≡ cond (same_hash at hash) (Some step) (step_of old hash))
@@ -145,10 +142,6 @@ other_way : (old a b : Bool) → old ≡ false → (old || a) ≡ (old || b) →
 other_way true a b none e f = absurd cc
 other_way false a b none e f = sym e ∙ f
 
-unmarked : (a b : Bool) → (a ≡ true → b ≡ true) → b ≡ false → a ≡ false
-unmarked true b f e = sym (f refl) ∙ e
-unmarked false b f e = refl
-
 pub some_others : (old new some others : List Hash) → ((x : Hash) → (is_marked old x || is_among some x) ≡ (is_marked old x || is_among others x)) → AddsSome old new some → AddsSome old new others
 some_others old new some others same adds = record {
   kept = adds.kept;
@@ -166,6 +159,7 @@ some_others old new some others same adds = record {
 -- where what is kept from a commit on is marked, it was walked from
 pub is_walked : (commits : Commits) (marks : List Hash) (cutoff : Cutoff) (index : ℕ) (at : Hash) (c : Commit) → AreLinked commits → commit_of commits at ≡ Some c → keeps cutoff index c.time ≡ true → AreMarked marks (live_on commits cutoff index at) → IsWalked commits marks at (cutoff, index)
 is_walked commits marks cutoff index at c linked found keep are = record {
+  known = found_is_known commits at c found;
   kept = are;
   shows = λ x e. are x (ap (λ (l : List Hash). is_among l x) (kept_shows commits cutoff index at c linked found keep) ∙ both (hashes (entries commits at)) (live_on commits cutoff (index + 1) c.parent) x ∙ or_left _ _ e);
 }

@@ -4,7 +4,6 @@ use Rattle.std.proofs.lemmas.Bool.{cond-true, cond-false, or_left}
 use Rattle.std.proofs.lemmas.List.{append-nil}
 use Rattle.std.proofs.lemmas.List.Concat.{flat_map_single}
 use Rattle.std.proofs.lemmas.Option.{none-some, same_Some}
-use Rattle.std.specs.List.{flat_map}
 use Rattle.cat_codes.specs.Code.{ascends}
 use Rattle.cat_names.specs.Fields.{Key, key_cmp}
 use Rattle.cat_names.specs.declared.hash.Hash.{Hash}

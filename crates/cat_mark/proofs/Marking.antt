@@ -26,7 +26,7 @@ more true b c e = refl
 more false b c e = or_left b c e
 
 -- what isn't there in the end wasn't before
-unmarked : (a b : Bool) → (a ≡ true → b ≡ true) → b ≡ false → a ≡ false
+pub unmarked : (a b : Bool) → (a ≡ true → b ≡ true) → b ≡ false → a ≡ false
 unmarked true b f e = sym (f refl) ∙ e
 unmarked false b f e = refl
 

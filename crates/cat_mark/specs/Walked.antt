@@ -8,7 +8,9 @@ use Rattle.cat_model.specs.Base.{is_among}
 use Rattle.cat_model.specs.Chain.{Commits, chain, entries}
 use Rattle.cat_model.specs.Cutoffs.{keeps, kept_from, visible}
 use Rattle.cat_model.specs.Same.{same_hash}
+use Rattle.cat_graph.specs.Linked.{is_known}
 use Rattle.cat_mark.specs.Marks.{hashes, is_marked}
+use Rattle.cat_mark.specs.declared.marks.Marks.{Marks}
 
 -- a cutoff, and an index
 abbrev pub Step : Type 0
@@ -38,11 +40,16 @@ live_on commits cutoff index at = shown_at commits (kept_from cutoff index (chai
 abbrev pub AreMarked : List Hash → List Hash → Type 0
 AreMarked marks some = (x : Hash) → IsTrue (is_among some x) → IsTrue (is_marked marks x)
 
--- what is kept from a commit on is marked, and so is what it shows
+-- a commit is known; what is kept from it on is marked, and so is what it shows
 pub record IsWalked (commits : Commits) (marks : List Hash) (hash : Hash) (step : Step) : Type 0 where
+  pub known : IsTrue (is_known commits hash)
   pub kept : AreMarked marks (live_on commits step.0 step.1 hash)
   pub shows : AreMarked marks (hashes (entries commits hash))
 
 -- so it is with each commit
 abbrev pub AreWalked : Commits → List Hash → List (Hash × Step) → Type 0
 AreWalked commits marks walked = (hash : Hash) (step : Step) → step_of walked hash ≡ Some step → IsWalked commits marks hash step
+
+-- so it is with those that marks tell of
+abbrev pub HaveWalked : Commits → Marks → Type 0
+HaveWalked commits marks = AreWalked commits marks.set marks.walked

@@ -7,6 +7,7 @@
 #![tactic(auto)]
 
 mod chains;
+mod hashes;
 mod marks;
 mod roots;
 mod sharing;

@@ -1,62 +1,60 @@
-//! Sets of hashes, and what maps add to them.
+//! Sets of marks, and what roots add to them.
 
-ghost use Rattle.std.specs.Prelude.{◌≡◌, ◌&&◌, [], ◌∷◌, false, IfOk, OnOk, OnErr, is_some, length, not};
+ghost use Rattle.std.specs.Prelude.{◌≡◌, ◌≤◌, ◌&&◌, [], ◌∷◌, false, IfOk, OnErr, OnOk, is_some, length, not};
 ghost use Rattle.std.specs.List.{IsDistinct};
 ghost use Rattle.cat_names.specs.declared.hash.Hash.{Hash};
 ghost use Rattle.cat_model.specs.Base.{is_among};
+ghost use Rattle.cat_model.specs.Chain.{Commits};
+ghost use Rattle.cat_model.specs.Cutoffs.{live_from};
 ghost use Rattle.cat_model.specs.Same.{same_hash};
-ghost use Rattle.cat_keymap.specs.MapsAt.{map_at};
 ghost use Rattle.cat_tables.specs.Tables.{value_of};
-ghost use Rattle.cat_mark.specs.Marks.{AddsAll, AddsSome, at_key, at_keys, found_map, hashes, is_marked};
+ghost use Rattle.cat_mark.specs.Marks.{AddsAll, AddsSome, HaveMaps, is_marked, live_from_all, live_of};
+ghost use Rattle.cat_mark.specs.Walked.{HaveWalked};
 
+use crate::hashes::Hashes;
+use crate::roots::Roots;
+use crate::walked::Walked;
 use cat_codes::fault::NoMemory;
-use cat_keymap::key_map::KeyMap;
+use cat_graph::graph::Graph;
 use cat_keymap::maps::Maps;
-use cat_model::commit::Commit;
-use cat_model::entry::Entry;
+use cat_model::cutoff::Cutoff;
 use cat_names::hash::Hash;
-use cat_names::key::ContentKey;
 use cat_tables::table::Table;
 use std::alloc::Global;
-use std::collections::HashSet;
-use std::marker::Model;
+use std::thread::Threads;
 
-/// A set of hashes. Contracts ask it by `is_marked`, and never by the order of its list.
+/// Hashes that are marked, and the commits that were walked from while they were marked, so that what
+/// was walked once isn't walked again. What is walked later must be the graph of then, or one with
+/// more commits.
 #[derive(Drop)]
 pub struct Marks {
-    set: HashSet<Hash>,
-}
-
-impl Model for Marks {
-    ghost use Rattle.std.specs.Prelude.{List};
-    ghost use Rattle.cat_names.specs.declared.hash.Hash.{Hash};
-
-    ghost Value = { List Hash };
-
-    ghost view = { λ m. m.set.keys };
+    set: Hashes,
+    walked: Walked,
 }
 
 impl Marks {
     /// Nothing is marked.
     pub fn empty(alloc: Global) -> Marks
-        ensures { result ≡ [] }
+        ensures none { result.set ≡ [] }
+        ensures walked { (commits : Commits) → HaveWalked commits result }
     {
         Marks {
-            set: HashSet::new(alloc),
+            set: Hashes::new(alloc),
+            walked: Walked::new(alloc),
         }
     }
 
     /// Whether a hash is marked.
     pub fn has(&self, hash: &Hash) -> bool
-        ensures { result ≡ is_marked self.now hash.now }
+        ensures { result ≡ is_marked self.now.set hash.now }
     {
-        self.set.contains(hash)
+        self.set.has(hash)
     }
 
     /// How many hashes are marked, none of them counted twice.
     pub fn len(&self) -> usize
-        ensures count { result ≡ length self.now }
-        ensures once { IsDistinct same_hash self.now }
+        ensures count { result ≡ length self.now.set }
+        ensures once { IsDistinct same_hash self.now.set }
     {
         self.set.len()
     }
@@ -69,118 +67,104 @@ impl Marks {
     ) -> Result<Vec<Hash>, NoMemory>
         ensures { IfOk result
             (λ hashes. (hash : Hash) → is_among hashes.items hash
-            ≡ (is_some (value_of contents.now hash) && not (is_marked self.now hash))) }
+            ≡ (is_some (value_of contents.now hash) && not (is_marked self.now.set hash))) }
     {
-        let mut out = Vec::new(alloc);
-        let mut rest = contents.hashes();
-        while let Some(hash) = rest.next() {
-            if !self.has(hash) {
-                out.push(*hash)?;
-            }
-        }
-        Ok(out)
+        self.set.unmarked(alloc, contents)
     }
 
     /// Marks a hash. Want of memory changes nothing, and comes only where the hash isn't marked.
     pub fn add(&mut self, hash: Hash) -> Result<(), NoMemory>
-        ensures ok { OnOk result (AddsAll self.old self.new (hash ∷ [])) }
-        ensures err { OnErr result ((x : Hash) → is_marked self.new x ≡ is_marked self.old x) }
-        ensures absent { OnErr result (is_marked self.old hash ≡ false) }
-    {
-        self.set.insert(hash)?;
-        Ok(())
-    }
-
-    /// Marks each of the hashes.
-    pub(crate) fn add_all(&mut self, list: &[Hash]) -> Result<(), NoMemory>
-        ensures ok { OnOk result (AddsAll self.old self.new list.now) }
-        ensures err { OnErr result (AddsSome self.old self.new list.now) }
-    {
-        for hash in list {
-            self.add(*hash)?;
-        }
-        Ok(())
-    }
-
-    /// Marks what a map has at each of its keys.
-    fn mark_map(&mut self, map: &KeyMap) -> Result<(), NoMemory>
-        ensures ok { OnOk result (AddsAll self.old self.new (hashes map.now)) }
-        ensures err { OnErr result (AddsSome self.old self.new (hashes map.now)) }
-    {
-        let mut rest = map.walk();
-        while let Some((_, entry)) = rest.next() {
-            self.add(entry.hash)?;
-        }
-        Ok(())
-    }
-
-    /// Marks what a map has at a key, if there is something.
-    fn mark_key(&mut self, map: &KeyMap, key: &ContentKey) -> Result<(), NoMemory>
-        ensures ok { OnOk result (AddsAll self.old self.new (at_key map.now key.now)) }
-        ensures err { OnErr result (AddsSome self.old self.new (at_key map.now key.now)) }
-    {
-        match map.get(key) {
-            None => Ok(()),
-            Some(entry) => self.add(entry.hash),
-        }
-    }
-
-    /// Marks what a map has at the keys of changes.
-    fn mark_keys(
-        &mut self,
-        map: &KeyMap,
-        changes: &[(ContentKey, Option<Entry>)],
-    ) -> Result<(), NoMemory>
-        ensures ok { OnOk result (AddsAll self.old self.new (at_keys map.now changes.now)) }
-        ensures err { OnErr result (AddsSome self.old self.new (at_keys map.now changes.now)) }
-    {
-        for change in changes {
-            self.mark_key(map, &change.0)?;
-        }
-        Ok(())
-    }
-
-    /// Marks what the map of a hash has at each of its keys.
-    pub(crate) fn mark_all_at(&mut self, maps: &Maps, hash: &Hash) -> Result<(), NoMemory>
-        ensures ok { OnOk result
-            (AddsAll self.old self.new (hashes (found_map (map_at maps.now hash.now)))) }
+        ensures ok { OnOk result (AddsAll self.old.set self.new.set (hash ∷ [])) }
         ensures err { OnErr result
-            (AddsSome self.old self.new (hashes (found_map (map_at maps.now hash.now)))) }
+            ((x : Hash) → is_marked self.new.set x ≡ is_marked self.old.set x) }
+        ensures absent { OnErr result (is_marked self.old.set hash ≡ false) }
+        ensures walked { OnOk result
+            ((commits : Commits) → HaveWalked commits self.old → HaveWalked commits self.new) }
     {
-        match maps.get(hash) {
-            None => Ok(()),
-            Some(map) => self.mark_map(map),
-        }
+        self.set.add(hash)
     }
 
-    /// Marks what the map of a commit has at the keys that the commit changes.
-    pub(crate) fn mark_changed_at(
+    /// Marks what is visible at the commits that a cutoff keeps of the chain of a head, which is
+    /// nothing where the head is no commit's hash. Where memory runs out, a part of that may have
+    /// been marked, and something of it is not.
+    ///
+    /// It costs the map at the oldest of these commits, and one look-up for each change of the
+    /// others. A part of the chain that was walked for another head with the same cutoff isn't walked
+    /// again, and the map of a commit whose parent was walked isn't either, but for the keys that the
+    /// commit changes.
+    pub fn mark_root(
         &mut self,
+        graph: &Graph,
         maps: &Maps,
-        hash: &Hash,
-        commit: &Commit,
+        head: &Hash,
+        cutoff: &Cutoff,
     ) -> Result<(), NoMemory>
+        requires maps { HaveMaps graph.now maps.now }
+        requires walked { HaveWalked graph.now self.old }
         ensures ok { OnOk result
-            (AddsAll self.old self.new
-            (at_keys (found_map (map_at maps.now hash.now)) commit.now.ops)) }
+            (AddsAll self.old.set self.new.set (live_from graph.now cutoff.now head.now)) }
         ensures err { OnErr result
-            (AddsSome self.old self.new
-            (at_keys (found_map (map_at maps.now hash.now)) commit.now.ops)) }
+            (AddsSome self.old.set self.new.set (live_from graph.now cutoff.now head.now)) }
+        ensures walked { OnOk result (HaveWalked graph.now self.new) }
     {
-        match maps.get(hash) {
-            None => Ok(()),
-            Some(map) => self.mark_keys(map, commit.ops.as_slice()),
-        }
+        self.set
+            .mark_head(graph, maps, &mut self.walked, head, cutoff)
     }
 
-    /// Marks what another set has.
-    pub(crate) fn add_set(&mut self, other: &Marks) -> Result<(), NoMemory>
-        ensures ok { OnOk result (AddsAll self.old self.new other.now) }
-        ensures err { OnErr result (AddsSome self.old self.new other.now) }
+    /// Marks what is live from each of the heads, as `mark_root` does.
+    pub fn mark_heads(
+        &mut self,
+        graph: &Graph,
+        maps: &Maps,
+        heads: &[(Hash, Cutoff)],
+    ) -> Result<(), NoMemory>
+        requires maps { HaveMaps graph.now maps.now }
+        requires walked { HaveWalked graph.now self.old }
+        ensures ok { OnOk result
+            (AddsAll self.old.set self.new.set (live_from_all graph.now heads.now)) }
+        ensures err { OnErr result
+            (AddsSome self.old.set self.new.set (live_from_all graph.now heads.now)) }
+        ensures walked { OnOk result (HaveWalked graph.now self.new) }
     {
-        for hash in &other.set {
-            self.add(*hash)?;
-        }
-        Ok(())
+        self.set.mark_heads(graph, maps, &mut self.walked, heads)
+    }
+
+    /// Marks what roots keep live: what is visible at the commits that are kept of the chain of
+    /// each head, and the hashes themselves. Where memory runs out, a part of that may have been
+    /// marked, and something of it is not.
+    ///
+    /// Where nothing is marked yet, the heads are shared out among so many workers, each in a thread
+    /// of its own where one can be made, with a set of its own. What a worker finds no memory for is
+    /// marked here after it, so that want of memory for these sets alone is no failure. One worker
+    /// has neither.
+    pub fn mark_all<R: Threads + Sync>(
+        &mut self,
+        rt: &R,
+        alloc: Global,
+        graph: &Graph,
+        maps: &Maps,
+        roots: &Roots,
+        workers: u32,
+    ) -> Result<(), NoMemory>
+        requires maps { HaveMaps graph.now maps.now }
+        requires walked { HaveWalked graph.now self.old }
+        requires some { 1 ≤ workers }
+        requires few { workers ≤ 64 }
+        ensures ok { OnOk result (AddsAll self.old.set self.new.set (live_of graph.now roots.now)) }
+        ensures err { OnErr result
+            (AddsSome self.old.set self.new.set (live_of graph.now roots.now)) }
+        ensures walked { OnOk result (HaveWalked graph.now self.new) }
+    {
+        let heads = roots.heads.as_slice();
+        self.set.mark_shares(
+            rt,
+            alloc,
+            graph,
+            maps,
+            &mut self.walked,
+            heads,
+            workers as usize,
+        )?;
+        self.set.add_all(roots.hashes.as_slice())
     }
 }

@@ -8,7 +8,7 @@ ghost use Rattle.cat_mark.specs.Marks.{AddsAll, AddsSome, HaveMaps, hashes, live
 ghost use Rattle.cat_mark.specs.Walked.{AreMarked, AreWalked};
 
 use crate::chains::kept_parent;
-use crate::marks::Marks;
+use crate::hashes::Hashes;
 use crate::walked::Walked;
 use cat_codes::fault::NoMemory;
 use cat_graph::graph::Graph;
@@ -16,9 +16,8 @@ use cat_keymap::maps::Maps;
 use cat_model::commit::Commit;
 use cat_model::cutoff::Cutoff;
 use cat_names::hash::Hash;
-use std::alloc::Global;
 
-impl Marks {
+impl Hashes {
     /// Marks what a commit shows: nothing, where it was walked from; what its map has at the keys that
     /// it changes, where its parent was; and what that has at all keys otherwise.
     fn mark_last(
@@ -121,7 +120,7 @@ impl Marks {
     }
 
     /// Marks what is live from a head, and notes what was walked.
-    fn mark_head(
+    pub(crate) fn mark_head(
         &mut self,
         graph: &Graph,
         maps: &Maps,
@@ -145,48 +144,36 @@ impl Marks {
         Ok(())
     }
 
-    /// Marks what is visible at the commits that a cutoff keeps of the chain of a head, which is
-    /// nothing where the head is no commit's hash. Where memory runs out, a part of that may have
-    /// been marked, and something of it is not.
-    ///
-    /// It costs the map at the oldest of these commits, and one look-up for each change of the
-    /// others.
-    pub fn mark_root(
+    /// Marks what is live from each of the heads, and notes what was walked.
+    pub(crate) fn mark_heads(
         &mut self,
-        alloc: Global,
         graph: &Graph,
         maps: &Maps,
-        head: &Hash,
-        cutoff: &Cutoff,
-    ) -> Result<(), NoMemory>
-        requires { HaveMaps graph.now maps.now }
-        ensures ok { OnOk result
-            (AddsAll self.old self.new (live_from graph.now cutoff.now head.now)) }
-        ensures err { OnErr result
-            (AddsSome self.old self.new (live_from graph.now cutoff.now head.now)) }
-    {
-        let mut walked = Walked::new(alloc);
-        self.mark_head(graph, maps, &mut walked, head, cutoff)
-    }
-
-    /// Marks what is live from each of the heads, as `mark_root` does. A part of a chain that
-    /// was walked for another head with the same cutoff isn't walked again, and the map of a commit
-    /// whose parent was walked isn't either, but for the keys that the commit changes.
-    pub fn mark_heads(
-        &mut self,
-        alloc: Global,
-        graph: &Graph,
-        maps: &Maps,
+        walked: &mut Walked,
         heads: &[(Hash, Cutoff)],
     ) -> Result<(), NoMemory>
-        requires { HaveMaps graph.now maps.now }
+        requires maps { HaveMaps graph.now maps.now }
+        requires walked { AreWalked graph.now self.old walked.old }
         ensures ok { OnOk result (AddsAll self.old self.new (live_from_all graph.now heads.now)) }
         ensures err { OnErr result (AddsSome self.old self.new (live_from_all graph.now heads.now)) }
+        ensures walked { OnOk result (AreWalked graph.now self.new walked.new) }
     {
-        let mut walked = Walked::new(alloc);
         for (head, cutoff) in heads {
-            self.mark_head(graph, maps, &mut walked, head, cutoff)?;
+            self.mark_head(graph, maps, walked, head, cutoff)?;
         }
         Ok(())
+    }
+
+    /// Notes that heads were walked from, where what is live from each of them is marked.
+    pub(crate) fn note_heads(&self, graph: &Graph, walked: &mut Walked, heads: &[(Hash, Cutoff)])
+        requires marked { AreMarked self.now (live_from_all graph.now heads.now) }
+        requires walked { AreWalked graph.now self.now walked.old }
+        ensures { AreWalked graph.now self.now walked.new }
+    {
+        for (head, cutoff) in heads {
+            if let Some(commit) = graph.get(head) {
+                self.note_chain(graph, walked, head, commit, cutoff);
+            }
+        }
     }
 }

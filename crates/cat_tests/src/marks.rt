@@ -39,7 +39,7 @@ fn marked<R: Threads + Sync>(rt: &R, alloc: Global) -> Result<Marks, Fail> {
     let maps = Maps::new(alloc);
     let mut marks = Marks::empty(alloc);
     marks.add(hash(4))?;
-    marks.mark_root(alloc, &graph, &maps, &Hash::none(), &Cutoff::Commits(1))?;
+    marks.mark_root(&graph, &maps, &Hash::none(), &Cutoff::Commits(1))?;
     marks.mark_all(rt, alloc, &graph, &maps, &roots, 1)?;
     Ok(marks)
 }

@@ -4,6 +4,7 @@ ghost use Rattle.std.specs.Prelude.{◌≡◌, ◌≤◌, ◌<◌, ◌∷◌, �
 ghost use Rattle.sha2.specs.Sha256.{sha256};
 ghost use Rattle.cat_frames.specs.Entries.{is_logged};
 ghost use Rattle.cat_frames.specs.Sweeps.{sweep_is_logged};
+ghost use Rattle.cat_mark.specs.Walked.{HaveWalked};
 ghost use Rattle.cat_model.specs.Sweeps.{needs_sweep_room};
 ghost use Rattle.cat_state.specs.Adding.{IsAbove};
 ghost use Rattle.cat_state.specs.Kept.{IsUnrefused, Keeps};
@@ -67,11 +68,12 @@ impl Ledger {
 
     /// The hashes of the contents that neither marks nor roots keep.
     fn unmarked(&self, alloc: Global, marks: Marks, roots: &Roots) -> Result<Vec<Hash>, NoMemory>
+        requires { HaveWalked self.now.state.commits marks }
         ensures { IfOk result
-            (λ hashes. AreUnmarked self.now.state marks roots.now hashes.items) }
+            (λ hashes. AreUnmarked self.now.state marks.set roots.now hashes.items) }
     {
         let mut marks = marks;
-        mark_roots(&mut marks, alloc, self.catalogue(), roots)?;
+        mark_roots(&mut marks, self.catalogue(), roots)?;
         marks.unmarked(alloc, self.catalogue().contents())
     }
 
@@ -181,7 +183,8 @@ impl Ledger {
         roots: &Roots,
     ) -> Result<Told, Unmade>
         requires logged { IsTrue (sweep_is_logged (sweep_in closing)) }
-        requires marked { AreAllMarked self.old (sweep_in closing) marks roots.now }
+        requires marked { AreAllMarked self.old (sweep_in closing) marks.set roots.now }
+        requires walked { HaveWalked self.old.state.commits marks }
         requires up { K.down keeper.old ≡ None }
         requires kept { K.kept keeper.old ≡ self.old.state.place }
         ensures call { Runs (sweep_on closing.ticket.caller self.old moment (sweep_in closing))

@@ -1,5 +1,5 @@
 use Rattle.std.proofs.Common.{sym, ◌∙◌}
-use Rattle.cat_collect.proofs.Stages.{drained_on_marks, drained_spent, drained_still, left_spent}
+use Rattle.cat_collect.proofs.Stages.{drained_on_marks, drained_own, drained_spent, drained_still, drained_walked, left_spent}
 use Rattle.cat_collect.proofs.rounds.next_round.Goals as goal
 
 pub returns-in_default-clause-goes : goal.returns-in_default-clause-goes
@@ -9,9 +9,15 @@ pub returns-then-is_nothing-clause-goes : goal.returns-then-is_nothing-clause-go
 returns-then-is_nothing-clause-goes g c =
     drained_still g.row.K.Denot c.args.desk.now c.args.pass.now c.drain.new.pass c.args.marking.sweep c.args.marking.marks c.in-Ok.roots c.in-Ok.view c.requires.holds c.in-Ok.ensures.kept c.in-Ok.ensures.legal c.in-Ok.ensures.drained (sym c.is_nothing.ensures ∙ c.if-is_nothing.true)
 
+pub mark-requires-clause-walked : goal.mark-requires-clause-walked
+mark-requires-clause-walked g c κs within = drained_walked g.row.K.Denot c.args.desk.now c.args.pass.now c.drain.new.pass c.args.marking.sweep c.args.marking.marks c.in-Ok.roots c.in-Ok.view c.requires.holds c.in-Ok.ensures.kept c.in-Ok.ensures.drained
+
+pub give_up-requires-in-Err-clause-own : goal.give_up-requires-in-Err-clause-own
+give_up-requires-in-Err-clause-own g c κs within = drained_own g.row.K.Denot c.args.desk.now c.args.pass.now c.drain.new.pass c.args.marking.sweep c.args.marking.marks c.in-Ok.roots c.in-Ok.view c.requires.holds c.in-Ok.ensures.kept c.in-Ok.ensures.drained
+
 pub returns-in-Ok-mark-clause-goes : goal.returns-in-Ok-mark-clause-goes
 returns-in-Ok-mark-clause-goes g c =
-    drained_on_marks g.row.K.Denot c.args.desk.now c.args.pass.now c.drain.new.pass c.args.marking.sweep c.args.marking.marks c.mark.new.marks c.in-Ok.roots c.in-Ok.view c.requires.holds c.in-Ok.ensures.kept c.in-Ok.ensures.legal c.in-Ok.ensures.drained c.in-Ok-mark.ensures
+    drained_on_marks g.row.K.Denot c.args.desk.now c.args.pass.now c.drain.new.pass c.args.marking.sweep c.args.marking.marks c.mark.new.marks c.in-Ok.roots c.in-Ok.view c.requires.holds c.in-Ok.ensures.kept c.in-Ok.ensures.legal c.in-Ok.ensures.drained c.in-Ok-mark.ensures.adds c.in-Ok-mark.ensures.walked
 
 pub returns-in-Err-clause-goes : goal.returns-in-Err-clause-goes
 returns-in-Err-clause-goes g c =

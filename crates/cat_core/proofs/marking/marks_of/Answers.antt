@@ -11,6 +11,9 @@ pub returns : goal.returns
 returns c hash =
     let commits = c.args.catalogue.now.commits in
     c.in_ok-mark_roots.ensures hash
-    ∙ ap (λ (l : List Hash). is_marked l hash || is_among (live_of commits c.in_ok-roots.roots) hash) c.empty-marks.ensures
+    ∙ ap (λ (l : List Hash). is_marked l hash || is_among (live_of commits c.in_ok-roots.roots) hash) c.empty-marks.ensures.none
     ∙ ap (λ (r : Roots). is_among (live_of commits r) hash) (c.in_ok-roots.ensures ∙ (λ i. roots_taken c.args.sweep.now.policy (c.references.ensures.list i) (slice_is c.args.taken.now c.args.sweep.now.opened i) (record { commits = c.as_slice.ensures i; contents = c.as_slice-2.ensures i })))
     ∙ keeps_rooted c.args.catalogue.now c.args.taken.now c.args.sweep.now hash
+
+pub mark_roots-requires : goal.mark_roots-requires
+mark_roots-requires c = c.empty-marks.ensures.walked c.args.catalogue.now.commits

@@ -6,12 +6,15 @@ use Rattle.cat_core.proofs.Lasting.{holding_made, sweep_on_spares, told_inside}
 use Rattle.cat_core.proofs.Making.{all_told, down_none, up_inside}
 use Rattle.cat_core.proofs.Removing.{sweep_brings, sweep_right}
 use Rattle.cat_core.proofs.Standing.{stands}
-use Rattle.cat_core.proofs.UnderWay.{headed_inside, may_inside, marked_inside, swept_made}
+use Rattle.cat_core.proofs.UnderWay.{headed_inside, may_inside, marked_inside, swept_made, walked_inside}
 use Rattle.cat_core.proofs.Waiting.{none_of_none}
 use Rattle.cat_core.proofs.store.Store.collect.Goals as goal
 
 pub collect-made-requires-clause-marked : goal.collect-made-requires-clause-marked
-collect-made-requires-clause-marked g c κs within = marked_inside _ _ c.self.view_is (sweep_in c.args.closing) c.args.marks c.args.roots.now c.requires.marked
+collect-made-requires-clause-marked g c κs within = marked_inside _ _ c.self.view_is (sweep_in c.args.closing) c.args.marks.set c.args.roots.now c.requires.marked
+
+pub collect-made-requires-clause-walked : goal.collect-made-requires-clause-walked
+collect-made-requires-clause-walked g c κs within = walked_inside _ _ c.self.view_is c.args.marks c.requires.walked
 
 pub collect-made-requires-clause-up : goal.collect-made-requires-clause-up
 collect-made-requires-clause-up g c κs within =

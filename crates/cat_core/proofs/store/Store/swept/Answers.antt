@@ -1,5 +1,5 @@
 use Rattle.std.proofs.Common.{refl, rules}
-use Rattle.cat_core.proofs.Ending.{drops_it, closes_it, ended_down, ended_made, ended_short, logged_it, marked_it, may_it, up_it}
+use Rattle.cat_core.proofs.Ending.{drops_it, closes_it, ended_down, ended_made, ended_short, logged_it, marked_it, may_it, up_it, walked_it}
 use Rattle.cat_core.proofs.Lasting.{told_it}
 use Rattle.cat_core.proofs.Making.{up_seen}
 use Rattle.cat_core.proofs.store.Store.swept.Goals as goal
@@ -44,4 +44,8 @@ collect-requires-clause-told g c κs within =
 pub collect-requires-clause-marked : goal.collect-requires-clause-marked
 collect-requires-clause-marked g c κs within =
     let o = c.requires.is_open.0 in
-    marked_it c.args.self.now c.shut-closing.new.self o c.shut-closing.result c.requires.is_open.1 c.shut-closing.ensures.closing c.shut-closing.ensures.shut c.args.marks c.in-Ok.roots (c.requires.marks o c.requires.is_open.1) (search rules)
+    marked_it c.args.self.now c.shut-closing.new.self o c.shut-closing.result c.requires.is_open.1 c.shut-closing.ensures.closing c.shut-closing.ensures.shut c.args.marks.set c.in-Ok.roots (c.requires.marks o c.requires.is_open.1) (search rules)
+
+pub collect-requires-clause-walked : goal.collect-requires-clause-walked
+collect-requires-clause-walked g c κs within =
+    walked_it c.args.self.now c.shut-closing.new.self c.requires.is_open.0 c.shut-closing.result c.requires.is_open.1 c.shut-closing.ensures.closing c.shut-closing.ensures.shut c.args.marks c.requires.walked

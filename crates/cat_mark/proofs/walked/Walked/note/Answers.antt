@@ -1,4 +1,4 @@
-use Rattle.std.proofs.Common.{◌≡◌, List, Some, cond, ap, ◌∙◌}
+use Rattle.std.proofs.Common.{List, Some, cond, ap, ◌∙◌}
 use Rattle.cat_names.specs.declared.hash.Hash.{Hash}
 use Rattle.cat_model.specs.Same.{same_hash}
 use Rattle.cat_mark.specs.Walked.{Step, step_of}

@@ -1,0 +1,5 @@
+use Rattle.cat_mark.proofs.Marking.{IsUnder}
+use Rattle.cat_mark.proofs.hashes.Hashes.add_set.Given as goal
+
+abbrev pub invariant-loop-hash : goal.invariant-loop-hash
+invariant-loop-hash l = IsUnder l.fn.self l.self l.hash-iterator l.other

@@ -1,5 +1,0 @@
-use Rattle.cat_mark.proofs.Marking.{IsUnder}
-use Rattle.cat_mark.proofs.marks.Marks.add_set.Given as goal
-
-abbrev pub invariant-loop-hash : goal.invariant-loop-hash
-invariant-loop-hash l = IsUnder l.fn.self l.self l.hash-iterator l.other
