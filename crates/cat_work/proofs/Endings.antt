@@ -12,6 +12,7 @@ use Rattle.cat_core.specs.Noting.{and_names, noting}
 use Rattle.cat_core.specs.Stored as stored
 use Rattle.cat_core.specs.Stored.{Stored, log_of}
 use Rattle.cat_core.specs.declared.draft.Draft.{Draft}
+use Rattle.cat_core.specs.declared.draft.Settled.TheVariants as settled
 use Rattle.cat_desk.specs.Log.{Follows}
 use Rattle.cat_desk.specs.LogLaws.{follows_on}
 use Rattle.cat_desk.specs.Pass.{DeskId, Keeps, all_left_by, known, left_by, mark_of, number_of, seen, spare_of, stands_for}
@@ -33,12 +34,12 @@ use Rattle.cat_model.specs.TurnLaws.{grows_on, nothing_stays}
 use Rattle.cat_work.specs.declared.trying.Trying.{Trying}
 use Rattle.cat_work.specs.Answers.{Answers, AnswersAlone, Causes, IsDraftAbove, RefusesAlone, Spends}
 use Rattle.cat_work.specs.Passes.{IsAlone, book_of, state_of}
-use Rattle.cat_work.specs.Turns.{Begins, Comes, Ends, EndsLast, Going, IsSpent, Moves, StoodAlone, Trail, Tries, Turned, out_of_memory}
+use Rattle.cat_work.specs.Turns.{Begins, Comes, Ends, EndsLast, Going, IsSpent, Moves, SettlesAndTells, StoodAlone, Trail, Tries, Turned, out_of_memory}
 use Rattle.cat_work.proofs.Callings.{Brings, called_alone, made_brings, made_draft, may_pass}
 use Rattle.cat_work.proofs.Opened.{drafts_more, drafts_one, none_but, none_left}
 use Rattle.cat_work.proofs.Openings.{may_room}
 use Rattle.cat_work.proofs.Telling.{AloneAt, Found, Left, Numbered, alone_err, alone_ok, answers_ok, book_found, causes, faults_same, follows_same, given_up_alone, gone_in_draft, grew_in, left_by_turn, refused_alone, stays_expired}
-use Rattle.cat_work.proofs.Trails.{built_on, one_head, place_at, trail_next, trail_start}
+use Rattle.cat_work.proofs.Trails.{built_on, one_head, opened_within, place_at, trail_next, trail_start}
 
 -- ---- what is open of the caller
 
@@ -286,9 +287,9 @@ spared desk n moment attempts k c first next s s' r found left book fault is =
     subst (λ (x : Refused). Answers desk n c moment attempts k (mark_of first) (mark_of next) (seen first) (seen next) (Err x)) (sym is)
     (follows_same desk n first next s s' found left book, (refl, faults_same desk n first next s s' found left fault))
 
-settled_answers : {K : Type 0} (desk : DeskId) (c : Command) (first present next : Pass) (t : Trying) (attempts number moment : ℕ) (s s' : Stored K) (r : Result Told Refused) → opens_draft c ≡ true → Going desk c first present t attempts number → Turned desk present next s s'
+settled_answers : {K : Type 0} (desk : DeskId) (c : Command) (first present next : Pass) (t : Trying) (attempts number moment : ℕ) (s s' : Stored K) (r : Result Told Refused) → opens_draft c ≡ true → Going desk c first present t attempts number → IsLegalFrom desk.opened (seen next) → Turned desk present next s s'
     → Ends s t.draft t.view moment r s' → Answers desk (number_of first) c moment attempts (known first) (mark_of first) (mark_of next) (seen first) (seen next) r
-settled_answers {K} desk c first present next t attempts number moment s s' r opens g turn ends = by_result r ends
+settled_answers {K} desk c first present next t attempts number moment s s' r opens g legal turn ends = by_result r ends
   where
     d : Draft
     d = t.draft
@@ -314,18 +315,23 @@ settled_answers {K} desk c first present next t attempts number moment s s' r op
       number = λ _. had_number (mark_of first).draft t.draft.number desk.opened.state.limits.drafts g.newer g.within;
     }
 
-    by_cause : (e : Refused) → IsGoneIn (called_in s t.draft moment) s t.draft e e.why s' ⊎ IsOtherIn (called_in s t.draft moment) s t.draft e e.why s'
+    opened_by : (e : Refused) → Expires (called_in s t.draft moment) s t.draft e s' → t.draft.place ≤ s.book.state.place
+    opened_by e x =
+        let log : seen next ≡ log_of s = left.seen_is ∙ ap (λ (y : Stored K). log_of y) x.after in
+        subst (λ (y : State). t.draft.place ≤ y.place) turn.led (opened_within desk (command_in t.draft) (number_of present) t.draft.place (seen present) (log_of s) t.pairs.items g.tries.trail turn.follows (subst (IsLegalFrom desk.opened) log legal))
+
+    by_cause : (e : Refused) (built : Built) → SettlesAndTells s t.draft built moment (settled.Refused e) s' → IsGoneIn (called_in s t.draft moment) s t.draft e e.why s' ⊎ IsOtherIn (called_in s t.draft moment) s t.draft e e.why s'
         → Follows t.draft.caller (seen first) (seen next) × Causes desk t.draft.caller (command_in t.draft) moment attempts (known first) (mark_of first) (mark_of next) (seen next) e.place e.why
-    by_cause e (inl x) = subst (λ (why : Refusal). Follows t.draft.caller (seen first) (seen next) × Causes desk t.draft.caller (command_in t.draft) moment attempts (known first) (mark_of first) (mark_of next) (seen next) e.place why) (sym x.is)
-        (gone_in_draft desk moment attempts (known first) t.draft first next s s' e x.keys x.opened opens_own own left numbered g.known_then x.is x.expires)
-    by_cause e (inr x) = causes desk t.draft.caller t.draft.number moment attempts (known first) (command_in t.draft) first next s s' (called_in s t.draft moment) e (closed s t.draft) e.why own left brings numbered
+    by_cause e built h (inl x) = subst (λ (why : Refusal). Follows t.draft.caller (seen first) (seen next) × Causes desk t.draft.caller (command_in t.draft) moment attempts (known first) (mark_of first) (mark_of next) (seen next) e.place why) (sym x.is)
+        (gone_in_draft desk moment attempts (known first) t.draft first next s s' e x.keys x.opened opens_own own left numbered g.known_then x.is x.expires built h.0.0 h.1 (opened_by e x.expires))
+    by_cause e built h (inr x) = causes desk t.draft.caller t.draft.number moment attempts (known first) (command_in t.draft) first next s s' (called_in s t.draft moment) e (closed s t.draft) e.why own left brings numbered
         (λ keys opened gone refused. not_gone e.why keys opened x.other gone) refl x.refuses
 
     by_result : (x : Result Told Refused) → Ends s t.draft t.view moment x s' → Answers desk (number_of first) c moment attempts (known first) (mark_of first) (mark_of next) (seen first) (seen next) x
     by_result (Ok told) h = as_asked desk (number_of first) t.draft.caller moment attempts (known first) c (command_in t.draft) (mark_of first) (mark_of next) (seen first) (seen next) (Ok told) (caller_was g) g.command_is
-        (answers_ok desk t.draft.caller t.draft.number moment attempts (known first) (command_in t.draft) first next s s' (called_in s t.draft moment) told (closed s t.draft) own left brings numbered h.2.1)
+        (answers_ok desk t.draft.caller t.draft.number moment attempts (known first) (command_in t.draft) first next s s' (called_in s t.draft moment) told (closed s t.draft) own left brings numbered h.2.0.1)
     by_result (Err e) (inl h) = as_asked desk (number_of first) t.draft.caller moment attempts (known first) c (command_in t.draft) (mark_of first) (mark_of next) (seen first) (seen next) (Err e) (caller_was g) g.command_is
-        (by_cause e (by_draft (called_in s t.draft moment) s t.draft e e.why s' h.2.1))
+        (by_cause e h.0 h.2 (by_draft (called_in s t.draft moment) s t.draft e e.why s' h.2.0.1))
     by_result (Err e) (inr h) = spared desk (number_of first) moment attempts (known first) c first next s s' e found left (ap (λ (x : Stored K). x.book) h.1) (ap (λ (x : Stored K). x.mark.fault) h.1) h.0
 
 -- ---- nothing is left open
@@ -359,8 +365,8 @@ closed_then : {K : Type 0} (desk : DeskId) (p q : Pass) (s s' : Stored K) (d : D
 closed_then desk p q s s' d left caller turn left_open = turn.left ∙ (ap (λ (o : Open). open_of (number_of p) o) left_open ∙ none_open (number_of p) (open_draft_of d) (stored.open_of s) caller (found_open desk p q s s' d left turn))
 
 ends_closed : {K : Type 0} (s s' : Stored K) (d : Draft) (view : State) (moment : ℕ) (r : Result Told Refused) → Ends s d view moment r s' → (stored.open_of s') ≡ closed s d
-ends_closed {K} s s' d view moment (Ok told) h = ap (λ (x : Stored K). (stored.open_of x)) h.2.1.after
-ends_closed s s' d view moment (Err e) (inl h) = draft_open (called_in s d moment) s d e e.why s' (by_draft (called_in s d moment) s d e e.why s' h.2.1)
+ends_closed {K} s s' d view moment (Ok told) h = ap (λ (x : Stored K). (stored.open_of x)) h.2.0.1.after
+ends_closed s s' d view moment (Err e) (inl h) = draft_open (called_in s d moment) s d e e.why s' (by_draft (called_in s d moment) s d e e.why s' h.2.0.1)
 ends_closed {K} s s' d view moment (Err e) (inr h) = ap (λ (x : Stored K). (stored.open_of x)) h.1
 
 -- ---- on the only pass
@@ -423,17 +429,17 @@ settled_alone {K} desk c first present next t attempts number moment s s' r open
     by_cause e (inr x) = alone_err desk t.draft.caller t.draft.number moment (command_in t.draft) next s s' (called_in s t.draft moment) (book_of desk first) (mark_of first).fault e (closed s t.draft) e.why both.0 left brings refl x.refuses
 
     by_result : (x : Result Told Refused) → Ends s t.draft t.view moment x s' → AnswersAlone t.draft.caller (called_in s t.draft moment) (book_of desk first) (book_of desk next) (mark_of first).fault (mark_of next).fault x
-    by_result (Ok told) h = alone_ok desk t.draft.caller next s s' (called_in s t.draft moment) (book_of desk first) (mark_of first).fault told (closed s t.draft) both.0 left h.2.1
-    by_result (Err e) (inl h) = by_cause e (by_draft (called_in s t.draft moment) s t.draft e e.why s' h.2.1)
+    by_result (Ok told) h = alone_ok desk t.draft.caller next s s' (called_in s t.draft moment) (book_of desk first) (mark_of first).fault told (closed s t.draft) both.0 left h.2.0.1
+    by_result (Err e) (inl h) = by_cause e (by_draft (called_in s t.draft moment) s t.draft e e.why s' h.2.0.1)
     by_result (Err e) (inr h) = subst (λ (x : Refused). RefusesAlone t.draft.caller (called_in s t.draft moment) (book_of desk first) (book_of desk next) (mark_of first).fault (mark_of next).fault x x.why) (sym h.0)
         (given_up_alone desk t.draft.caller next s s' (called_in s t.draft moment) (book_of desk first) (mark_of first).fault out_of_memory both.0 left (ap (λ (x : Stored K). x.book) h.1) (ap (λ (x : Stored K). x.mark.fault) h.1) refl)
 
-pub comes_early : {K : Type 0} (desk : DeskId) (c : Command) (first present next : Pass) (t : Trying) (attempts number moment : ℕ) (s s' : Stored K) (r : Result Told Refused) → opens_draft c ≡ true → Going desk c first present t attempts number → Turned desk present next s s'
+pub comes_early : {K : Type 0} (desk : DeskId) (c : Command) (first present next : Pass) (t : Trying) (attempts number moment : ℕ) (s s' : Stored K) (r : Result Told Refused) → opens_draft c ≡ true → Going desk c first present t attempts number → IsLegalFrom desk.opened (seen next) → Turned desk present next s s'
     → Ends s t.draft t.view moment r s' → Comes desk c first next attempts moment r
-comes_early desk c first present next t attempts number moment s s' r opens g turn ends = record {
+comes_early desk c first present next t attempts number moment s s' r opens g legal turn ends = record {
   none = closed_then desk present next s s' t.draft g.tries.left_is g.tries.caller turn (ends_closed s s' t.draft t.view moment r ends);
   grows = grown desk c first present next t attempts number s s' g turn;
-  answers = settled_answers desk c first present next t attempts number moment s s' r opens g turn ends;
+  answers = settled_answers desk c first present next t attempts number moment s s' r opens g legal turn ends;
   alone = settled_alone desk c first present next t attempts number moment s s' r opens g turn ends;
   rests = closed_alone desk c first present next t attempts number s s' g turn (ends_closed s s' t.draft t.view moment r ends);
 }
@@ -487,7 +493,7 @@ spent_comes {K} desk c first present next t attempts moment s s' built r opens g
 
 pub comes_late : {K : Type 0} (desk : DeskId) (c : Command) (first present next : Pass) (t : Trying) (attempts moment : ℕ) (s s' : Stored K) (r : Result Told Refused) → opens_draft c ≡ true → Going desk c first present t attempts attempts → IsLegalFrom desk.opened (seen next)
     → Turned desk present next s s' → EndsLast s t.draft t.view t.pairs.items moment r s' → Comes desk c first next attempts moment r
-comes_late desk c first present next t attempts moment s s' (Ok told) opens g legal turn h = comes_early desk c first present next t attempts attempts moment s s' (Ok told) opens g turn h
-comes_late desk c first present next t attempts moment s s' (Err r) opens g legal turn (inl h) = comes_early desk c first present next t attempts attempts moment s s' (Err r) opens g turn (inl h)
+comes_late desk c first present next t attempts moment s s' (Ok told) opens g legal turn h = comes_early desk c first present next t attempts attempts moment s s' (Ok told) opens g legal turn h
+comes_late desk c first present next t attempts moment s s' (Err r) opens g legal turn (inl h) = comes_early desk c first present next t attempts attempts moment s s' (Err r) opens g legal turn (inl h)
 comes_late desk c first present next t attempts moment s s' (Err r) opens g legal turn (inr (inl h)) = spent_comes desk c first present next t attempts moment s s' h.0 r opens g legal turn h.1 h.2
-comes_late desk c first present next t attempts moment s s' (Err r) opens g legal turn (inr (inr h)) = comes_early desk c first present next t attempts attempts moment s s' (Err r) opens g turn (inr h)
+comes_late desk c first present next t attempts moment s s' (Err r) opens g legal turn (inr (inr h)) = comes_early desk c first present next t attempts attempts moment s s' (Err r) opens g legal turn (inr h)

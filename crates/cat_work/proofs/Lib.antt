@@ -1,5 +1,6 @@
 mod Steps
 mod Expiring
+mod Since
 mod Openings
 mod Callings
 mod Spent

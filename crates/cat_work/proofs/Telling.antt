@@ -3,9 +3,12 @@ use Rattle.std.proofs.Common.{◌≡◌, ◌≤◌, ◌⊎◌, inl, inr, ℕ, �
 use Rattle.std.proofs.lemmas.List.{reverse-append, reverse-reverse}
 use Rattle.sha2.specs.Sha256.{sha256}
 use Rattle.cat_names.specs.Fields.{Key}
-use Rattle.cat_core.specs.Drafts.{Does, Expires, IsRefused, Refuses, called_in, command_in}
+use Rattle.cat_decisions.specs.declared.building.Built.{Built}
+use Rattle.cat_core.specs.Drafts.{Does, Expires, IsRefused, IsSettledOn, Refuses, called_in, command_in}
+use Rattle.cat_core.specs.Gone.{TellsGone}
 use Rattle.cat_core.specs.Stored.{Stored, log_of}
 use Rattle.cat_core.specs.declared.draft.Draft.{Draft}
+use Rattle.cat_core.specs.declared.draft.Settled.TheVariants as settled
 use Rattle.cat_desk.specs.Log.{Follows}
 use Rattle.cat_desk.specs.Pass.{DeskId, mark_of, seen}
 use Rattle.cat_desk.specs.declared.pass.Pass.{Pass}
@@ -32,6 +35,7 @@ use Rattle.cat_work.specs.Turns.{Turned}
 pub use Rattle.cat_work.specs.TurnLaws.{Left, book_found, grew_in, left_by_turn}
 use Rattle.cat_work.proofs.Callings.{Brings, Entering, IsGone, Telling, call_gone, draft_gone, entry_draft_is, entry_is, refused_is, told_is, undrafted}
 use Rattle.cat_work.proofs.Expiring.{gone_at_draft, gone_at_state}
+use Rattle.cat_work.proofs.Since.{AreGoneIn, gone_after, gone_in, stood_at}
 use Rattle.cat_core.specs.PlainLaws.{IsUsual, IsUsualCause}
 use Rattle.cat_core.specs.UsualLaws.{usual_step}
 
@@ -170,9 +174,9 @@ refused_here {K} desk n draft moment c first next s s' called r left_open why fo
 
 -- contents are gone
 gone_here : {K : Type 0} (desk : DeskId) (n draft opened moment attempts k : ℕ) (c : Command) (first next : Pass) (s s' : Stored K) (called : Called) (r : Refused) (keys : List Key) → Found desk n first s → Left desk next s' → Numbered desk c first draft → Stays called s r s'
-    → IsGone s.book.state c (record { draft = draft; opened = opened; moment = moment }) r.place keys opened → desk.opened.state.place + k ≤ opened → BeganAt n (opens_draft c) s.book.state.place s'.mark draft opened
+    → IsGone s.book.state c (record { draft = draft; opened = opened; moment = moment }) r.place keys opened → desk.opened.state.place + k ≤ opened → BeganAt n (opens_draft c) s.book.state.place s'.mark draft opened → (opens_draft c ≡ true → AreGoneIn s.book c opened keys)
     → Follows n (seen first) (seen next) × Causes desk n c moment attempts k (mark_of first) (mark_of next) (seen next) r.place (refusals.Expired keys opened)
-gone_here desk n draft opened moment attempts k c first next s s' called r keys found left numbered stays gone known began =
+gone_here desk n draft opened moment attempts k c first next s s' called r keys found left numbered stays gone known began since =
     let state = state_same desk next s s' left stays.book in (
       follows_same desk n first next s s' found left stays.book,
       (
@@ -186,6 +190,7 @@ gone_here desk n draft opened moment attempts k c first next s s' called r keys 
           is = ap (λ (x : State). step sha256 x c (record { draft = draft; opened = opened; moment = moment })) state ∙ gone.is;
           known = known;
           began = subst (λ (z : State × Mark). BeganAt n (opens_draft c) z.0.place z.1 draft opened) (λ i. (sym state i, sym left.mark_is i)) began;
+          gone = λ opens. gone_after desk (seen next) s.book c opened keys (stood_at desk next s s' left stays.book) (since opens);
         },
       ),
     )
@@ -201,12 +206,13 @@ gone_at_once desk n moment attempts k c first next s s' r left_open keys opened 
     (subst (λ (place : ℕ). IsGone s.book.state c (record { draft = 0; opened = place; moment = moment }) r.place keys opened) (sym there) is)
     (subst (λ (place : ℕ). desk.opened.state.place + k ≤ place) (sym there) known)
     (subst (λ (b : Bool). BeganAt n b s.book.state.place s'.mark 0 opened) (sym opens) there)
+    (λ yes. absurd (let wrong : false ≡ true = sym opens ∙ yes in cc))
 
 -- that a draft would set
 pub gone_in_draft : {K : Type 0} (desk : DeskId) (moment attempts k : ℕ) (d : Draft) (first next : Pass) (s s' : Stored K) (r : Refused) (keys : List Key) (opened : ℕ) → opens_draft (command_in d) ≡ true → Found desk d.caller first s → Left desk next s' → Numbered desk (command_in d) first d.number
-    → desk.opened.state.place + k ≤ d.place → r.why ≡ refusals.Expired keys opened → Expires (called_in s d moment) s d r s'
+    → desk.opened.state.place + k ≤ d.place → r.why ≡ refusals.Expired keys opened → Expires (called_in s d moment) s d r s' → (built : Built) → IsSettledOn s d built r → TellsGone s d built.head (settled.Refused r) → d.place ≤ s.book.state.place
     → Follows d.caller (seen first) (seen next) × Causes desk d.caller (command_in d) moment attempts k (mark_of first) (mark_of next) (seen next) r.place (refusals.Expired keys opened)
-gone_in_draft {K} desk moment attempts k d first next s s' r keys opened opens found left numbered known gone refused =
+gone_in_draft {K} desk moment attempts k d first next s s' r keys opened opens found left numbered known gone refused built on tells early =
     let is = draft_gone d.caller moment d.number d.place s.book (command_in d) r keys opened gone refused.said in
     let there : opened ≡ d.place = gone_at_draft s.book.state (command_in d) (record { draft = d.number; opened = d.place; moment = moment }) keys opened opens is.is in
     let told : s'.mark.expired ≡ Some (record { number = d.number; caller = d.caller; place = opened }) = ap (λ (x : Stored K). x.mark.expired) refused.after ∙ (λ i. Some (record { number = d.number; caller = d.caller; place = sym there i })) in
@@ -214,6 +220,7 @@ gone_in_draft {K} desk moment attempts k d first next s s' r keys opened opens f
     (subst (λ (place : ℕ). IsGone s.book.state (command_in d) (record { draft = d.number; opened = place; moment = moment }) r.place keys opened) (sym there) is)
     (subst (λ (place : ℕ). desk.opened.state.place + k ≤ place) (sym there) known)
     (subst (λ (b : Bool). BeganAt d.caller b s.book.state.place s'.mark d.number opened) (sym opens) told)
+    (λ _. gone_in s d built r keys opened refused.up is.passes gone on tells early)
 
 -- no step refuses so
 never : {A : Type 0} (draft : ℕ) (state : State) (c : Command) (moment : ℕ) (why : Refusal) → (IsUsualCause why → ⊥) → ComesToIn draft state c moment (Err why) → A

@@ -26,7 +26,7 @@ use Rattle.cat_decisions.specs.OpenedLaws.{merge_opened, transplant_opened}
 use Rattle.cat_work.specs.Answers.{AreHeadsAt, Climbs, IsHeadAt, Rises, first_place}
 use Rattle.cat_work.specs.Passes.{state_of}
 use Rattle.cat_work.specs.Turns.{Trail}
-use Rattle.cat_work.specs.TurnLaws.{legal_before}
+use Rattle.cat_work.specs.TurnLaws.{follows_length, legal_before}
 pub use Rattle.cat_work.specs.TurnLaws.{goes_later, place_at}
 
 -- ---- heads
@@ -113,3 +113,21 @@ trail_next desk c n first l m pairs head t f legal moved has =
       at = at_more desk c m pairs next (at_later desk c l f.0 m pairs f.1 t.at) (here desk c m head legal has);
       begins = ap (λ (x : List (ℕ × Hash)). first_place (x ++ next ∷ [])) t.last ∙ (first_more t.front (next ∷ []) last ∙ (ap first_place (sym t.last) ∙ t.begins));
     }
+
+-- ---- the first of them
+
+first_within : (desk : DeskId) (c : Command) (log : List LogEntry) (first : ℕ) (pairs : List (ℕ × Hash)) → AreHeadsAt desk c log pairs → first_place pairs ≡ first → first ≤ desk.opened.state.place + length log
+first_within desk c log first [] at begins = let zero_is : 0 ≡ first = begins in omega arith
+first_within desk c log first (pair ∷ pairs) at begins =
+    let same : pair.0 ≡ first = begins in
+    let place : pair.0 ≡ desk.opened.state.place + at.0.entries = at.0.place in
+    let le : at.0.entries ≤ length log = at.0.within in
+    omega arith
+
+-- it isn't after the end of a log that goes on
+pub opened_within : (desk : DeskId) (c : Command) (n first : ℕ) (l m : List LogEntry) (pairs : List (ℕ × Hash)) → Trail desk c l first pairs → Follows n l m → IsLegalFrom desk.opened m → first ≤ (state_of desk m).place
+opened_within desk c n first l m pairs t f legal =
+    let early : first ≤ desk.opened.state.place + length l = first_within desk c l first pairs t.at t.begins in
+    let longer : length l ≤ length m = follows_length n l m f in
+    let place : (state_of desk m).place ≡ desk.opened.state.place + length m = place_at desk m legal in
+    omega arith

@@ -3,12 +3,15 @@ use Rattle.std.specs.Prelude.{◌≡◌, ◌≢◌, ◌⊎◌, ◌<◌, ◌≤�
 use Rattle.sha2.specs.Sha256.{sha256}
 use Rattle.cat_names.specs.Fields.{Key}
 use Rattle.cat_names.specs.declared.hash.Hash.{Hash}
+use Rattle.cat_checks.specs.Histories.{book_at}
 use Rattle.cat_decisions.specs.Builds.{HasHead}
 use Rattle.cat_desk.specs.Log.{Follows}
 use Rattle.cat_io.specs.Clocks.{Ticks}
 use Rattle.cat_desk.specs.Pass.{DeskId, all_left_by, known, mark_of, number_of, seen}
 use Rattle.cat_desk.specs.declared.pass.Pass.{Pass}
 use Rattle.cat_state.specs.Kept.{spelling}
+use Rattle.cat_core.specs.Gone.{never_held, set_upon}
+use Rattle.cat_core.specs.Lasting.{states_since}
 use Rattle.cat_core.specs.Making.{IsNotKept}
 use Rattle.cat_model.specs.declared.command.Command.{Command}
 use Rattle.cat_model.specs.declared.limits.Quantity.{Quantity}
@@ -23,6 +26,7 @@ use Rattle.cat_model.specs.declared.reply.Told.{Told}
 use Rattle.cat_model.specs.Book.{Book, IsCalled, IsGivenUp, call_on}
 use Rattle.cat_model.specs.Calls.{Called, entry_made}
 use Rattle.cat_model.specs.Drafts.{nothing_open}
+use Rattle.cat_model.specs.KeySets.{key_set}
 use Rattle.cat_model.specs.Mark.{FailedAppend, Mark}
 use Rattle.cat_model.specs.Refusing.{Outcome}
 use Rattle.cat_model.specs.State.{State}
@@ -135,7 +139,14 @@ abbrev pub BeganAt : ℕ → Bool → ℕ → Mark → ℕ → ℕ → Type 0
 BeganAt n false place after draft opened = opened ≡ place
 BeganAt n true place after draft opened = after.expired ≡ Some (record { number = draft; caller = n; place = opened })
 
--- contents are gone that the call would set or show: its step says so, in a draft of its own, with the keys and the place at which it began, which is no less than was known
+-- of the entries that a call sets upon its branch's head after this log, the keys are just those whose content is in none of the states that the log leads through from a place on, which isn't after its end
+pub record AreGoneSince (desk : DeskId) (c : Command) (m : List LogEntry) (place : ℕ) (keys : List Key) : Type 0 where
+  pub within : place ≤ (state_of desk m).place
+  pub head : Hash
+  pub has : HasHead (state_of desk m) c head
+  pub never : keys ≡ key_set (never_held (states_since (book_at desk.opened m) place) (set_upon (state_of desk m) c head))
+
+-- contents are gone that the call would set or show: its step says so, in a draft of its own, with the keys and the place at which it began, which is no less than was known; those that a draft would set were there at no moment since
 pub record Expires (desk : DeskId) (n : ℕ) (c : Command) (moment k : ℕ) (before after : Mark) (m : List LogEntry) (keys : List Key) (opened : ℕ) : Type 0 where
   pub up : after.fault ≡ None
   pub passes : opening sha256 (state_of desk m) c ≡ Ok tt
@@ -145,6 +156,7 @@ pub record Expires (desk : DeskId) (n : ℕ) (c : Command) (moment k : ℕ) (bef
   pub is : step sha256 (state_of desk m) c (record { draft = draft; opened = opened; moment = moment }) ≡ Err (refusals.Expired keys opened)
   pub known : desk.opened.state.place + k ≤ opened
   pub began : BeganAt n (opens_draft c) (state_of desk m).place after draft opened
+  pub gone : opens_draft c ≡ true → AreGoneSince desk c m opened keys
 
 -- ---- attempts
 

@@ -5,6 +5,7 @@ use Rattle.cat_names.specs.declared.hash.Hash.{Hash}
 use Rattle.cat_decisions.specs.declared.building.Built.{Built}
 use Rattle.cat_decisions.specs.Builds.{HasHead, IsBuilt, IsGivenBy}
 use Rattle.cat_core.specs.Drafts.{IsMoved, IsOpening, NotOpened, Settles, command_in, dropping, may_open, open_draft_of}
+use Rattle.cat_core.specs.Gone.{TellsGone}
 use Rattle.cat_core.specs.Stored as stored
 use Rattle.cat_core.specs.Stored.{Stored, log_of, opened_of}
 use Rattle.cat_core.specs.declared.draft.Draft.{Draft}
@@ -74,9 +75,13 @@ Opens K desk c p q d view = (s : Stored K) × (s' : Stored K) × Turned desk p q
 abbrev pub OpensNone : (K : Type 0) → DeskId → Command → Pass → Pass → Refused → Type 0
 OpensNone K desk c p q r = (s : Stored K) × (s' : Stored K) × Turned desk p q s s' × (s' ≡ s) × NotOpened s c r r.why
 
+-- what settling a draft answers and leaves, and what it tells of contents that are gone
+abbrev pub SettlesAndTells : {K : Type 0} → Stored K → Draft → Built → ℕ → Settled → Stored K → Type 0
+SettlesAndTells s d built moment result s' = Settles s d built moment result s' × TellsGone s d built.head result
+
 -- a turn that settled a draft
 abbrev pub SettlesIn : (K : Type 0) → DeskId → Pass → Pass → Draft → Built → ℕ → Settled → Type 0
-SettlesIn K desk p q d built moment result = (s : Stored K) × (s' : Stored K) × Turned desk p q s s' × Settles s d built moment result s'
+SettlesIn K desk p q d built moment result = (s : Stored K) × (s' : Stored K) × Turned desk p q s s' × SettlesAndTells s d built moment result s'
 
 -- a turn that dropped a draft
 abbrev pub DropsIn : (K : Type 0) → DeskId → Pass → Pass → Draft → Type 0
@@ -109,7 +114,7 @@ pub record Tries (desk : DeskId) (p : Pass) (d : Draft) (view : State) (pairs : 
 
 -- what was built on a view was settled
 abbrev pub SettlesBuilt : {K : Type 0} → Stored K → Draft → State → ℕ → Settled → Stored K → Type 0
-SettlesBuilt s d view moment result s' = (built : Built) × IsBuilt view d.call built × Settles s d built moment result s'
+SettlesBuilt s d view moment result s' = (built : Built) × IsBuilt view d.call built × SettlesAndTells s d built moment result s'
 
 -- the draft was given up for want of memory
 abbrev pub GivesUp : {K : Type 0} → Stored K → Draft → Refused → Stored K → Type 0
@@ -149,8 +154,8 @@ pub record IsSpent {K : Type 0} (s : Stored K) (d : Draft) (built : Built) (pair
 
 -- a draft was settled, or dropped where the head has moved
 abbrev pub SettlesLast : {K : Type 0} → Stored K → Draft → Built → List (ℕ × Hash) → ℕ → Result Told Refused → Stored K → Type 0
-SettlesLast s d built pairs moment (Ok told) s' = Settles s d built moment (settled.Done told) s'
-SettlesLast s d built pairs moment (Err r) s' = Settles s d built moment (settled.Refused r) s' ⊎ IsSpent s d built pairs r s'
+SettlesLast s d built pairs moment (Ok told) s' = SettlesAndTells s d built moment (settled.Done told) s'
+SettlesLast s d built pairs moment (Err r) s' = SettlesAndTells s d built moment (settled.Refused r) s' ⊎ IsSpent s d built pairs r s'
 
 -- the last attempt
 abbrev pub EndsLast : {K : Type 0} → Stored K → Draft → State → List (ℕ × Hash) → ℕ → Result Told Refused → Stored K → Type 0

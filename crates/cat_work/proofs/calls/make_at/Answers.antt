@@ -23,7 +23,7 @@ returns-in-Ended-clause-known g c = knows_all c.args.pass.now c.attempt.new.pass
 
 pub returns-in-Ended-clause-comes : goal.returns-in-Ended-clause-comes
 returns-in-Ended-clause-comes g c = let x = c.in-Ended.ensures.tried in
-    comes_early c.args.desk.now c.args.command.now c.args.pass.now c.loop-number.pass c.attempt.new.pass c.loop-number.trying c.args.attempts c.loop-number.number c.args.moment x.0 x.1 c.in-Ended.answer c.requires.opens c.loop-number.invariant.0 x.2 x.3
+    comes_early c.args.desk.now c.args.command.now c.args.pass.now c.loop-number.pass c.attempt.new.pass c.loop-number.trying c.args.attempts c.loop-number.number c.args.moment x.0 x.1 c.in-Ended.answer c.requires.opens c.loop-number.invariant.0 c.in-Ended.ensures.legal x.2 x.3
 
 pub loop-number-preserved : goal.loop-number-preserved
 loop-number-preserved g c = let x = c.in-On.ensures.tried in (

@@ -3,7 +3,7 @@ use Rattle.cat_work.proofs.Spent.{spent}
 use Rattle.cat_work.proofs.finish.settle_or_drop.Goals as goal
 
 pub returns-in-Refused-clause-settles : goal.returns-in-Refused-clause-settles
-returns-in-Refused-clause-settles g c = inl c.in-Refused.ensures.settles
+returns-in-Refused-clause-settles g c = inl (c.in-Refused.ensures.settles, c.in-Refused.ensures.gone)
 
 pub returns-in-Moved-clause-settles : goal.returns-in-Moved-clause-settles
 returns-in-Moved-clause-settles g c = inr (
