@@ -6,6 +6,9 @@ use crate::requests::{
     PUT_T1_AGAIN, TRANSPLANT_DEV, TRANSPLANT_FIRST,
 };
 use cat_model::limits::{Limits, Quantity};
+use std::alloc::Global;
+use std::process::Abort;
+use std::sync::Wait;
 
 #[test]
 fn a_limit_of_one_lets_one_pass(rt: HostRuntime) {
@@ -99,5 +102,85 @@ fn a_call_whose_entry_is_not_kept_is_a_fault_and_then_all_is_down(rt: HostRuntim
             (text, Outcome::Down(1, Some(2))),
         ];
         assert!(&rt; come_to(&rt, rt.alloc(), limits, &[3], &changes), "{text}");
+    }
+}
+
+/// Whether a branch, a commit on it, one on `main`, the merge of the first into it and a tag come to
+/// these outcomes.
+fn meet_limits<R: Abort + Wait>(
+    rt: &R,
+    alloc: Global,
+    limits: Limits,
+    wanted: [Outcome; 5],
+) -> bool {
+    let changes = [
+        (CREATE_DEV, wanted[0]),
+        (PUT_ON_DEV, wanted[1]),
+        (PUT_T1, wanted[2]),
+        (MERGE_DEV, wanted[3]),
+        (CREATE_TAG, wanted[4]),
+    ];
+    come_to(rt, alloc, limits, &[], &changes)
+}
+
+fn at(place: u32) -> Outcome {
+    Outcome::Accepted(place)
+}
+
+fn full_at(which: Quantity, number: u64, place: u32) -> Outcome {
+    Outcome::Full(which, number, Some(place))
+}
+
+// All five make two references beside `main`, five entries, three commits, two keys on `main` and two
+// contents, and take three draft numbers. Where there is no `dev` its commit and its merge are refused.
+#[test]
+fn limits_that_are_just_met_let_all_pass_and_one_less_does_not(rt: HostRuntime) {
+    let just = Limits {
+        references: 3,
+        log: 5,
+        commits: 3,
+        keys: 2,
+        contents: 2,
+        names: 0,
+        drafts: 3,
+    };
+    let references = Limits {
+        references: 2,
+        ..just
+    };
+    let alone = Limits {
+        references: 1,
+        ..just
+    };
+    let log = Limits { log: 4, ..just };
+    let commits = Limits { commits: 2, ..just };
+    let keys = Limits { keys: 1, ..just };
+    let contents = Limits {
+        contents: 1,
+        ..just
+    };
+    let drafts = Limits { drafts: 2, ..just };
+    let no_tag = full_at(Quantity::References, 2, 4);
+    let no_branch = full_at(Quantity::References, 1, 0);
+    let no_second = full_at(Quantity::References, 1, 1);
+    let no_entry = full_at(Quantity::Log, 4, 4);
+    let no_commit = full_at(Quantity::Commits, 2, 3);
+    let no_key = full_at(Quantity::Keys, 1, 3);
+    let no_content = full_at(Quantity::Contents, 1, 2);
+    let no_draft = full_at(Quantity::Drafts, 2, 3);
+    for (limits, wanted) in [
+        (just, [at(1), at(2), at(3), at(4), at(5)]),
+        (references, [at(1), at(2), at(3), at(4), no_tag]),
+        (
+            alone,
+            [no_branch, Outcome::Other, at(1), Outcome::Other, no_second],
+        ),
+        (log, [at(1), at(2), at(3), at(4), no_entry]),
+        (commits, [at(1), at(2), at(3), no_commit, at(4)]),
+        (keys, [at(1), at(2), at(3), no_key, at(4)]),
+        (contents, [at(1), at(2), no_content, at(3), at(4)]),
+        (drafts, [at(1), at(2), at(3), no_draft, at(4)]),
+    ] {
+        assert!(&rt; meet_limits(&rt, rt.alloc(), limits, wanted));
     }
 }

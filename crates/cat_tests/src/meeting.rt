@@ -23,20 +23,20 @@ use std::time::Clock;
 
 /// What a session is sent, and what it is to write; its clock starts at so many microseconds.
 #[derive(Clone, Copy)]
-struct Exchange {
+pub(crate) struct Exchange {
     start: u64,
     asked: &'static str,
     told: &'static str,
 }
 
 impl Exchange {
-    fn new(start: u64, asked: &'static str, told: &'static str) -> Exchange {
+    pub(crate) fn new(start: u64, asked: &'static str, told: &'static str) -> Exchange {
         Exchange { start, asked, told }
     }
 }
 
 /// Whether a session on a pass writes what it is to.
-fn writes<R: Abort + Wait + Threads + Sync, G: Gate>(
+pub(crate) fn writes<R: Abort + Wait + Threads + Sync, G: Gate>(
     rt: &R,
     alloc: Global,
     desk: &Desk<Store<MemKeeper>>,
