@@ -5,7 +5,10 @@
 # line takes a build. Other tests of the crate want all their memory, and their lines are left out.
 # session: `cat_plays short` passes where each reply of the session in short_memory.rows is the right one
 # or says that memory ran out, or the run ends so, and the journal holds what was accepted and at most
-# one call more. It runs PROGRAM, or else the proved one, which is proved and built where it isn't there.
+# one call more. What a refusal leaves open shows in a later reply: a draft keeps what it names from the
+# collections of the session, and an open collection refuses the next one. The last line says how many
+# allocations there are, and how many were refused in the session and outside it. It runs PROGRAM, or else
+# the proved one, which is proved and built where it isn't there.
 # Usage: tools/refuse_allocations.sh desk|session [FIRST [STEP [PROGRAM]]]
 n=${2:-1}
 step=${3:-1}
@@ -45,10 +48,13 @@ extern char *getenv(const char *);
 extern long atol(const char *);
 extern int dprintf(int, const char *, ...);
 extern long syscall(long, ...);
+extern int *__errno_location(void);
 static long made, refused = -1;
 static int refuses(void) {
     if (refused < 0) { char *text = getenv("REFUSED"); refused = text ? atol(text) : 0; }
-    return ++made == refused;
+    if (__atomic_add_fetch(&made, 1, __ATOMIC_RELAXED) != refused) return 0;
+    *__errno_location() = 12; /* ENOMEM, which the C library asserts where it makes a thread */
+    return 1;
 }
 void *malloc(unsigned long n) { return refuses() ? 0 : __libc_malloc(n); }
 void *calloc(unsigned long m, unsigned long n) { return refuses() ? 0 : __libc_calloc(m, n); }
@@ -95,7 +101,7 @@ refuse_session() {
         n=$((n + step))
     done
     [ "$within" -gt 0 ] || status=1
-    echo "$all allocations; refused $within times in the session, $outside times outside it; status $status"
+    echo "$all allocations; $within refused in the session, $outside outside it; status $status"
     exit $status
 }
 
