@@ -6,7 +6,8 @@
 # ends in 0. Whatever was sent, each reply is one of the known ones, places rise by what was accepted, and
 # the journal opens at the place that was told last. A changed journal opens to just what the plain rules
 # of oracle/ read in it and goes on from there, or is refused in their line and stays as it is. Whole
-# requests with changed bodies and targets get the rules' replies. The last lines count cases and statuses.
+# requests with changed bodies and targets get the rules' replies. The last lines count cases and statuses, and
+# the very last says how many cases and runs there were, and what they came to.
 # It takes the program that ./nessie builds without proofs, which checks each index, sum and access as it
 # runs and is built with the address sanitizer; where none is there, the proved one. Another one, as a
 # program built with other checks, is named by --program FILE.

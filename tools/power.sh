@@ -7,7 +7,8 @@
 # the plain rules of oracle/ and a session that reads all and goes on look at each: it holds all that a reply
 # had acknowledged and at most the call in flight more, in the state that the rules give; a file is refused
 # only where it was being made. Rounds go on upon files that cuts left. The first file that breaks the rule
-# is kept, and ends it; else it ends in 0. The last lines count cuts, files and what they held.
+# is kept, and ends it; else it ends in 0. The last lines count files and what they held, and the very last
+# says how many cuts, files and runs there were, and what they came to.
 # With --spoil half of the syncs count as not made, and the status is 0 where that is found out.
 # Usage: tools/power.sh [--program FILE] [SECONDS] [--seed N] [--spoil]
 top=$(CDPATH= cd -- "$(dirname -- "$0")/.." && pwd) || exit 70

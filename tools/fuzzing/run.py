@@ -86,12 +86,12 @@ class Fuzz:
 
     def report(self, seconds, good):
         count = sum(self.cases.values())
-        print("seed %d, %d seconds, %d cases, %d runs of the program" % (self.seed, seconds, count, self.program.runs))
         for kind in sorted(self.cases):
             print("%s: %d cases" % (kind, self.cases[kind]))
             for what in sorted(self.counts[kind]):
                 print("   %-50s %d" % (what, self.counts[kind][what]))
-        print("all cases went as they should" if good else "a case went wrong", flush=True)
+        told = "seed %d, %d seconds, %d cases, %d runs of the program" % (self.seed, seconds, count, self.program.runs)
+        print(told + (": all cases went as they should" if good else ": a case went wrong"), flush=True)
 
 
 def main():

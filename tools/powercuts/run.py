@@ -107,11 +107,13 @@ class Cuts:
         opened = [image for image, place in seen.items() if place is not None and place < 40]
         return self.rng.choice(opened) if opened and self.rng.random() < 0.65 else None
 
-    def report(self, seconds):
-        print("seed %d, %d seconds, %d runs of the program" % (self.options.seed, seconds, self.program.runs))
+    def report(self, seconds, wrong):
         for counts in (self.counts, self.ways):
             for what in sorted(counts):
                 print("   %-50s %d" % (what, counts[what]))
+        told = "seed %d, %d seconds, %d cuts, %d images, %d runs of the program"
+        told %= self.options.seed, seconds, self.counts["cuts"], self.counts["images"], self.program.runs
+        print(told + (": an image breaks the rule" if wrong else ": no image breaks the rule"), flush=True)
 
 
 def first_write(events):
@@ -142,8 +144,7 @@ def main():
             print("   the image: " + write(os.path.join(options.keep, "power-%d.journal" % options.seed), cuts.image))
     finally:
         shutil.rmtree(folder, ignore_errors=True)
-    cuts.report(time.monotonic() - began)
-    print("an image breaks the rule" if wrong else "no image breaks the rule", flush=True)
+    cuts.report(time.monotonic() - began, wrong)
     return 1 if (wrong is None) == options.spoil else 0
 
 
