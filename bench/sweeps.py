@@ -1,13 +1,14 @@
 #!/usr/bin/env python3
 """Times collections on a running `nessie serve`, beside other callers.
 
-Usage: bench/sweeps.py [--program FILE] [--seconds 8] [--scale 1] [beside|turn|gc ..] (all where none is named)
+Usage: bench/sweeps.py [--program FILE] [--seconds 8] [--scale 1] [beside|turn|chains|gc ..] (all where none is named)
 
 The client is bench/load.c, as in bench/serve.py. `beside` is commits to one branch of a catalogue of 100,000 contents, by one
 and by eight connections: alone, and while another connection collects again and again; the ratio of the two, and how many
 collections there were. `turn` is the longest that one reader waits, alone and while one collection runs, on catalogues of
 10,000 and of 1,000,000 contents, where nothing is removed and where half is: what it waits longer is the longest turn of the
-collection, at most. `gc` is one collection by words on these. With --scale 0.01 each catalogue has a hundredth of that.
+collection, at most. `chains` is a collection that keeps every commit, of 100,000 contents behind longer and longer chains, and
+of 100 branches that share one. `gc` is one collection by words on these. With --scale 0.01 each catalogue has a hundredth of that.
 """
 import argparse
 import json
@@ -111,6 +112,43 @@ def turn(load, program, scale):
                 print(f"{count + 1} contents, a reader while one collects:   {told(reader)}; the collection took {took * 1000:.1f} ms: {reply.body.decode()}", flush=True)
 
 
+def kept_all(server):
+    """The milliseconds that a collection takes under the cutoff NONE, the least of three."""
+    took = []
+    with server.link() as link:
+        for _ in range(3):
+            began = time.perf_counter()
+            assert link.ask(sweep("NONE")).status == 200
+            took.append((time.perf_counter() - began) * 1000)
+    return min(took)
+
+
+def chains(load, program, scale):
+    with Server(program, "--workers", 2) as server:
+        key = content_id_of_k(server)
+        count = int(100_000 * scale)
+        fill(server, count)
+        first = kept_all(server)
+        print(f"{count + 1} contents, a collection that keeps all commits: {first:.1f} ms")
+        made = 0
+        for commits in (1_000, 10_000):
+            while made < commits:
+                with server.link() as link:  # which ends behind its 1,000th request
+                    for number in range(made, min(made + 1_000, commits)):
+                        body = commit("b", put("k", f"m{number:08}", 1, key))
+                        assert link.ask(post("/trees/main/history/commit", body)).status == 200
+                made = min(made + 1_000, commits)
+            took = kept_all(server)
+            print(f"the same behind {commits} commits of one key:       {took:.1f} ms, {(took - first) / commits * 1000:.2f} us a commit", flush=True)
+        for branch in range(100):
+            with server.link() as link:
+                name = f"/trees?name=b{branch:02}&type=BRANCH"
+                assert link.ask(post(name, b'{"type":"BRANCH","name":"main"}')).status == 200
+                body = commit("b", put("k", f"b{branch:08}", 1, key))
+                assert link.ask(post(f"/trees/b{branch:02}/history/commit", body)).status == 200
+        print(f"the same with 100 branches of a commit each: {kept_all(server):.1f} ms", flush=True)
+
+
 def gc(load, program, scale):
     for contents in (10_000, 1_000_000):
         with Server(program, "--workers", 1) as server:
@@ -130,7 +168,7 @@ def gc(load, program, scale):
             print(f"{count} contents, gc: {took:.2f} s, of which opening {opened:.2f} s; opening behind it {again:.2f} s; {done.stdout.decode().strip()}", flush=True)
 
 
-PARTS = {part.__name__: part for part in (beside, turn, gc)}
+PARTS = {part.__name__: part for part in (beside, turn, chains, gc)}
 
 
 def main():
