@@ -6,7 +6,8 @@
 // FILE holds one request. Its first run of '#' is filled with a number that rises with each request (as many digits as
 // there are '#'), and its first run of '@' with the connection's number, so that its length stays. A connection that has
 // had LIMIT replies is closed and opened anew. Printed: replies, those of 200, seconds, connections that were opened, and
-// the median, 99th percentile and longest time of a reply in microseconds.
+// the median, 99th percentile and longest time of a reply in microseconds, and the microseconds of all gaps of more than 10 ms
+// in which no reply came on any connection.
 #define _GNU_SOURCE
 #include <arpa/inet.h>
 #include <errno.h>
@@ -35,6 +36,7 @@ static char request[ROOM];
 static size_t request_size;
 static long counter, opened, total, good, limit;
 static uint32_t times[SLOTS];
+static uint64_t last, silent;
 static int port, events;
 
 static void fail(const char *what) {
@@ -116,7 +118,9 @@ static size_t message_size(const char *held, size_t size) {
 }
 
 static void take_reply(struct link *one, uint64_t end) {
-    uint64_t took = now() - one->began;
+    uint64_t came = now(), took = came - one->began;
+    if (last && came - last > 10000) silent += came - last;
+    last = came;
     total++;
     good += !strncmp(one->in + 9, "200", 3);
     times[took < SLOTS ? took : SLOTS - 1]++;
@@ -164,7 +168,7 @@ static int run(double seconds, int connections) {
     }
     long slowest = SLOTS - 1;
     while (slowest > 0 && !times[slowest]) slowest--;
-    printf("%ld %ld %.3f %ld %ld %ld %ld\n", total, good, (now() - began) / 1e6, opened, percentile(0.5), percentile(0.99), slowest);
+    printf("%ld %ld %.3f %ld %ld %ld %ld %lu\n", total, good, (now() - began) / 1e6, opened, percentile(0.5), percentile(0.99), slowest, silent);
     return 0;
 }
 

@@ -51,8 +51,10 @@ class Load:
 
 class Told:
     def __init__(self, numbers):
-        total, good, seconds, opened, median, high, longest = numbers
+        total, good, seconds, opened, median, high, longest, silent = numbers
         self.total, self.good, self.rate, self.opened = int(total), int(good), float(total) / float(seconds), int(opened)
+        self.silent = int(silent) / 1e6
+        self.rate_outside = float(total) / (float(seconds) - self.silent)  # where no reply was awaited for more than 10 ms
         self.times = f"median {int(median) / 1000:.2f} ms, 99th percentile {int(high) / 1000:.2f} ms, longest {int(longest) / 1000:.1f} ms"
 
     def __str__(self):

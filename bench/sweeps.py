@@ -4,8 +4,9 @@
 Usage: bench/sweeps.py [--program FILE] [--seconds 8] [--scale 1] [beside|turn|chains|gc ..] (all where none is named)
 
 The client is bench/load.c, as in bench/serve.py. `beside` is commits to one branch of a catalogue of 100,000 contents, by one
-and by eight connections: alone, and while another connection collects again and again; the ratio of the two, and how many
-collections there were. `turn` is the longest that one reader waits, alone and while one collection runs, on catalogues of
+and by eight connections: alone, and while another connection collects again and again; the ratio of the two, how many
+collections there were, and the ratio outside the gaps of more than 10 ms in which no commit was answered, which the last turns of
+collections make. `turn` is the longest that one reader waits, alone and while one collection runs, on catalogues of
 10,000 and of 1,000,000 contents, where nothing is removed and where half is: what it waits longer is the longest turn of the
 collection, at most. `chains` is a collection that keeps every commit, of 100,000 contents behind longer and longer chains, and
 of 100 branches that share one. `gc` is one collection by words on these. With --scale 0.01 each catalogue has a hundredth of that.
@@ -91,7 +92,8 @@ def beside(load, program, scale):
             with Collector(server) as collector:
                 together = load.run(server.port, connections, request)
             print(f"commits by {connections} connections, alone:     {alone}")
-            print(f"commits by {connections}, while one collects: {together}; ratio {together.rate / alone.rate:.2f}; {collector}", flush=True)
+            print(f"commits by {connections}, while one collects: {together}; ratio {together.rate / alone.rate:.2f}; {collector}")
+            print(f"outside {together.silent:.2f} s in which no commit was answered for more than 10 ms: ratio {together.rate_outside / alone.rate:.2f}", flush=True)
 
 
 def turn(load, program, scale):
