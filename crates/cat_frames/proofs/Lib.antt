@@ -6,3 +6,5 @@ pub mod Rows
 pub mod Walked
 pub mod Written
 pub mod RequestRows
+pub mod Rewritten
+mod CheckpointRows

@@ -11,3 +11,5 @@ pub mod SweepLaws
 pub mod Entries
 pub mod EntryLaws
 pub mod Payload
+pub mod Checkpoints
+pub mod CheckpointLaws
