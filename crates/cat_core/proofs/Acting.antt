@@ -71,6 +71,7 @@ later_fallen caller m x up own = record {
   grows = record { fault = λ y e. absurd (let no : None ≡ Some y = sym up ∙ e in cc); draft = le_refl m.draft; drafter = λ _. refl; sweep = le_refl _ };
   new_fault = λ y e. inr (let it : x ≡ y = cc in sym (ap (λ (z : FailedAppend). z.caller) it) ∙ own);
   new_draft = inl refl;
+  new_closed = λ y e. inl e;
 }
 
 module _ {K : Type 0} (s : Stored K) (called : Called) (caller : ℕ) (r : Refused) (s' : Stored K) (left_open : Open) (legal : IsLegalFrom (opened_of s) (log_of s)) (others : LeavesOthers caller s.left_open left_open) where
@@ -122,13 +123,13 @@ acts_opened {K} s s' d after legal more other = subst (λ (x : Stored K). Acts I
   opened = refl;
   is_legal = legal;
   adds = adds_none d.caller (log_of s);
-  later = record { grows = record { fault = λ x e. e; draft = more; drafter = λ same. absurd (other same); sweep = le_refl _ }; new_fault = λ x e. inl e; new_draft = inr refl };
+  later = record { grows = record { fault = λ x e. e; draft = more; drafter = λ same. absurd (other same); sweep = le_refl _ }; new_fault = λ x e. inl e; new_draft = inr refl; new_closed = λ x e. inl e };
   others = leaves_opened s.left_open (open_draft_of d);
 }
 
 -- which drafts were dropped or refused last is told, and others may be
 later_telling : (caller : ℕ) (m : Mark) (dropped expired : Option Opening) → Later caller m (record m { dropped = dropped; expired = expired })
-later_telling caller m dropped expired = record { grows = record { fault = λ x e. e; draft = le_refl m.draft; drafter = λ _. refl; sweep = le_refl _ }; new_fault = λ x e. inl e; new_draft = inl refl }
+later_telling caller m dropped expired = record { grows = record { fault = λ x e. e; draft = le_refl m.draft; drafter = λ _. refl; sweep = le_refl _ }; new_fault = λ x e. inl e; new_draft = inl refl; new_closed = λ x e. inl e }
 
 pub acts_dropped : {K : Type 0} (s s' : Stored K) (d : Draft) → s' ≡ dropping s d → IsLegalFrom (opened_of s) (log_of s) → Acts IsLegalFrom d.caller (snap s) (snap s')
 acts_dropped {K} s s' d after legal =
@@ -175,6 +176,6 @@ acts_held {K} s s' t c sound last next after = subst (λ (x : Stored K). Acts Is
   opened = refl;
   is_legal = sound.legal;
   adds = adds_none t.caller (log_of s);
-  later = record { grows = record { fault = λ x e. e; draft = omega arith; drafter = λ same. absurd (omega arith); sweep = le_refl _ }; new_fault = λ x e. inl e; new_draft = inr refl };
+  later = record { grows = record { fault = λ x e. e; draft = omega arith; drafter = λ same. absurd (omega arith); sweep = le_refl _ }; new_fault = λ x e. inl e; new_draft = inr refl; new_closed = λ x e. inl e };
   others = leaves_opened s.left_open (record { opening = opening_at t; names = names_of sha256 t.number c });
 }

@@ -43,17 +43,18 @@ last_shut m o names is =
     let low : closed_number m.closed ≤ o.opening.number = is.1 in
     omega (arith, own, low)
 
-later_shut : (caller : ℕ) (m : Mark) (o : OpenSweep) (names : ℕ) → IsMarked m (Some o) → Later caller m (record m { sweep = None; closed = Some (record { opening = o.opening; names = names }) })
-later_shut caller m o names is = record {
+later_shut : (m : Mark) (o : OpenSweep) (names : ℕ) → IsMarked m (Some o) → Later o.opening.caller m (record m { sweep = None; closed = Some (record { opening = o.opening; names = names }) })
+later_shut m o names is = record {
   grows = record { fault = λ x e. e; draft = le_refl m.draft; drafter = λ _. refl; sweep = last_shut m o names is };
   new_fault = λ x e. inl e;
   new_draft = inl refl;
+  new_closed = λ x e. inr (let it : record { opening = o.opening; names = names } ≡ x = cc in sym (ap (λ (z : ClosedSweep). z.opening.caller) it));
 }
 
 pub acts_shut : {K : Type 0} (s : Stored K) (o : OpenSweep) → s.left_open.sweep ≡ Some o → IsMarked s.mark s.left_open.sweep → IsLegalFrom (opened_of s) (log_of s) → Acts IsLegalFrom o.opening.caller (snap s) (snap (shut s o))
 acts_shut {K} s o is marked legal =
     acts_idle s o.opening.caller s.keeper _ (record (s.left_open) { sweep = None }) legal
-    (later_shut o.opening.caller s.mark o (count_of o.names) (subst (IsMarked s.mark) is marked))
+    (later_shut s.mark o (count_of o.names) (subst (IsMarked s.mark) is marked))
     (leaves_sweep o.opening.caller s.left_open None (own_sweep o.opening.caller o s.left_open.sweep is refl) (λ m ne. refl))
 
 -- the one that is open, and what dropping it leaves
@@ -83,6 +84,7 @@ later_begun caller m o none = record {
   grows = record { fault = λ x e. e; draft = le_refl m.draft; drafter = λ _. refl; sweep = last_begun m o none };
   new_fault = λ x e. inl e;
   new_draft = inl refl;
+  new_closed = λ x e. inl e;
 }
 
 acts_with : {K : Type 0} (s : Stored K) (o : OpenSweep) → s.left_open.sweep ≡ None → IsMarked s.mark s.left_open.sweep → IsLegalFrom (opened_of s) (log_of s) → Acts IsLegalFrom o.opening.caller (snap s) (snap (with_sweep s o))

@@ -166,7 +166,7 @@ module _ {V : Type 0} (log : V → List LogEntry) (opened : V → Opened) (legal
               saw = record { based = f.saw.based; since = f.saw.since; missed = f.saw.missed; least = f.saw.least; most = f.saw.most; parts = f.saw.parts };
               numbered = record { own_number = f.numbered.own_number; given = f.numbered.given; stands_for = f.numbered.stands_for; may_give = f.numbered.may_give };
               in_line = record { has_ticket = λ _. (omega arith, omega arith, mine_at); served = λ x. absurd x; alone = λ x. absurd x; making = λ x. absurd x };
-              marked = record { turn = f.marked.turn; mark = f.marked.mark; linked = f.marked.linked; own = f.marked.own; whole = f.marked.whole; current = λ x. absurd x };
+              marked = record { turn = f.marked.turn; mark = f.marked.mark; linked = f.marked.linked; own = f.marked.own; whole = f.marked.whole; current = λ x. absurd x; parts = f.marked.parts };
             }
             (λ j d other at alive. let g = r.each j d at alive in record {
               saw = g.saw;
@@ -202,7 +202,7 @@ module _ {V : Type 0} (log : V → List LogEntry) (opened : V → Opened) (legal
           saw = record { based = f.saw.based; since = f.saw.since; missed = f.saw.missed; least = f.saw.least; most = f.saw.most; parts = f.saw.parts };
           numbered = record { own_number = f.numbered.own_number; given = f.numbered.given; stands_for = f.numbered.stands_for; may_give = f.numbered.may_give };
           in_line = record { has_ticket = λ _. l; served = λ _. sym turn; alone = λ x. absurd x; making = λ x. absurd x };
-          marked = record { turn = f.marked.turn; mark = f.marked.mark; linked = f.marked.linked; own = f.marked.own; whole = f.marked.whole; current = λ x. absurd x };
+          marked = record { turn = f.marked.turn; mark = f.marked.mark; linked = f.marked.linked; own = f.marked.own; whole = f.marked.whole; current = λ x. absurd x; parts = f.marked.parts };
         },
         (refl, (λ _. (refl, sym turn)), λ miss. absurd (miss same)),
       ))
@@ -218,7 +218,7 @@ module _ {V : Type 0} (log : V → List LogEntry) (opened : V → Opened) (legal
           saw = record { based = f.saw.based; since = f.saw.since; missed = f.saw.missed; least = omega arith; most = omega arith; parts = f.saw.parts };
           numbered = record { own_number = f.numbered.own_number; given = f.numbered.given; stands_for = f.numbered.stands_for; may_give = f.numbered.may_give };
           in_line = record { has_ticket = f.in_line.has_ticket; served = f.in_line.served; alone = f.in_line.alone; making = f.in_line.making };
-          marked = record { turn = f.marked.turn; mark = f.marked.mark; linked = f.marked.linked; own = f.marked.own; whole = f.marked.whole; current = f.marked.current };
+          marked = record { turn = f.marked.turn; mark = f.marked.mark; linked = f.marked.linked; own = f.marked.own; whole = f.marked.whole; current = f.marked.current; parts = f.marked.parts };
         },
         (refl, refl, omega arith, omega arith),
       )
@@ -235,9 +235,9 @@ module _ {V : Type 0} (log : V → List LogEntry) (opened : V → Opened) (legal
       )
 
   -- the slot is taken by the seat whose turn it is
-  taken : (s : St) (r : Rule s) (id : ℕ) (cs : List (ℕ × Option V)) (v : View) (x : Option V) (seen : List LogEntry) (k : ℕ) (m : Mark) (op : Open) (t : ℕ) → get_elem? s.views id ≡ some v → IsServed v.stage → seen ≡ r.all → length seen ≤ k → k ≤ length r.all → m ≡ r.marks r.last → op ≡ r.opens → t ≡ r.last
-      → Rule (stepped s 0 (word_at s 0) id cs (record v { seen = seen; known = k; mark = m; found = op; turn = t; stage = Holding }) (takes 0 x))
-  taken s r id cs v x seen k m op t here sv all least most marks opens last = let w : View = record v { seen = seen; known = k; mark = m; found = op; turn = t; stage = Holding } in
+  taken : (s : St) (r : Rule s) (id : ℕ) (cs : List (ℕ × Option V)) (v : View) (x : Option V) (seen : List LogEntry) (k : ℕ) (m : Mark) (op : Open) (t : ℕ) (ms : Mark × Mark) → get_elem? s.views id ≡ some v → IsServed v.stage → seen ≡ r.all → length seen ≤ k → k ≤ length r.all → m ≡ r.marks r.last → op ≡ r.opens → t ≡ r.last → Grows ms.0 m × Grows ms.1 m
+      → Rule (stepped s 0 (word_at s 0) id cs (record v { seen = seen; known = k; mark = m; found = op; turn = t; stage = Holding; part_marks = ms }) (takes 0 x))
+  taken s r id cs v x seen k m op t ms here sv all least most marks opens last both = let w : View = record v { seen = seen; known = k; mark = m; found = op; turn = t; stage = Holding; part_marks = ms } in
       let f = r.each id v here (busy_live v.stage (served_busy v.stage sv)) in let turn = my_turn s r id v f sv in
       let on : Follows v.number v.seen seen = subst (Follows v.number v.seen) (sym all) (missed_follows v.number r.next v.seen r.all f.saw.missed) in
       rebuilt s r 0 (word_at s 0) (set s.homes 0 none) (set s.views id w) (step_to s r id v w (word_at s 0 ∷ word_at s 1 ∷ word_at s 2 ∷ behind s.words) (set s.homes 0 none) r.all r.tickets r.owner out r.last r.marks r.opens r.grows r.first_mark r.mark_given r.opens_given here tt refl
@@ -253,6 +253,7 @@ module _ {V : Type 0} (log : V → List LogEntry) (opened : V → Opened) (legal
           own = f.marked.own;
           whole = λ _. opens;
           current = λ _. last;
+          parts = both;
         };
       }
       (λ j d other at alive. let g = r.each j d at alive in record {
@@ -284,7 +285,7 @@ module _ {V : Type 0} (log : V → List LogEntry) (opened : V → Opened) (legal
         finding v (log x) (mark x) (left_open x) r.last,
         takes 0 (Some x),
         h.1,
-        taken s r id me.1 v (Some x) (log x) (length (log x)) (mark x) (left_open x) r.last here sv h.2 (le_refl (length (log x))) most h.4 h.5 refl,
+        taken s r id me.1 v (Some x) (log x) (length (log x)) (mark x) (left_open x) r.last (mark x, mark x) here sv h.2 (le_refl (length (log x))) most h.4 h.5 refl (grows_self (mark x), grows_self (mark x)),
         subst (TookAt log opened legal mark left_open me (finding v (log x) (mark x) (left_open x) r.last, (0, Some x) ∷ me.1)) (sym is) (
           x,
           (
@@ -312,7 +313,7 @@ module _ {V : Type 0} (log : V → List LogEntry) (opened : V → Opened) (legal
         at_stage v Holding,
         takes 0 None,
         unborn_at log opened mark left_open key r.all (r.marks r.last) r.opens (r.owner (word_at s 2)) s.homes s.views r.place (f.in_line.making (subst IsMaking (sym is) tt)) r.stands,
-        taken s r id me.1 v None v.seen v.known v.mark v.found v.turn here sv (f.in_line.alone a) f.saw.least f.saw.most (f.marked.mark ∙ ap r.marks (f.marked.current a)) (f.marked.whole (f.marked.current a)) (f.marked.current a),
+        taken s r id me.1 v None v.seen v.known v.mark v.found v.turn v.part_marks here sv (f.in_line.alone a) f.saw.least f.saw.most (f.marked.mark ∙ ap r.marks (f.marked.current a)) (f.marked.whole (f.marked.current a)) (f.marked.current a) f.marked.parts,
         subst (TookAt log opened legal mark left_open me (at_stage v Holding, (0, None) ∷ me.1)) (sym is) (ap (λ l. (0, None) ∷ l) none_held, refl),
       )
 
@@ -344,7 +345,7 @@ module _ {V : Type 0} (log : V → List LogEntry) (opened : V → Opened) (legal
         saw = record { based = f.saw.based; since = more_since; missed = missed_none v.number r.next (log x); least = le_refl (length (log x)); most = le_refl (length (log x)); parts = both_itself v.number (log x) };
         numbered = record { own_number = f.numbered.own_number; given = f.numbered.given; stands_for = f.numbered.stands_for; may_give = f.numbered.may_give };
         in_line = record { has_ticket = λ _. f.in_line.has_ticket (served_busy v.stage sv); served = λ _. f.in_line.served sv; alone = λ y. absurd y; making = λ y. absurd y };
-        marked = record { turn = le_refl t; mark = sym new_at; linked = subst (Linked v.number (mark x)) (sym new_at) (linked_self v.number (mark x)); own = stays_self (open_of v.number (left_open x)); whole = λ _. refl; current = λ y. absurd y };
+        marked = record { turn = le_refl t; mark = sym new_at; linked = subst (Linked v.number (mark x)) (sym new_at) (linked_self v.number (mark x)); own = stays_self (open_of v.number (left_open x)); whole = λ _. refl; current = λ y. absurd y; parts = (grows_self (mark x), grows_self (mark x)) };
       }
       (λ j d other at alive. let g = r.each j d at alive in let most : d.known ≤ length r.all = g.saw.most in
       let apart : d.number ≢ v.number = λ e. other (sym g.numbered.own_number ∙ (ap r.named e ∙ f.numbered.own_number)) in let before : d.turn ≤ r.last = g.marked.turn in record {
@@ -370,6 +371,7 @@ module _ {V : Type 0} (log : V → List LogEntry) (opened : V → Opened) (legal
           own = stays_on d.own (open_of d.number r.opens) (open_of d.number (left_open x)) g.marked.own (moved_open d.number apart);
           whole = λ e. absurd (omega arith);
           current = λ y. absurd (other_turn s r j id d other turn g (alone_served d.stage y));
+          parts = g.marked.parts;
         };
       })
       (id, w, set_there s.views id w v here, tt, refl, refl)
@@ -408,7 +410,7 @@ module _ {V : Type 0} (log : V → List LogEntry) (opened : V → Opened) (legal
               saw = record { based = f.saw.based; since = f.saw.since; missed = f.saw.missed; least = f.saw.least; most = f.saw.most; parts = f.saw.parts };
               numbered = record { own_number = f.numbered.own_number; given = f.numbered.given; stands_for = f.numbered.stands_for; may_give = f.numbered.may_give };
               in_line = record { has_ticket = λ y. absurd y; served = λ y. absurd y; alone = λ y. absurd y; making = λ y. absurd y };
-              marked = record { turn = f.marked.turn; mark = f.marked.mark; linked = f.marked.linked; own = f.marked.own; whole = f.marked.whole; current = λ y. absurd y };
+              marked = record { turn = f.marked.turn; mark = f.marked.mark; linked = f.marked.linked; own = f.marked.own; whole = f.marked.whole; current = λ y. absurd y; parts = f.marked.parts };
             }
             (λ j d other at alive. let g = r.each j d at alive in record {
               saw = g.saw;

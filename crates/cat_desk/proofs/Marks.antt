@@ -1,12 +1,15 @@
 -- Marks that go on, and numbers that were given.
-use Rattle.std.proofs.Common.{◌≡◌, ◌≢◌, ℕ, ◌+◌, ◌<◌, ◌≤◌, sym, refl, ◌∙◌, subst, inl, inr, ⊎_elim, arith, Some}
+use Rattle.std.proofs.Common.{◌≡◌, ◌≢◌, ℕ, ◌+◌, ◌<◌, ◌≤◌, sym, refl, ap, ◌∙◌, subst, inl, inr, ⊎_elim, arith, Some}
 use Rattle.cat_model.specs.Drafts.{Open, open_of, LeavesOthers, StaysOpen}
-use Rattle.cat_model.specs.Mark.{Mark, Grows, Later}
+use Rattle.cat_model.specs.Mark.{ClosedSweep, Mark, Grows, Later, last_sweep, closed_number}
 use Rattle.cat_model.specs.TurnLaws.{grows_self, grows_on, nothing_stays}
 use Rattle.cat_desk.specs.Marks.{Linked, IsGiven, AreGiven}
 
+closed_by_then : (a : Mark) (x : ClosedSweep) → a.closed ≡ Some x → x.opening.number ≤ last_sweep a
+closed_by_then a x e = let same : closed_number a.closed ≡ x.opening.number = ap closed_number e in omega (arith, same)
+
 pub linked_self : (n : ℕ) (a : Mark) → Linked n a a
-linked_self n a = record { grows = grows_self a; own_fault = λ x e _. e; own_draft = λ _. refl }
+linked_self n a = record { grows = grows_self a; own_fault = λ x e _. e; own_draft = λ _. refl; own_closed = λ x e _. closed_by_then a x e }
 
 -- after a turn of another caller
 pub linked_more : (n m : ℕ) (a b c : Mark) → m ≢ n → Linked m a b → Later n b c → Linked m a c
@@ -14,10 +17,11 @@ linked_more n m a b c ne l t = record {
   grows = grows_on a b c l.grows t.grows;
   own_fault = λ x e is. ⊎_elim (λ (o : b.fault ≡ Some x). l.own_fault x o is) (λ (o : x.caller ≡ n). absurd (ne (sym is ∙ o))) (t.new_fault x e);
   own_draft = λ is. ⊎_elim (λ (o : b.draft ≡ c.draft). l.own_draft (t.grows.drafter o ∙ is) ∙ o) (λ (o : c.drafter ≡ n). absurd (ne (sym is ∙ o))) t.new_draft;
+  own_closed = λ x e is. ⊎_elim (λ (o : b.closed ≡ Some x). l.own_closed x o is) (λ (o : x.opening.caller ≡ n). absurd (ne (sym is ∙ o))) (t.new_closed x e);
 }
 
 pub given_self : (next : ℕ) (a : Mark) → IsGiven next a a
-given_self next a = record { fault = λ x e. inr e; draft = inr refl }
+given_self next a = record { fault = λ x e. inr e; draft = inr refl; closed = λ x e. inr e }
 
 pub given_more : (n next : ℕ) (first a b : Mark) → n < next → IsGiven next first a → Later n a b → IsGiven next first b
 given_more n next first a b lt g t = record {
@@ -25,12 +29,14 @@ given_more n next first a b lt g t = record {
   draft = ⊎_elim
       (λ (o : a.draft ≡ b.draft). ⊎_elim (λ (below : a.drafter < next). inl (subst (λ (k : ℕ). k < next) (t.grows.drafter o) below)) (λ (same : first.draft ≡ a.draft). inr (same ∙ o)) g.draft)
       (λ (o : b.drafter ≡ n). inl (subst (λ (k : ℕ). k < next) (sym o) lt)) t.new_draft;
+  closed = λ x e. ⊎_elim (λ (o : a.closed ≡ Some x). g.closed x o) (λ (o : x.opening.caller ≡ n). inl (subst (λ (k : ℕ). k < next) (sym o) lt)) (t.new_closed x e);
 }
 
 pub given_later : (next : ℕ) (first a : Mark) → IsGiven next first a → IsGiven (next + 1) first a
 given_later next first a g = record {
   fault = λ x e. ⊎_elim (λ (lt : x.caller < next). inl (omega arith)) (λ (was : first.fault ≡ Some x). inr was) (g.fault x e);
   draft = ⊎_elim (λ (lt : a.drafter < next). inl (omega arith)) (λ (same : first.draft ≡ a.draft). inr same) g.draft;
+  closed = λ x e. ⊎_elim (λ (lt : x.opening.caller < next). inl (omega arith)) (λ (was : first.closed ≡ Some x). inr was) (g.closed x e);
 }
 
 -- a number that wasn't given has no part in the mark since the first
@@ -40,6 +46,8 @@ linked_next n next first a b g begun l = record {
   own_fault = λ x e is. ⊎_elim (λ (lt : x.caller < next). absurd (omega arith)) (λ (was : first.fault ≡ Some x). begun.fault x was) (g.fault x e);
   own_draft = λ is. ⊎_elim (λ (lt : b.drafter < next). absurd (omega arith))
       (λ (same : first.draft ≡ b.draft). let low : first.draft ≤ a.draft = begun.draft in let high : a.draft ≤ b.draft = l.grows.draft in omega arith) g.draft;
+  own_closed = λ x e is. ⊎_elim (λ (lt : x.opening.caller < next). absurd (omega arith))
+      (λ (was : first.closed ≡ Some x). let low : x.opening.number ≤ last_sweep first = closed_by_then first x was in let up : last_sweep first ≤ last_sweep a = begun.sweep in omega (arith, low, up)) (g.closed x e);
 }
 
 -- the mark of a later turn
@@ -48,6 +56,7 @@ linked_later n m a b c g l k = record {
   grows = k.grows;
   own_fault = λ x e is. g.fault x (l.own_fault x e is);
   own_draft = λ is. let same : a.draft ≡ c.draft = l.own_draft is in let up : a.draft ≤ b.draft = g.draft in let on : b.draft ≤ c.draft = k.grows.draft in omega arith;
+  own_closed = λ x e is. let low : x.opening.number ≤ last_sweep a = l.own_closed x e is in let up : last_sweep a ≤ last_sweep b = g.sweep in omega (arith, low, up);
 }
 
 pub are_given_later : (next : ℕ) (xs : Open) → AreGiven next xs → AreGiven (next + 1) xs

@@ -49,7 +49,7 @@ module _ {V : Type 0} (log : V → List LogEntry) (opened : V → Opened) (legal
       saw = record { based = refl; since = since_none 2 (log key); missed = missed_none 1 2 (log key); least = le_refl (length (log key)); most = le_refl (length (log key)); parts = both_itself 1 (log key) };
       numbered = record { own_number = refl; given = omega arith; stands_for = omega arith; may_give = λ _. (refl, refl) };
       in_line = record { has_ticket = λ _. (omega arith, omega arith, refl); served = λ _. refl; alone = λ _. refl; making = λ _. tt };
-      marked = record { turn = le_refl 0; mark = refl; linked = linked_self 1 (mark key); own = stays_self (open_of 1 (left_open key)); whole = λ _. refl; current = λ _. refl };
+      marked = record { turn = le_refl 0; mark = refl; linked = linked_self 1 (mark key); own = stays_self (open_of 1 (left_open key)); whole = λ _. refl; current = λ _. refl; parts = (grows_self (mark key), grows_self (mark key)) };
     }
     first (suc j) d e _ = absurd (some-ne-none d (sym e))
 

@@ -12,7 +12,7 @@ use Rattle.cat_model.specs.declared.log_entry.LogEntry.{LogEntry}
 use Rattle.cat_model.specs.Drafts.{Open, nothing_open, open_of, StaysOpen}
 use Rattle.cat_model.specs.Mark.{Mark, Grows}
 use Rattle.cat_model.specs.Turns.{Opened, snapshot}
-use Rattle.cat_model.specs.TurnLaws.{stays_self}
+use Rattle.cat_model.specs.TurnLaws.{grows_self, stays_self}
 use Rattle.cat_desk.specs.Sight.{Stage, Idle, Making, Holding, View}
 use Rattle.cat_desk.specs.declared.pass.Held.{Held}
 use Rattle.cat_desk.specs.declared.pass.Pass.{Pass}
@@ -20,7 +20,7 @@ use Rattle.cat_desk.specs.Pass.{seen_in, held_in, mark_in, own_in, found_in, mar
 use Rattle.cat_desk.specs.Marks.{Linked}
 use Rattle.cat_desk.proofs.Marks.{linked_next, linked_later, given_later, are_given_later}
 use Rattle.cat_desk.specs.Log.{BeginsWith, Follows, Missed, longer}
-use Rattle.cat_desk.specs.Rule.{Place, home, unborn, out, IsLive, IsAlone, IsUnborn, tickets_of, total, queue, weight, Numbered, Fits, Turned, SomeoneSaw, Stands, HasParts, compared, finding, splitting, split_off, joined, nobody}
+use Rattle.cat_desk.specs.Rule.{Place, home, unborn, out, IsLive, IsAlone, IsUnborn, tickets_of, total, queue, weight, Numbered, Fits, Turned, SomeoneSaw, Stands, HasParts, HasMarks, compared, finding, splitting, split_off, joined, nobody}
 use Rattle.cat_desk.proofs.Logs.{both_itself, longer_both, missed_later, missed_next, missed_longer, since_later, since_longer, longer_first, longer_second, longer_bound, whole}
 use Rattle.cat_desk.proofs.Totals.{total_set, total_snoc}
 use Rattle.cat_desk.proofs.Seats.{alone_served, served_busy, busy_live, set_there, seats_stay, same_view}
@@ -62,7 +62,7 @@ module _ {V : Type 0} (log : V → List LogEntry) (opened : V → Opened) (legal
           may_give = λ _. (may.0, omega arith);
         };
         in_line = record { has_ticket = f.in_line.has_ticket; served = f.in_line.served; alone = f.in_line.alone; making = f.in_line.making };
-        marked = record { turn = f.marked.turn; mark = f.marked.mark; linked = f.marked.linked; own = f.marked.own; whole = f.marked.whole; current = f.marked.current };
+        marked = record { turn = f.marked.turn; mark = f.marked.mark; linked = f.marked.linked; own = f.marked.own; whole = f.marked.whole; current = f.marked.current; parts = f.marked.parts };
       } in
       let right : Fit (length s.views) a = record {
         saw = record {
@@ -83,6 +83,7 @@ module _ {V : Type 0} (log : V → List LogEntry) (opened : V → Opened) (legal
           own = subst (StaysOpen nothing_open) (sym (r.opens_given (4294967296 - v.spare) (omega arith))) (stays_self nothing_open);
           whole = f.marked.whole;
           current = λ x. absurd x;
+          parts = f.marked.parts;
         };
       } in
       let others : (j : ℕ) (d : View) → j ≢ id → get_elem? s.views j ≡ some d → IsLive d.stage → Fit j d = λ j d other at alive. let g = r.each j d at alive in record {
@@ -146,6 +147,8 @@ module _ {V : Type 0} (log : V → List LogEntry) (opened : V → Opened) (legal
       (λ some_w. let m = g.numbered.may_give (omega arith) in let e : r.next + w.spare ≡ 4294967296 = m.1 in let none_v : v.spare ≡ 0 = dite (ℕ_discrete v.spare 0) (λ z. z) (λ some_v. absurd (one_gives (omega arith) (omega arith))) in
       (id, ((λ j d ne h. record { own_number = h.own_number; given = h.given; stands_for = h.stands_for; may_give = λ lt. absurd (ne (sym (h.may_give lt).0 ∙ m.0)) }), λ lt. (refl, omega arith)))) in
       let Fit : ℕ → View → Type 0 = λ j d. Fits (opened key, log key) r.all r.tickets (word_at log opened legal mark left_open key s 2) r.next keeps_on.0 r.owner r.named (IsUnborn r.place) r.last r.marks r.opens j d in
+      let between : (x y : View) → x.mark ≡ r.marks x.turn → y.mark ≡ r.marks y.turn → x.turn ≤ y.turn → y.turn ≤ r.last → Grows x.mark y.mark =
+      λ x y first later le under. subst (λ (z : Mark × Mark). Grows z.0 z.1) (λ i. (sym first i, sym later i)) (r.grows x.turn y.turn le under) in
       let mine : Fit id b = record {
         saw = record {
           based = f.saw.based;
@@ -166,12 +169,15 @@ module _ {V : Type 0} (log : V → List LogEntry) (opened : V → Opened) (legal
           turn = let p : v.turn ≤ r.last = f.marked.turn in let q : w.turn ≤ r.last = g.marked.turn in omega arith;
           mark = later_cases v.turn w.turn v.mark w.mark (λ m k. m ≡ r.marks k) (λ _. g.marked.mark) (λ _. f.marked.mark);
           linked = later_cases v.turn w.turn v.mark w.mark (λ m k. Linked v.number m (r.marks r.last))
-              (λ lt. linked_later v.number w.number v.mark w.mark (r.marks r.last)
-              (subst (λ (z : Mark × Mark). Grows z.0 z.1) (λ i. (sym f.marked.mark i, sym g.marked.mark i)) (r.grows v.turn w.turn (omega arith) g.marked.turn)) f.marked.linked g.marked.linked)
+              (λ lt. linked_later v.number w.number v.mark w.mark (r.marks r.last) (between v w f.marked.mark g.marked.mark (omega arith) g.marked.turn) f.marked.linked g.marked.linked)
               (λ _. f.marked.linked);
           own = f.marked.own;
           whole = later_cases v.turn w.turn v.found w.found (λ o k. k ≡ r.last → o ≡ r.opens) (λ _. g.marked.whole) (λ _. f.marked.whole);
           current = λ x. absurd (subst IsAlone vi x);
+          parts = (
+            later_cases v.turn w.turn v.mark w.mark (λ m k. Grows v.mark m) (λ lt. between v w f.marked.mark g.marked.mark (omega arith) g.marked.turn) (λ _. grows_self v.mark),
+            later_cases v.turn w.turn v.mark w.mark (λ m k. Grows w.mark m) (λ _. grows_self w.mark) (λ le. between w v g.marked.mark f.marked.mark le f.marked.turn),
+          );
         };
       } in
       let others : (j : ℕ) (d : View) → j ≢ other → get_elem? s.views j ≡ some d → IsLive d.stage → Fit j d = λ j d ne at alive. let h = r.each j d at alive in record { saw = h.saw; numbered = keeps_on.1.0 j d ne h.numbered; in_line = h.in_line; marked = h.marked } in
@@ -232,7 +238,7 @@ module _ {V : Type 0} (log : V → List LogEntry) (opened : V → Opened) (legal
     keeps,
     tt,
     looked_on log opened legal mark left_open key s r 0 id me.1 v here live (λ a. subst IsAlone idle a),
-    (refl, (r.each id v here live).saw.parts),
+    (refl, (r.each id v here live).saw.parts, (r.each id v here live).marked.parts),
   )
 
   -- once a pass stands for all, no other is left
@@ -292,6 +298,15 @@ took_in desk p other v w u l f g is told same =
     let now : (joined v w).seen ≡ l = ap (λ (x : View). x.seen) (sym is) ∙ sym same in (
       subst (λ (z : ℕ × List LogEntry × List LogEntry). Follows z.0 z.1 z.2) (λ i. (f.number i, sym f.seen i, now i)) both.0,
       subst (λ (z : List LogEntry × List LogEntry). BeginsWith z.0 z.1) (λ i. (sym g.seen i, now i)) both.1,
+    )
+
+-- and how the marks of the two stand to its own
+pub marks_grew : (desk : DeskId) (p other : Pass) (v w u : View) (m : Mark) → FreeView desk p v → FreeView desk other w → u ≡ joined v w → HasMarks u → m ≡ u.mark → Grows (mark_of p) m × Grows (mark_of other) m
+marks_grew desk p other v w u m f g is told same =
+    let both : HasMarks (joined v w) = subst HasMarks is told in
+    let now : (joined v w).mark ≡ m = ap (λ (x : View). x.mark) (sym is) ∙ sym same in (
+      subst (λ (z : Mark × Mark). Grows z.0 z.1) (λ i. (sym f.mark i, now i)) both.0,
+      subst (λ (z : Mark × Mark). Grows z.0 z.1) (λ i. (sym g.mark i, now i)) both.1,
     )
 
 -- the same of what is equal

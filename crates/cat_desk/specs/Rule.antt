@@ -73,6 +73,10 @@ weight v = v.held + v.spare
 abbrev pub HasParts : View → Type 0
 HasParts d = Follows d.number d.parts.0 d.seen × BeginsWith d.parts.1 d.seen
 
+-- its mark grew from those of its two parts
+abbrev pub HasMarks : View → Type 0
+HasMarks d = Grows d.part_marks.0 d.mark × Grows d.part_marks.1 d.mark
+
 -- what a pass has seen of the log
 pub record Saw (base : Origin) (all : List LogEntry) (next : ℕ) (d : View) : Type 0 where
   pub based : d.origin ≡ Some base
@@ -104,6 +108,7 @@ pub record Marked (last : ℕ) (marks : ℕ → Mark) (opens : Open) (d : View) 
   pub own : StaysOpen d.own (open_of d.number opens)
   pub whole : d.turn ≡ last → d.found ≡ opens
   pub current : IsAlone d.stage → d.turn ≡ last
+  pub parts : HasMarks d
 
 -- what the rule says of one pass
 pub record Fits (base : Origin) (all : List LogEntry) (tickets serving next keeper : ℕ) (owner named : ℕ → ℕ) (fresh : Type 0) (last : ℕ) (marks : ℕ → Mark) (opens : Open) (seat : ℕ) (d : View) : Type 0 where
@@ -171,6 +176,7 @@ newcomer log opened mark left_open v = record {
   stage = Making;
   ticket = 0;
   parts = (log v, []);
+  part_marks = (mark v, mark v);
 }
 
 abbrev pub at_stage : View → Stage → View
@@ -181,11 +187,11 @@ waiting v t = record v { stage = Waiting; ticket = t }
 
 -- the pass has found a value with this log, this mark and this left open, which the turn t left
 abbrev pub finding : View → List LogEntry → Mark → Open → ℕ → View
-finding v all mark opens t = record v { seen = all; known = length all; mark = mark; found = opens; turn = t; stage = Holding }
+finding v all mark opens t = record v { seen = all; known = length all; mark = mark; found = opens; turn = t; stage = Holding; part_marks = (mark, mark) }
 
 -- the pass has left it so
 abbrev pub leaving : View → List LogEntry → Mark → Open → View
-leaving v all mark opens = record v { seen = all; known = length all; mark = mark; own = open_of v.number opens; found = opens; turn = v.turn + 1; stage = Leaving; parts = (all, []) }
+leaving v all mark opens = record v { seen = all; known = length all; mark = mark; own = open_of v.number opens; found = opens; turn = v.turn + 1; stage = Leaving; parts = (all, []); part_marks = (mark, mark) }
 
 -- it knows of so many entries
 abbrev pub knowing : View → ℕ → View
@@ -200,7 +206,7 @@ split_off v = record v { number = 4294967296 - v.spare; spare = 0; held = 1; own
 
 -- a pass that took in another, and what is left of that
 abbrev pub joined : View → View → View
-joined v w = record v { mark = later_mark v.turn w.turn v.mark w.mark; found = later_open v.turn w.turn v.found w.found; turn = max v.turn w.turn; seen = longer v.seen w.seen; known = max v.known w.known; spare = max v.spare w.spare; held = v.held + w.held; parts = (v.seen, w.seen) }
+joined v w = record v { mark = later_mark v.turn w.turn v.mark w.mark; found = later_open v.turn w.turn v.found w.found; turn = max v.turn w.turn; seen = longer v.seen w.seen; known = max v.known w.known; spare = max v.spare w.spare; held = v.held + w.held; parts = (v.seen, w.seen); part_marks = (v.mark, w.mark) }
 
 abbrev pub nobody : View
 nobody = blank Spent
@@ -224,9 +230,9 @@ module _ {V : Type 0} where
   abbrev pub unnumbered : Me (Option V) View → Me (Option V) View → Type 0
   unnumbered m n = (n ≡ m) × ((o : Origin) → m.0.origin ≡ Some o → Follows (4294967296 - m.0.spare) o.1 m.0.seen)
 
-  -- nothing was moved, and it is told what a pass has seen that was made of two
+  -- nothing was moved, and it is told what a pass has seen that was made of two, and how its mark stands to theirs
   abbrev pub compared : Me (Option V) View → Me (Option V) View → Type 0
-  compared m n = (n ≡ m) × HasParts m.0
+  compared m n = (n ≡ m) × HasParts m.0 × HasMarks m.0
 
   -- the count was read
   abbrev pub met : Me (Option V) View → ℕ → Me (Option V) View → Type 0

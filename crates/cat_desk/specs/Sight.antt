@@ -19,7 +19,7 @@ pub data Stage : Type 0 where
   Leaving : Stage
   Spent : Stage
 
--- the log that was seen, how many entries are known of, the caller's number, how many passes may still be split off and how many it stands for; the mark and the number of the turn that left it; what the last turn left open of the caller, and what that turn left open in all, or what was open in all as the value was found; what the two passes had seen of which it was last made
+-- the log that was seen, how many entries are known of, the caller's number, how many passes may still be split off and how many it stands for; the mark and the number of the turn that left it; what the last turn left open of the caller, and what that turn left open in all, or what was open in all as the value was found; what the two passes had seen of which it was last made, and their marks
 pub record View : Type 0 where
   pub origin : Option Origin
   pub seen : List LogEntry
@@ -34,6 +34,7 @@ pub record View : Type 0 where
   pub stage : Stage
   pub ticket : ℕ
   pub parts : List LogEntry × List LogEntry
+  pub part_marks : Mark × Mark
 
 -- the view of a seat at a stage that knows nothing
 abbrev pub blank : Stage → View
@@ -51,4 +52,5 @@ blank stage = record {
   stage = stage;
   ticket = 0;
   parts = ([], []);
+  part_marks = (no_mark, no_mark);
 }

@@ -1,6 +1,7 @@
 //! The desk, and its calls.
 ghost use Rattle.std.specs.Prelude.{◌≡◌, ◌+◌, ◌-◌, ◌%◌, ◌<◌, ◌≤◌, ◌∷◌, [], max, IsOk, IfOk, IfErr, Some, None, length, replicate};
 ghost use Rattle.cat_model.specs.Drafts.{nothing_open, open_of, StaysOpen};
+ghost use Rattle.cat_model.specs.Mark.{Grows};
 ghost use Rattle.cat_model.specs.Turns.{Acts, snapshot};
 ghost use Rattle.cat_desk.specs.Sight.{Waiting, Called};
 ghost use Rattle.cat_desk.specs.Log.{BeginsWith, Follows, longer};
@@ -229,8 +230,8 @@ impl<V: Logged> Desk<V> {
     }
 
     /// Takes a pass in. It has then seen what either had, one of which is a beginning of the other,
-    /// and holds the mark of the later turn. What the other's caller left open stays open, and is
-    /// nobody's.
+    /// and holds the mark of the later turn, which grew from the marks of both. What the other's
+    /// caller left open stays open, and is nobody's.
     pub fn join(&self, pass: &mut Pass, other: Pass)
         requires free { IsFree self.now pass.old × IsFree self.now other }
         ensures free { IsFree self.now pass.new × (number_of pass.new ≡ number_of pass.old) }
@@ -242,6 +243,8 @@ impl<V: Logged> Desk<V> {
         ensures mark { (mark_of pass.new
             ≡ later_mark (turn_of pass.old) (turn_of other) (mark_of pass.old) (mark_of other))
             × (turn_of pass.new ≡ max (turn_of pass.old) (turn_of other)) }
+        ensures grows { Grows (mark_of pass.old) (mark_of pass.new)
+            × Grows (mark_of other) (mark_of pass.new) }
         ensures left { (left_by pass.new ≡ left_by pass.old)
             × (all_left_by pass.new
             ≡ later_open (turn_of pass.old) (turn_of other) (all_left_by pass.old)

@@ -45,8 +45,9 @@ pub record Grows (a b : Mark) : Type 0 where
   pub drafter : a.draft ≡ b.draft → a.drafter ≡ b.drafter
   pub sweep : last_sweep a ≤ last_sweep b
 
--- what a turn of a caller makes of a mark: a fault or a last draft number that is new is the caller's
+-- what a turn of a caller makes of a mark: a fault, a last draft number or a closed sweep that is new is the caller's
 pub record Later (caller : ℕ) (a b : Mark) : Type 0 where
   pub grows : Grows a b
   pub new_fault : (x : FailedAppend) → b.fault ≡ Some x → (a.fault ≡ Some x) ⊎ (x.caller ≡ caller)
   pub new_draft : (a.draft ≡ b.draft) ⊎ (b.drafter ≡ caller)
+  pub new_closed : (x : ClosedSweep) → b.closed ≡ Some x → (a.closed ≡ Some x) ⊎ (x.opening.caller ≡ caller)

@@ -18,7 +18,7 @@ grows_on a b c p q = let low : a.draft ≤ b.draft = p.draft in let high : b.dra
 }
 
 pub later_self : (caller : ℕ) (a : Mark) → Later caller a a
-later_self caller a = record { grows = grows_self a; new_fault = λ x e. inl e; new_draft = inl refl }
+later_self caller a = record { grows = grows_self a; new_fault = λ x e. inl e; new_draft = inl refl; new_closed = λ x e. inl e }
 
 pub later_on : (caller : ℕ) (a b c : Mark) → Later caller a b → Later caller b c → Later caller a c
 later_on caller a b c p q = record {
@@ -27,6 +27,7 @@ later_on caller a b c p q = record {
   new_draft = ⊎_elim
       (λ (same : b.draft ≡ c.draft). ⊎_elim (λ (was : a.draft ≡ b.draft). inl (was ∙ same)) (λ (new : b.drafter ≡ caller). inr (sym (q.grows.drafter same) ∙ new)) p.new_draft)
       (λ (new : c.drafter ≡ caller). inr new) q.new_draft;
+  new_closed = λ x e. ⊎_elim (λ (was : b.closed ≡ Some x). p.new_closed x was) (λ (new : x.opening.caller ≡ caller). inr new) (q.new_closed x e);
 }
 
 awaits_self : (a : Option OpenSweep) → SweepAwaits a a

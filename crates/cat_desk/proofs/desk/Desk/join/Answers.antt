@@ -1,7 +1,7 @@
 use Rattle.std.proofs.Common.{rules, ap, ◌∙◌}
-use Rattle.cat_desk.specs.Pass.{seen_in}
+use Rattle.cat_desk.specs.Pass.{mark_in, seen_in}
 use Rattle.cat_desk.specs.Sight.{View}
-use Rattle.cat_desk.proofs.Passes.{compares, free_view, joins, took_in}
+use Rattle.cat_desk.proofs.Passes.{compares, free_view, joins, marks_grew, took_in}
 use Rattle.cat_desk.proofs.desk.Desk.join.Goals as goal
 
 pub join_seat-requires : goal.join_seat-requires
@@ -24,3 +24,9 @@ pub returns-clause-follows : goal.returns-clause-follows
 returns-clause-follows g c = let f = free_view _ c.args.pass.now c.into_seat-seat.result.me.0 c.requires.free.0 (search rules) in
     let h = free_view _ c.args.other c.into_seat.result.me.0 c.requires.free.1 (search rules) in
     (took_in _ c.args.pass.now c.args.other c.into_seat-seat.result.me.0 c.into_seat.result.me.0 c.join_seat.new.seat.me.0 (seen_in c.into_badge.result.views) f h (ap (λ m. m.0) c.join_seat.ensures.2) c.load.ensures.2.1 (search rules)).0
+
+pub returns-clause-grows : goal.returns-clause-grows
+returns-clause-grows g c = let f = free_view _ c.args.pass.now c.into_seat-seat.result.me.0 c.requires.free.0 (search rules) in
+    let h = free_view _ c.args.other c.into_seat.result.me.0 c.requires.free.1 (search rules) in
+    let t = marks_grew _ c.args.pass.now c.args.other c.into_seat-seat.result.me.0 c.into_seat.result.me.0 c.join_seat.new.seat.me.0 (mark_in c.into_badge.result.views) f h (ap (λ m. m.0) c.join_seat.ensures.2) c.load.ensures.2.2 (search rules) in
+    (t.0, t.1)
