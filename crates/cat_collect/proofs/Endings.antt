@@ -29,6 +29,7 @@ use Rattle.cat_model.specs.State.{State}
 use Rattle.cat_model.specs.Sweeps.{step_sweep, sweep_call, sweep_entry, sweep_of}
 use Rattle.cat_state.specs.Kept.{spelling}
 use Rattle.cat_work.specs.Answers.{AnswersAlone, FallsAlone, IsAt, NoFaultIsNew, RefusesAlone}
+use Rattle.cat_work.specs.MarkLaws.{but_fault, no_draft_still, refers_mark}
 use Rattle.cat_work.specs.Passes.{IsAlone, book_of, state_of}
 use Rattle.cat_work.specs.TurnLaws.{Left, book_found, left_by_turn}
 use Rattle.cat_work.specs.Turns.{Turned}
@@ -359,12 +360,13 @@ module _ {K : Type 0} (desk : DeskId) (policy : Resolved) (moment : ℕ) (first 
     rests same = turn.all_left ∙ same ∙ (λ i. record { drafts = (found_alone desk policy first present next s s' g turn only rest i).drafts; sweep = None })
 
   settled : (r : Result Told Refused) → Refers called o.opening.caller (shut s o) s' r → Comes desk policy moment first next r
-  settled r h = record {
+  settled r h = let kept : but_fault s'.mark ≡ but_fault (shut s o).mark = refers_mark called o.opening.caller (shut s o) s' r h in record {
     none = none_open (refers_open called o.opening.caller (shut s o) s' r h);
     grows = grown desk policy first present next s s' g turn;
     answers = answers r h;
     alone = λ only rest. alone only rest r h;
     rests = λ only rest. rests only rest (refers_open called o.opening.caller (shut s o) s' r h);
+    undrafted = no_draft_still n (mark_of first) s.mark (mark_of next) at.no_draft (ap (λ (m : Mark). m.draft) left.mark_is ∙ ap (λ (m : Mark). m.draft) kept) (ap (λ (m : Mark). m.drafter) left.mark_is ∙ ap (λ (m : Mark). m.drafter) kept);
   }
 
   dropped : s' ≡ shut s o → Comes desk policy moment first next (Err out_of_memory)
@@ -377,6 +379,7 @@ module _ {K : Type 0} (desk : DeskId) (policy : Resolved) (moment : ℕ) (first 
         answers = (follows book, (refl, no_fault book fault));
         alone = λ only rest. by only rest (left.book_is ∙ book) fault;
         rests = λ only rest. rests only rest (ap (λ (x : Stored K). stored.open_of x) is);
+        undrafted = no_draft_still n (mark_of first) s.mark (mark_of next) at.no_draft (ap (λ (m : Mark). m.draft) left.mark_is ∙ ap (λ (x : Stored K). x.mark.draft) is) (ap (λ (m : Mark). m.drafter) left.mark_is ∙ ap (λ (x : Stored K). x.mark.drafter) is);
       }
     where
       by : (only : IsAlone first) → all_left_by first ≡ nothing_open → book_of desk next ≡ s.book → s'.mark.fault ≡ s.mark.fault → AnswersAlone n (swept_on sha256 n (book_of desk first) policy no_names moment) (book_of desk first) (book_of desk next) (mark_of first).fault (mark_of next).fault (Err out_of_memory)

@@ -13,6 +13,7 @@ use Rattle.cat_core.specs.Sweeps.{Completes, IsDrained, IsSweepOpening, drained_
 use Rattle.cat_core.specs.declared.sweeping.Sweep.{Sweep}
 use Rattle.cat_desk.specs.Log.{Follows}
 use Rattle.cat_desk.specs.LogLaws.{follows_on}
+use Rattle.cat_desk.specs.Marks.{Linked}
 use Rattle.cat_desk.specs.Pass.{DeskId, Keeps, all_left_by, known, left_by, mark_of, number_of, seen, spare_of, stands_for}
 use Rattle.cat_desk.specs.declared.pass.Pass.{Pass}
 use Rattle.cat_mark.specs.declared.roots.Roots.{Roots}
@@ -31,7 +32,8 @@ use Rattle.cat_model.specs.Mark.{FailedAppend, Grows, Mark, last_sweep}
 use Rattle.cat_model.specs.State.{State}
 use Rattle.cat_model.specs.TurnLaws.{grows_on}
 use Rattle.cat_names.specs.declared.hash.Hash.{Hash}
-use Rattle.cat_work.specs.Answers.{NoFaultIsNew}
+use Rattle.cat_work.specs.Answers.{NoDraftIsNew, NoFaultIsNew}
+use Rattle.cat_work.specs.MarkLaws.{no_draft_on, no_draft_still}
 use Rattle.cat_work.specs.Passes.{IsAlone, book_of, state_of}
 use Rattle.cat_work.specs.TurnLaws.{Left, book_found, follows_length, goes_later, grew_in, left_by_turn, legal_before, place_at}
 use Rattle.cat_work.specs.Turns.{Turned}
@@ -47,15 +49,17 @@ pub record Found {K : Type 0} (desk : DeskId) (first : Pass) (s : Stored K) : Ty
   pub follows : Follows (number_of first) (seen first) (log_of s)
   pub no_new : NoFaultIsNew (number_of first) (mark_of first) s.mark
   pub kept : (x : FailedAppend) → (mark_of first).fault ≡ Some x → s.mark.fault ≡ Some x
+  pub no_draft : NoDraftIsNew (number_of first) (mark_of first) s.mark
 
 pub found_first : {K : Type 0} (desk : DeskId) (p q : Pass) (s s' : Stored K) → Turned desk p q s s' → Found desk p s
-found_first desk p q s s' turn = record { follows = turn.follows; no_new = λ x is own. turn.linked.own_fault x is own; kept = λ x is. turn.linked.grows.fault x is }
+found_first desk p q s s' turn = record { follows = turn.follows; no_new = λ x is own. turn.linked.own_fault x is own; kept = λ x is. turn.linked.grows.fault x is; no_draft = λ last. turn.linked.own_draft last }
 
 pub found_on : {K : Type 0} (desk : DeskId) (policy : Resolved) (first present next : Pass) (s s' : Stored K) → Going desk policy first present → Turned desk present next s s' → Found desk first s
 found_on desk policy first present next s s' g turn = record {
   follows = follows_on (number_of first) (seen first) (seen present) (log_of s) g.follows (subst (λ (n : ℕ). Follows n (seen present) (log_of s)) g.kept.number turn.follows);
   no_new = λ x is own. g.faults x (turn.linked.own_fault x is (own ∙ sym g.kept.number)) own;
   kept = λ x is. turn.linked.grows.fault x (g.grows.fault x is);
+  no_draft = no_draft_on (number_of first) (mark_of first) (mark_of present) s.mark g.drafts (subst (λ (n : ℕ). Linked n (mark_of present) s.mark) g.kept.number turn.linked);
 }
 
 pub grown : {K : Type 0} (desk : DeskId) (policy : Resolved) (first present next : Pass) (s s' : Stored K) → Going desk policy first present → Turned desk present next s s' → Grows (mark_of first) (mark_of next)
@@ -165,6 +169,7 @@ module _ (K : Type 0) (desk : DeskId) (policy : Resolved) (p q : Pass) (sweep : 
     known_then = known_at desk.opened.state.place (known p) (length (seen q)) (sweep_opening sweep).place (state_of desk (seen q)).place known_is (place_at desk (seen q) legal) place_seen;
     within = no_more (sweep_opening sweep).place (state_of desk (seen q)).place place_seen;
     faults = λ f is own. turn.linked.own_fault f (sym (ap (λ (m : Mark). m.fault) mark) ∙ is) own;
+    drafts = no_draft_still (number_of p) (mark_of p) s.mark (mark_of q) (λ last. turn.linked.own_draft last) (ap (λ (m : Mark). m.draft) mark) (ap (λ (m : Mark). m.drafter) mark);
     grows = grew_in desk p q s s' turn;
     alone = λ only rest. record {
       seen_is = log ∙ (turn.alone only).0;
@@ -237,6 +242,7 @@ module _ {K : Type 0} (desk : DeskId) (policy : Resolved) (first present next : 
         known_then = subst (λ (n : ℕ). desk.opened.state.place + known first ≤ n) (sym place_then) g.known_then;
         within = subst (λ (n : ℕ). n ≤ (state_of desk (seen next)).place) (sym place_then) (within_on desk (number_of present) (seen present) (seen next) g.sweep.opening.place more legal g.within);
         faults = λ x is own. found.no_new x (sym (ap (λ (m : Mark). m.fault) marks) ∙ is) own;
+        drafts = no_draft_still (number_of first) (mark_of first) s.mark (mark_of next) found.no_draft (ap (λ (m : Mark). m.draft) marks) (ap (λ (m : Mark). m.drafter) marks);
         grows = grown desk policy first present next s s' g turn;
         alone = stood;
       }

@@ -19,6 +19,7 @@ use Rattle.cat_model.specs.Mark.{Mark}
 use Rattle.cat_model.specs.State.{State}
 use Rattle.cat_model.specs.TurnLaws.{grows_self}
 use Rattle.cat_work.specs.Answers.{IsAt, NoFaultIsNew, RefusesAlone}
+use Rattle.cat_work.specs.MarkLaws.{no_draft_still}
 use Rattle.cat_work.specs.Passes.{IsAlone, book_of}
 use Rattle.cat_work.specs.TurnLaws.{Left, book_found, grew_in, left_by_turn}
 use Rattle.cat_work.specs.Turns.{Turned}
@@ -137,6 +138,7 @@ module _ {K : Type 0} (desk : DeskId) (policy : Resolved) (moment : ℕ) (p q : 
     answers = (subst (Follows n (seen p)) (sym log) at.follows, causes r.why h);
     alone = λ only rest. alone only rest r.why h;
     rests = λ only rest. turn.all_left ∙ ap (λ (x : Stored K). x.left_open) same ∙ rests only rest;
+    undrafted = no_draft_still n (mark_of p) s.mark (mark_of q) at.no_draft (ap (λ (m : Mark). m.draft) mark) (ap (λ (m : Mark). m.drafter) mark);
   }
 
 pub not_opened : (K : Type 0) (desk : DeskId) (policy : Resolved) (p q : Pass) (r : Refused) → left_by p ≡ nothing_open → OpensNone K desk p q r → (moment : ℕ) → Comes desk policy moment p q (Err r)
@@ -150,4 +152,5 @@ no_turn desk policy moment p none = record {
   answers = (follows_itself (number_of p) (seen p), (refl, λ x is own. is));
   alone = λ only rest. (given_up (book_of desk p) (book_of desk p) out_of_memory refl refl, refl);
   rests = λ only rest. rest;
+  undrafted = λ last. refl;
 }

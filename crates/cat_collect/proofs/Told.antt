@@ -1,12 +1,12 @@
 -- What a collection answers, from what it has come to.
-use Rattle.std.proofs.Common.{◌≡◌, ◌≤◌, ℕ, List, [], ◌∷◌, length, map, Option, Some, None, Result, Ok, Err, true, IsTrue, refl, sym, ap, subst, ◌∙◌, arith}
+use Rattle.std.proofs.Common.{◌≡◌, ◌<◌, ◌≤◌, ℕ, List, [], ◌∷◌, length, map, Option, Some, None, Result, Ok, Err, true, IsTrue, refl, sym, ap, subst, ◌∙◌, arith}
 use Rattle.std.proofs.lemmas.Bool.{and_from, and_parts}
 use Rattle.std.proofs.lemmas.List.{length-map}
 use Rattle.std.specs.List.{list_all}
 use Rattle.cat_checks.specs.Histories.{IsLegalFrom}
 use Rattle.cat_desk.specs.Log.{BeginsWith}
 use Rattle.cat_desk.specs.LogLaws.{begins_on}
-use Rattle.cat_desk.specs.Pass.{DeskId, Keeps, known, mark_of, number_of, seen}
+use Rattle.cat_desk.specs.Pass.{DeskId, Keeps, known, mark_of, number_of, seen, turn_of}
 use Rattle.cat_desk.specs.declared.pass.Pass.{Pass}
 use Rattle.cat_frames.specs.Sweeps.{cutoff_is_logged, resolved_is_logged}
 use Rattle.cat_io.specs.Clocks.{Ticks}
@@ -42,23 +42,26 @@ comes_ready desk policy moment p q r ready kept legal comes =
 
 -- ---- what is known
 
-known_at : (p q : Pass) (place : Option ℕ) → known p ≤ known q → known q ≡ length (seen q) → KnowsAt p q place
-known_at p q None le is = le
-known_at p q (Some place) le is = (subst (λ (n : ℕ). known p ≤ n) is le, is)
+known_at : (p q : Pass) (place : Option ℕ) → known p ≤ known q → known q ≡ length (seen q) → turn_of p < turn_of q → KnowsAt p q place
+known_at p q None le is turn = le
+known_at p q (Some place) le is turn = (subst (λ (n : ℕ). known p ≤ n) is le, is, turn)
 
-pub knows_all : (p q : Pass) (r : Result Told Refused) → known p ≤ known q → known q ≡ length (seen q) → Knows p q r
-knows_all p q (Ok told) le is = (subst (λ (n : ℕ). known p ≤ n) is le, is)
-knows_all p q (Err e) le is = known_at p q e.place le is
+pub knows_all : (p q : Pass) (r : Result Told Refused) → known p ≤ known q → known q ≡ length (seen q) → turn_of p < turn_of q → Knows p q r
+knows_all p q (Ok told) le is turn = (subst (λ (n : ℕ). known p ≤ n) is le, is, turn)
+knows_all p q (Err e) le is turn = known_at p q e.place le is turn
 
 pub known_on : (a b c size : ℕ) → a ≤ b → b ≤ size → c ≡ size → a ≤ c
 known_on a b c size p q e = omega arith
+
+pub turned_on : (a b c : ℕ) → a < b → b < c → a < c
+turned_on a b c p q = omega arith
 
 -- ---- at the moment of the call
 
 pub collects : (desk : DeskId) (policy : Policy) (ahead later : Option (ℕ → ℕ)) (p q : Pass) (r : Result Told Refused) (now moment : ℕ) (at : Resolved) → moment ≡ now → Ticks ahead later now → at ≡ resolved moment policy → Comes desk at moment p q r → CollectsTo desk policy ahead later p q r
 collects desk policy ahead later p q r now moment at same ticks is comes =
     let there : Comes desk (resolved now policy) now p q r = subst (λ (x : Resolved × ℕ). Comes desk x.0 x.1 p q r) (λ i. ((is ∙ ap (λ (n : ℕ). resolved n policy) same) i, same i)) comes in
-    (now, ticks, there.answers, there.alone, there.rests)
+    (now, ticks, there.answers, there.alone, there.rests, there.undrafted)
 
 -- ---- policies
 

@@ -21,7 +21,7 @@ use Rattle.cat_model.specs.Sweeps.{step_sweep, sweep_entry}
 use Rattle.cat_policy.specs.declared.policy.Policy.{Policy}
 use Rattle.cat_policy.specs.Policies.{resolved}
 use Rattle.cat_state.specs.Kept.{spelling}
-use Rattle.cat_work.specs.Answers.{AnswersAlone, IsAt, IsDown, NoFaultIsNew}
+use Rattle.cat_work.specs.Answers.{AnswersAlone, IsAt, IsDown, NoDraftIsNew, NoFaultIsNew}
 use Rattle.cat_work.specs.Passes.{IsAlone, book_of, state_of}
 
 -- ---- sweeps
@@ -110,10 +110,11 @@ Answers desk n policy moment k before after l m (Err refused) = Follows n l m ×
 
 -- ---- a collection
 
--- what a collection on a pass answers, at the moment of one reading of the clock, whatever others do; and on the only pass of its desk, where nothing is open, it is the model's sweep on the pass's book, with no names, unless memory runs out or an append fails, and nothing is open after it
+-- what a collection on a pass answers, at the moment of one reading of the clock, whatever others do; and on the only pass of its desk, where nothing is open, it is the model's sweep on the pass's book, with no names, unless memory runs out or an append fails, and nothing is open after it; it opens no draft
 abbrev pub CollectsTo : DeskId → Policy → Option (ℕ → ℕ) → Option (ℕ → ℕ) → Pass → Pass → Result Told Refused → Type 0
 CollectsTo desk policy ahead ahead' p q result =
     (moment : ℕ) × Ticks ahead ahead' moment
     × Answers desk (number_of p) (resolved moment policy) moment (known p) (mark_of p) (mark_of q) (seen p) (seen q) result
     × (IsAlone p → all_left_by p ≡ nothing_open → AnswersAlone (number_of p) (swept_on sha256 (number_of p) (book_of desk p) (resolved moment policy) no_names moment) (book_of desk p) (book_of desk q) (mark_of p).fault (mark_of q).fault result)
     × (IsAlone p → all_left_by p ≡ nothing_open → all_left_by q ≡ nothing_open)
+    × NoDraftIsNew (number_of p) (mark_of p) (mark_of q)

@@ -23,7 +23,7 @@ use Rattle.cat_model.specs.Drafts.{OpenSweep, no_names, nothing_open}
 use Rattle.cat_model.specs.Mark.{Grows}
 use Rattle.cat_model.specs.Past.{swept_on}
 use Rattle.cat_model.specs.State.{State}
-use Rattle.cat_work.specs.Answers.{AnswersAlone, NoFaultIsNew}
+use Rattle.cat_work.specs.Answers.{AnswersAlone, NoDraftIsNew, NoFaultIsNew}
 use Rattle.cat_work.specs.Passes.{IsAlone, book_of, state_of}
 use Rattle.cat_work.specs.Turns.{Turned}
 use Rattle.cat_collect.specs.declared.rounds.Marking.{Marking}
@@ -111,6 +111,7 @@ pub record Going (desk : DeskId) (policy : Resolved) (first present : Pass) : Ty
   pub known_then : desk.opened.state.place + known first ≤ sweep.opening.place
   pub within : sweep.opening.place ≤ (state_of desk (seen present)).place
   pub faults : NoFaultIsNew (number_of first) (mark_of first) (mark_of present)
+  pub drafts : NoDraftIsNew (number_of first) (mark_of first) (mark_of present)
   pub grows : Grows (mark_of first) (mark_of present)
   pub alone : IsAlone first → all_left_by first ≡ nothing_open → StoodAlone desk first present sweep
 
@@ -121,6 +122,7 @@ pub record Comes (desk : DeskId) (policy : Resolved) (moment : ℕ) (first next 
   pub answers : Answers desk (number_of first) policy moment (known first) (mark_of first) (mark_of next) (seen first) (seen next) r
   pub alone : IsAlone first → all_left_by first ≡ nothing_open → AnswersAlone (number_of first) (swept_on sha256 (number_of first) (book_of desk first) policy no_names moment) (book_of desk first) (book_of desk next) (mark_of first).fault (mark_of next).fault r
   pub rests : IsAlone first → all_left_by first ≡ nothing_open → all_left_by next ≡ nothing_open
+  pub undrafted : NoDraftIsNew (number_of first) (mark_of first) (mark_of next)
 
 -- it goes on with these marks
 abbrev pub GoesWith : DeskId → Resolved → Pass → Pass → Marking → Type 0

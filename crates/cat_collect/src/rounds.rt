@@ -1,8 +1,8 @@
 //! The opening of a collection, and the rounds between it and the settling.
 
-ghost use Rattle.std.specs.Prelude.{◌≡◌, ◌≤◌, ℕ, IfErr, IfOk, IsTrue, length, Err};
+ghost use Rattle.std.specs.Prelude.{◌≡◌, ◌<◌, ◌≤◌, ℕ, IfErr, IfOk, IsTrue, length, Err};
 ghost use Rattle.cat_checks.specs.Histories.{IsLegalFrom};
-ghost use Rattle.cat_desk.specs.Pass.{IsFree, Keeps, known, left_by, seen};
+ghost use Rattle.cat_desk.specs.Pass.{IsFree, Keeps, known, left_by, seen, turn_of};
 ghost use Rattle.cat_desk.specs.declared.pass.Pass.{Pass};
 ghost use Rattle.cat_frames.specs.Sweeps.{resolved_is_logged};
 ghost use Rattle.cat_model.specs.declared.cutoff.Resolved.{Resolved};
@@ -71,6 +71,7 @@ pub(crate) fn begin<R: Wait + Threads + Sync, K: Keeper>(
     ensures kept { Keeps desk.now pass.old pass.new }
     ensures known { (known pass.old ≤ length (seen pass.new))
         × (known pass.new ≡ length (seen pass.new)) }
+    ensures turn { turn_of pass.old < turn_of pass.new }
     ensures legal { IsLegalFrom desk.now.opened (seen pass.new) }
     ensures begun { IfOk result (λ m. GoesWith desk.now policy pass.old pass.new m) }
     ensures refused { IfErr result
@@ -111,6 +112,7 @@ pub(crate) fn next_round<R: Wait + Threads + Sync, K: Keeper, G: Gate>(
     ensures gate { G.ready gate.new × (G.desks gate.new ≡ G.desks gate.old) }
     ensures known { (known pass.old ≤ length (seen pass.new))
         × (known pass.new ≡ length (seen pass.new)) }
+    ensures turn { turn_of pass.old < turn_of pass.new }
     ensures legal { IsLegalFrom desk.now.opened (seen pass.new) }
     ensures goes { (policy : Resolved) (first : Pass) → Going desk.now policy first pass.old
         → GoesAfter desk.now policy first pass.new result }

@@ -1,8 +1,8 @@
 //! The turns of a collection: each finds the store in one state and leaves it in another.
 
-ghost use Rattle.std.specs.Prelude.{◌≡◌, ◌≤◌, IfErr, IfOk, IsTrue, OnErr, length};
+ghost use Rattle.std.specs.Prelude.{◌≡◌, ◌<◌, ◌≤◌, IfErr, IfOk, IsTrue, OnErr, length};
 ghost use Rattle.cat_checks.specs.Histories.{IsLegalFrom};
-ghost use Rattle.cat_desk.specs.Pass.{IsFree, Keeps, known, seen};
+ghost use Rattle.cat_desk.specs.Pass.{IsFree, Keeps, known, seen, turn_of};
 ghost use Rattle.cat_frames.specs.Sweeps.{resolved_is_logged};
 ghost use Rattle.cat_collect.specs.Turns.{DrainsIn, DropsIn, Holds, IsOpenIn, LeavesIn, OpensNone, OpensSweep, SettlesIn};
 
@@ -32,6 +32,7 @@ pub(crate) fn open<R: Wait, K: Keeper>(
     ensures kept { Keeps desk.now pass.old pass.new }
     ensures known { (known pass.old ≤ length (seen pass.new))
         × (known pass.new ≡ length (seen pass.new)) }
+    ensures turn { turn_of pass.old < turn_of pass.new }
     ensures legal { IsLegalFrom desk.now.opened (seen pass.new) }
     ensures opened { IfOk result
         (λ t. OpensSweep K desk.now policy pass.old pass.new t.0 t.1 t.2) }
@@ -60,6 +61,7 @@ pub(crate) fn drain<R: Wait, K: Keeper>(
     ensures kept { Keeps desk.now pass.old pass.new }
     ensures known { (known pass.old ≤ length (seen pass.new))
         × (known pass.new ≡ length (seen pass.new)) }
+    ensures turn { turn_of pass.old < turn_of pass.new }
     ensures legal { IsLegalFrom desk.now.opened (seen pass.new) }
     ensures drained { IfOk result (λ t. DrainsIn K desk.now pass.old pass.new t.0 t.1) }
     ensures stays { OnErr result (LeavesIn K desk.now pass.old pass.new) }
@@ -89,6 +91,7 @@ pub(crate) fn settle<R: Wait, K: Keeper>(
     ensures kept { Keeps desk.now pass.old pass.new }
     ensures known { (known pass.old ≤ length (seen pass.new))
         × (known pass.new ≡ length (seen pass.new)) }
+    ensures turn { turn_of pass.old < turn_of pass.new }
     ensures legal { IsLegalFrom desk.now.opened (seen pass.new) }
     ensures settled { SettlesIn K desk.now pass.old pass.new moment result }
 {
@@ -114,6 +117,7 @@ pub(crate) fn give_up<R: Wait, K: Keeper>(
     ensures kept { Keeps desk.now pass.old pass.new }
     ensures known { (known pass.old ≤ length (seen pass.new))
         × (known pass.new ≡ length (seen pass.new)) }
+    ensures turn { turn_of pass.old < turn_of pass.new }
     ensures legal { IsLegalFrom desk.now.opened (seen pass.new) }
     ensures dropped { DropsIn K desk.now pass.old pass.new }
 {

@@ -16,7 +16,8 @@ use Rattle.cat_model.specs.Drafts.{nothing_open}
 use Rattle.cat_model.specs.Mark.{Mark}
 use Rattle.cat_model.specs.State.{State}
 use Rattle.cat_model.specs.Step.{opens_draft}
-use Rattle.cat_work.specs.Answers.{Answers, AnswersAlone, IsDraftAbove}
+use Rattle.cat_work.specs.Answers.{Answers, AnswersAlone, IsDraftAbove, sweeps_in}
+use Rattle.cat_work.specs.MarkLaws.{but_fault, no_draft_still, refers_mark}
 use Rattle.cat_work.specs.Passes.{IsAlone, book_of, state_of}
 use Rattle.cat_work.specs.Turns.{Comes, Turned}
 use Rattle.cat_work.proofs.Callings.{call_brings, call_draft}
@@ -77,6 +78,7 @@ pub refers_comes : {K : Type 0} (desk : DeskId) (c : Command) (p q : Pass) (atte
 refers_comes desk c p q attempts moment n s s' r number opens none legal known_is turn h =
     let own : Refers (call_on sha256 (number_of p) s.book c moment) (number_of p) s s' r = subst (λ (m : ℕ). Refers (call_on sha256 m s.book c moment) m s s' r) number h in
     let same : stored.open_of s' ≡ stored.open_of s = refers_open (call_on sha256 (number_of p) s.book c moment) (number_of p) s s' r own in
+    let kept : but_fault s'.mark ≡ but_fault s.mark = refers_mark (call_on sha256 (number_of p) s.book c moment) (number_of p) s s' r own in
     record {
       none = none_still desk p q s s' none turn same;
       grows = grew_in desk p q s s' turn;
@@ -84,4 +86,7 @@ refers_comes desk c p q attempts moment n s s' r number opens none legal known_i
       alone = λ only. subst (λ (called : Called). AnswersAlone (number_of p) called (book_of desk p) (book_of desk q) (mark_of p).fault (mark_of q).fault r)
           (ap (λ (b : Book). call_on sha256 (number_of p) b c moment) (book_found desk p q s s' turn only)) (refers_alone desk c p q moment s s' r opens turn own only);
       rests = λ only nothing. same_open desk p q s s' turn same only ∙ nothing;
+      undrafted = λ _. no_draft_still (number_of p) (mark_of p) s.mark (mark_of q) (λ last. turn.linked.own_draft last) (ap (λ (m : Mark). m.draft) turn.mark_is ∙ ap (λ (m : Mark). m.draft) kept)
+          (ap (λ (m : Mark). m.drafter) turn.mark_is ∙ ap (λ (m : Mark). m.drafter) kept);
+      unswept = λ only. ap (λ (m : Mark). sweeps_in m) turn.mark_is ∙ (ap (λ (m : Mark). sweeps_in m) kept ∙ ap (λ (m : Mark). sweeps_in m) (turn.alone only).1);
     }

@@ -32,7 +32,8 @@ use Rattle.cat_model.specs.State.{State}
 use Rattle.cat_model.specs.Step.{opening, opens_draft}
 use Rattle.cat_model.specs.TurnLaws.{grows_on, nothing_stays}
 use Rattle.cat_work.specs.declared.trying.Trying.{Trying}
-use Rattle.cat_work.specs.Answers.{Answers, AnswersAlone, Causes, IsDraftAbove, RefusesAlone, Spends}
+use Rattle.cat_work.specs.Answers.{Answers, AnswersAlone, Causes, IsDraftAbove, RefusesAlone, Spends, sweeps_in}
+use Rattle.cat_work.specs.MarkLaws.{refused_mark}
 use Rattle.cat_work.specs.Passes.{IsAlone, book_of, state_of}
 use Rattle.cat_work.specs.Turns.{Begins, Comes, Ends, EndsLast, Going, IsSpent, Moves, SettlesAndTells, StoodAlone, Trail, Tries, Turned, out_of_memory}
 use Rattle.cat_work.proofs.Callings.{Brings, called_alone, made_brings, made_draft, may_pass}
@@ -380,6 +381,21 @@ closed_alone desk c first present next t attempts number s s' g turn left_open o
     ap (λ (o : Open). record o { drafts = without (opening_in t.draft) o.drafts }) there ∙ (λ i. record { drafts = none_but (open_draft_of t.draft) i; sweep = None }) in
     turn.all_left ∙ (left_open ∙ none)
 
+-- no sweep was opened or closed
+draft_unswept : {K : Type 0} (called : Called) (s : Stored K) (d : Draft) (r : Refused) (why : Refusal) (s' : Stored K) → IsGoneIn called s d r why s' ⊎ IsOtherIn called s d r why s' → sweeps_in s'.mark ≡ sweeps_in s.mark
+draft_unswept {K} called s d r why s' (inl x) = ap (λ (y : Stored K). sweeps_in y.mark) x.expires.after
+draft_unswept called s d r why s' (inr x) = ap (λ (m : Mark). sweeps_in m) (refused_mark called d.caller s r why s' (closed s d) x.refuses)
+
+ends_unswept : {K : Type 0} (s s' : Stored K) (d : Draft) (view : State) (moment : ℕ) (r : Result Told Refused) → Ends s d view moment r s' → sweeps_in s'.mark ≡ sweeps_in s.mark
+ends_unswept {K} s s' d view moment (Ok told) h = ap (λ (y : Stored K). sweeps_in y.mark) h.2.0.1.after
+ends_unswept s s' d view moment (Err e) (inl h) = draft_unswept (called_in s d moment) s d e e.why s' (by_draft (called_in s d moment) s d e e.why s' h.2.0.1)
+ends_unswept {K} s s' d view moment (Err e) (inr h) = ap (λ (y : Stored K). sweeps_in y.mark) h.1
+
+unswept_alone : {K : Type 0} (desk : DeskId) (c : Command) (first present next : Pass) (t : Trying) (attempts number : ℕ) (s s' : Stored K) → Going desk c first present t attempts number → Turned desk present next s s' → sweeps_in s'.mark ≡ sweeps_in s.mark → IsAlone first
+    → sweeps_in (mark_of next) ≡ sweeps_in (mark_of first)
+unswept_alone desk c first present next t attempts number s s' g turn same only =
+    ap (λ (m : Mark). sweeps_in m) turn.mark_is ∙ (same ∙ ap (λ (m : Mark). sweeps_in m) ((turn.alone (alone_still desk first present g.kept only)).1 ∙ (g.alone only).mark_is))
+
 -- the store is found as the opening left it
 alone_at : {K : Type 0} (desk : DeskId) (c : Command) (first present next : Pass) (t : Trying) (attempts number moment : ℕ) (s s' : Stored K) → opens_draft c ≡ true → Going desk c first present t attempts number → Turned desk present next s s' → IsAlone first
     → AloneAt (called_in s t.draft moment) (book_of desk first) (mark_of first).fault s × (called_in s t.draft moment ≡ call_on sha256 (number_of first) (book_of desk first) c moment)
@@ -442,6 +458,8 @@ comes_early desk c first present next t attempts number moment s s' r opens g le
   answers = settled_answers desk c first present next t attempts number moment s s' r opens g legal turn ends;
   alone = settled_alone desk c first present next t attempts number moment s s' r opens g turn ends;
   rests = closed_alone desk c first present next t attempts number s s' g turn (ends_closed s s' t.draft t.view moment r ends);
+  undrafted = λ no. absurd (let wrong : true ≡ false = sym opens ∙ no in cc);
+  unswept = unswept_alone desk c first present next t attempts number s s' g turn (ends_unswept s s' t.draft t.view moment r ends);
 }
 
 -- ---- the last attempt
@@ -489,6 +507,8 @@ spent_comes {K} desk c first present next t attempts moment s s' built r opens g
       );
       alone = λ only. absurd (x.moved.other (stays_alone desk present next s s' t.draft t.view built g.tries.view_is is turn (alone_still desk first present g.kept only)));
       rests = closed_alone desk c first present next t attempts attempts s s' g turn (ap (λ (y : Stored K). stored.open_of y) x.after);
+      undrafted = λ no. absurd (let wrong : true ≡ false = sym opens ∙ no in cc);
+      unswept = unswept_alone desk c first present next t attempts attempts s s' g turn (ap (λ (y : Stored K). sweeps_in y.mark) x.after);
     }
 
 pub comes_late : {K : Type 0} (desk : DeskId) (c : Command) (first present next : Pass) (t : Trying) (attempts moment : ℕ) (s s' : Stored K) (r : Result Told Refused) → opens_draft c ≡ true → Going desk c first present t attempts attempts → IsLegalFrom desk.opened (seen next)

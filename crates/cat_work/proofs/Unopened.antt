@@ -1,11 +1,11 @@
 -- Calls for which no draft was opened.
-use Rattle.std.proofs.Common.{◌≡◌, ◌<◌, ◌≤◌, ◌⊎◌, inl, inr, ℕ, ◌+◌, ◌++◌, Option, Some, None, Result, Ok, Err, Bool, true, refl, sym, ap, subst, ◌∙◌, arith, le_refl, length}
+use Rattle.std.proofs.Common.{◌≡◌, ◌<◌, ◌≤◌, ◌⊎◌, inl, inr, ℕ, ◌+◌, ◌++◌, Option, Some, None, Result, Ok, Err, Bool, true, false, refl, sym, ap, subst, ◌∙◌, arith, le_refl, length}
 use Rattle.sha2.specs.Sha256.{sha256}
 use Rattle.cat_core.specs.Drafts.{NotOpened, may_open}
 use Rattle.cat_core.specs.Stored.{IsUp, Stored}
 use Rattle.cat_desk.specs.Log.{Follows}
 use Rattle.cat_desk.specs.LogLaws.{follows_itself}
-use Rattle.cat_desk.specs.Pass.{DeskId, all_left_by, known, left_by, mark_of, number_of, seen}
+use Rattle.cat_desk.specs.Pass.{DeskId, all_left_by, known, left_by, mark_of, number_of, seen, turn_of}
 use Rattle.cat_desk.specs.declared.pass.Pass.{Pass}
 use Rattle.cat_model.specs.declared.command.Command.{Command}
 use Rattle.cat_model.specs.declared.refusal.Refusal.{Refusal}
@@ -21,7 +21,7 @@ use Rattle.cat_model.specs.State.{State}
 use Rattle.cat_model.specs.Step.{opening, opens_draft}
 use Rattle.cat_model.specs.TurnLaws.{grows_self, nothing_stays}
 use Rattle.cat_core.specs.Stored as stored
-use Rattle.cat_work.specs.Answers.{Causes, IsAt, IsDraftAbove, IsRuledOut, KnowsAt, Knows, RefusesAlone}
+use Rattle.cat_work.specs.Answers.{Causes, IsAt, IsDraftAbove, IsRuledOut, KnowsAt, Knows, RefusesAlone, sweeps_in}
 use Rattle.cat_work.specs.Passes.{IsAlone, book_of, state_of}
 use Rattle.cat_work.specs.Turns.{BeginsNone, Comes, Turned, out_of_memory}
 use Rattle.cat_work.proofs.Openings as openings
@@ -235,6 +235,8 @@ no_turn desk c p attempts moment none = record {
   answers = (follows_itself (number_of p) (seen p), (refl, λ x is own. is));
   alone = λ only. (unchanged_given_up (book_of desk p) (book_of desk p) out_of_memory refl refl, refl);
   rests = λ only nothing. nothing;
+  undrafted = λ _ last. refl;
+  unswept = λ _. refl;
 }
 
 pub begins_none : (K : Type 0) (desk : DeskId) (c : Command) (p q : Pass) (attempts moment : ℕ) (r : Refused) → opens_draft c ≡ true → left_by p ≡ nothing_open → BeginsNone K desk c p q r → Comes desk c p q attempts moment (Err r)
@@ -245,17 +247,22 @@ begins_none K desk c p q attempts moment r opens none (inr h) = record {
   answers = answers_none desk moment attempts (known p) c p q h.0 h.1 r r.why opens h.2 h.3 refl h.4;
   alone = λ only. alone_none desk moment c p q h.0 h.1 r r.why opens h.2 h.3 refl h.4 only;
   rests = λ only nothing. same_open desk p q h.0 h.1 h.2 (ap (λ (y : Stored K). stored.open_of y) h.3) only ∙ nothing;
+  undrafted = λ no. absurd (let wrong : true ≡ false = sym opens ∙ no in cc);
+  unswept = λ only. ap (λ (m : Mark). sweeps_in m) (h.2.mark_is ∙ (ap (λ (y : Stored K). y.mark) h.3 ∙ (h.2.alone only).1));
 }
 
 -- ---- what is known
 
-known_at : (p q : Pass) (place : Option ℕ) → known p ≤ known q → known q ≡ length (seen q) → KnowsAt p q place
-known_at p q None le is = le
-known_at p q (Some place) le is = (subst (λ (n : ℕ). known p ≤ n) is le, is)
+known_at : (p q : Pass) (place : Option ℕ) → known p ≤ known q → known q ≡ length (seen q) → turn_of p < turn_of q → KnowsAt p q place
+known_at p q None le is turn = le
+known_at p q (Some place) le is turn = (subst (λ (n : ℕ). known p ≤ n) is le, is, turn)
 
-pub knows_all : (p q : Pass) (r : Result Told Refused) → known p ≤ known q → known q ≡ length (seen q) → Knows p q r
-knows_all p q (Ok told) le is = (subst (λ (n : ℕ). known p ≤ n) is le, is)
-knows_all p q (Err e) le is = known_at p q e.place le is
+pub knows_all : (p q : Pass) (r : Result Told Refused) → known p ≤ known q → known q ≡ length (seen q) → turn_of p < turn_of q → Knows p q r
+knows_all p q (Ok told) le is turn = (subst (λ (n : ℕ). known p ≤ n) is le, is, turn)
+knows_all p q (Err e) le is turn = known_at p q e.place le is turn
 
 pub known_on : (a b c : ℕ) (size : ℕ) → a ≤ b → b ≤ size → c ≡ size → a ≤ c
 known_on a b c size p q e = omega arith
+
+pub turned_on : (a b c : ℕ) → a < b → b < c → a < c
+turned_on a b c p q = omega arith

@@ -7,7 +7,7 @@ use Rattle.cat_checks.specs.Histories.{book_at}
 use Rattle.cat_decisions.specs.Builds.{HasHead}
 use Rattle.cat_desk.specs.Log.{Follows}
 use Rattle.cat_io.specs.Clocks.{Ticks}
-use Rattle.cat_desk.specs.Pass.{DeskId, all_left_by, known, mark_of, number_of, seen}
+use Rattle.cat_desk.specs.Pass.{DeskId, all_left_by, known, mark_of, number_of, seen, turn_of}
 use Rattle.cat_desk.specs.declared.pass.Pass.{Pass}
 use Rattle.cat_state.specs.Kept.{spelling}
 use Rattle.cat_core.specs.Gone.{never_held, set_upon}
@@ -25,9 +25,9 @@ use Rattle.cat_model.specs.declared.reply.Reply.{Reply}
 use Rattle.cat_model.specs.declared.reply.Told.{Told}
 use Rattle.cat_model.specs.Book.{Book, IsCalled, IsGivenUp, call_on}
 use Rattle.cat_model.specs.Calls.{Called, entry_made}
-use Rattle.cat_model.specs.Drafts.{nothing_open}
+use Rattle.cat_model.specs.Drafts.{Opening, nothing_open}
 use Rattle.cat_model.specs.KeySets.{key_set}
-use Rattle.cat_model.specs.Mark.{FailedAppend, Mark}
+use Rattle.cat_model.specs.Mark.{ClosedSweep, FailedAppend, Mark}
 use Rattle.cat_model.specs.Refusing.{Outcome}
 use Rattle.cat_model.specs.State.{State}
 use Rattle.cat_model.specs.Step.{Turn, logged_command, opening, opens_draft, step}
@@ -105,6 +105,10 @@ pub record IsRuledOut (desk : DeskId) (c : Command) (moment : ℕ) (before after
 -- a fault of this caller was there before
 abbrev pub NoFaultIsNew : ℕ → Mark → Mark → Type 0
 NoFaultIsNew n before after = (x : FailedAppend) → after.fault ≡ Some x → x.caller ≡ n → before.fault ≡ Some x
+
+-- a last draft number of this caller was there before
+abbrev pub NoDraftIsNew : ℕ → Mark → Mark → Type 0
+NoDraftIsNew n before after = after.drafter ≡ n → before.draft ≡ after.draft
 
 -- an append had failed, at this count of faults
 pub record IsDown (n count : ℕ) (before after : Mark) : Type 0 where
@@ -222,13 +226,13 @@ abbrev pub Answers : DeskId → ℕ → Command → ℕ → ℕ → ℕ → Mark
 Answers desk n c moment attempts k before after l m (Ok told) = Accepts desk n c moment before after l told m ⊎ Tells desk n c moment before after l told m
 Answers desk n c moment attempts k before after l m (Err refused) = Follows n l m × Causes desk n c moment attempts k before after m refused.place refused.why
 
--- where a state was looked at, the pass has seen all that it knows of, which is no less than before
+-- where a state was looked at, it was in a turn of the call, and the pass has seen all that it knows of, which is no less than before
 abbrev pub KnowsAt : Pass → Pass → Option ℕ → Type 0
 KnowsAt p q None = known p ≤ known q
-KnowsAt p q (Some place) = (known p ≤ length (seen q)) × (known q ≡ length (seen q))
+KnowsAt p q (Some place) = (known p ≤ length (seen q)) × (known q ≡ length (seen q)) × (turn_of p < turn_of q)
 
 abbrev pub Knows : Pass → Pass → Result Told Refused → Type 0
-Knows p q (Ok told) = (known p ≤ length (seen q)) × (known q ≡ length (seen q))
+Knows p q (Ok told) = (known p ≤ length (seen q)) × (known q ≡ length (seen q)) × (turn_of p < turn_of q)
 Knows p q (Err refused) = KnowsAt p q refused.place
 
 -- ---- the only pass
@@ -268,10 +272,16 @@ AnswersAlone n called b b' f f' (Err refused) = RefusesAlone n called b b' f f' 
 
 -- ---- a call
 
--- what a call on a pass answers, at the moment of one reading of the clock and in so many attempts, whatever others do; and what on the only pass of its desk, where nothing is left open if nothing was open
+-- the sweeps that a mark tells of: the open one, and the one that was closed last
+abbrev pub sweeps_in : Mark → Option Opening × Option ClosedSweep
+sweeps_in m = (m.sweep, m.closed)
+
+-- what a call on a pass answers, at the moment of one reading of the clock and in so many attempts, whatever others do; what on the only pass of its desk, where nothing is left open if nothing was open, and no sweep was opened; and a call that needs no draft opens none
 abbrev pub AnswersTo : DeskId → Command → ℕ → Option (ℕ → ℕ) → Option (ℕ → ℕ) → Pass → Pass → Result Told Refused → Type 0
 AnswersTo desk command attempts ahead ahead' p q result =
     (moment : ℕ) × Ticks ahead ahead' moment
     × Answers desk (number_of p) command moment attempts (known p) (mark_of p) (mark_of q) (seen p) (seen q) result
     × (IsAlone p → AnswersAlone (number_of p) (call_on sha256 (number_of p) (book_of desk p) command moment) (book_of desk p) (book_of desk q) (mark_of p).fault (mark_of q).fault result)
     × (IsAlone p → all_left_by p ≡ nothing_open → all_left_by q ≡ nothing_open)
+    × (opens_draft command ≡ false → NoDraftIsNew (number_of p) (mark_of p) (mark_of q))
+    × (IsAlone p → sweeps_in (mark_of q) ≡ sweeps_in (mark_of p))

@@ -1,5 +1,5 @@
 -- What the turns of a call find and leave.
-use Rattle.std.specs.Prelude.{◌≡◌, ◌⊎◌, ◌<◌, ◌≤◌, ℕ, ◌+◌, List, [], ◌∷◌, ◌++◌, length, None, Some, Ok, Err, Result, vec_capacity}
+use Rattle.std.specs.Prelude.{◌≡◌, ◌⊎◌, ◌<◌, ◌≤◌, ℕ, ◌+◌, List, [], ◌∷◌, ◌++◌, length, None, Some, Ok, Err, Result, false, vec_capacity}
 use Rattle.sha2.specs.Sha256.{sha256}
 use Rattle.cat_names.specs.declared.hash.Hash.{Hash}
 use Rattle.cat_decisions.specs.declared.building.Built.{Built}
@@ -25,11 +25,11 @@ use Rattle.cat_model.specs.Book.{call_on}
 use Rattle.cat_model.specs.Drafts.{StaysOpen, nothing_open, open_of}
 use Rattle.cat_model.specs.Mark.{Grows}
 use Rattle.cat_model.specs.State.{State}
-use Rattle.cat_model.specs.Step.{opening}
+use Rattle.cat_model.specs.Step.{opening, opens_draft}
 use Rattle.cat_work.specs.declared.trying.Tried.{Tried}
 use Rattle.cat_work.specs.declared.trying.Tried.TheVariants.{Ended, On}
 use Rattle.cat_work.specs.declared.trying.Trying.{Trying}
-use Rattle.cat_work.specs.Answers.{Answers, AnswersAlone, AreHeadsAt, NoFaultIsNew, Rises, first_place}
+use Rattle.cat_work.specs.Answers.{Answers, AnswersAlone, AreHeadsAt, NoDraftIsNew, NoFaultIsNew, Rises, first_place, sweeps_in}
 use Rattle.cat_work.specs.Passes.{IsAlone, book_of, state_of}
 
 -- ---- kinds of calls
@@ -210,3 +210,5 @@ pub record Comes (desk : DeskId) (c : Command) (first next : Pass) (attempts mom
   pub answers : Answers desk (number_of first) c moment attempts (known first) (mark_of first) (mark_of next) (seen first) (seen next) r
   pub alone : IsAlone first → AnswersAlone (number_of first) (call_on sha256 (number_of first) (book_of desk first) c moment) (book_of desk first) (book_of desk next) (mark_of first).fault (mark_of next).fault r
   pub rests : IsAlone first → all_left_by first ≡ nothing_open → all_left_by next ≡ nothing_open
+  pub undrafted : opens_draft c ≡ false → NoDraftIsNew (number_of first) (mark_of first) (mark_of next)
+  pub unswept : IsAlone first → sweeps_in (mark_of next) ≡ sweeps_in (mark_of first)

@@ -3,7 +3,7 @@ ghost use Rattle.std.specs.Prelude.{◌≡◌, ◌≤◌, ◌<◌, ◌+◌, true
 ghost use Rattle.sha2.specs.Sha256.{sha256};
 ghost use Rattle.cat_checks.specs.Histories.{IsLegalFrom};
 ghost use Rattle.cat_core.specs.Drafts.{command_in};
-ghost use Rattle.cat_desk.specs.Pass.{IsFree, Keeps, known, seen};
+ghost use Rattle.cat_desk.specs.Pass.{IsFree, Keeps, known, seen, turn_of};
 ghost use Rattle.cat_model.specs.Step.{opens_draft};
 ghost use Rattle.cat_model.specs.WellMade.{is_well_made};
 ghost use Rattle.cat_work.specs.Answers.{KnowsAt};
@@ -50,6 +50,7 @@ pub(crate) fn begin<'a, R: Wait, K: Keeper>(
     ensures known { IfOk result
         (λ _. (known pass.old ≤ length (seen pass.new))
         × (known pass.new ≡ length (seen pass.new))) }
+    ensures turn { IfOk result (λ _. turn_of pass.old < turn_of pass.new) }
     ensures legal { IfOk result (λ _. IsLegalFrom desk.now.opened (seen pass.new)) }
     ensures refused { IfErr result
         (λ r. BeginsNone K desk.now command.now pass.old pass.new r
@@ -92,6 +93,7 @@ pub(crate) fn attempt<'a, R: Wait, K: Keeper, G: Gate>(
     ensures gate { G.ready gate.new × (G.desks gate.new ≡ G.desks gate.old) }
     ensures known { (known pass.old ≤ length (seen pass.new))
         × (known pass.new ≡ length (seen pass.new)) }
+    ensures turn { turn_of pass.old < turn_of pass.new }
     ensures legal { IsLegalFrom desk.now.opened (seen pass.new) }
     ensures tried { TriesOn K desk.now pass.old pass.new moment trying.entry result }
 {

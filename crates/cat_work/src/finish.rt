@@ -5,7 +5,7 @@ ghost use Rattle.cat_decisions.specs.Builds.{IsBuilt, IsGivenBy};
 ghost use Rattle.cat_checks.specs.Histories.{IsLegalFrom};
 ghost use Rattle.cat_core.specs.Drafts.{IsOpen, command_in, open_draft_of};
 ghost use Rattle.cat_core.specs.Stored.{open_of, snap};
-ghost use Rattle.cat_desk.specs.Pass.{IsFree, Keeps, known, seen};
+ghost use Rattle.cat_desk.specs.Pass.{IsFree, Keeps, known, seen, turn_of};
 ghost use Rattle.cat_model.specs.declared.refusal.Refusal.TheVariants.{RetriesSpent};
 ghost use Rattle.cat_model.specs.Drafts.{drafts_of};
 ghost use Rattle.cat_model.specs.Later.{IsLater};
@@ -100,6 +100,7 @@ pub(crate) fn finish<R: Wait, K: Keeper, G: Gate>(
     ensures gate { G.ready gate.new × (G.desks gate.new ≡ G.desks gate.old) }
     ensures known { (known pass.old ≤ length (seen pass.new))
         × (known pass.new ≡ length (seen pass.new)) }
+    ensures turn { turn_of pass.old < turn_of pass.new }
     ensures legal { IsLegalFrom desk.now.opened (seen pass.new) }
     ensures finishes { Finishes K desk.now pass.old pass.new moment trying.entry result }
 {

@@ -1,8 +1,9 @@
 //! Calls that read.
-ghost use Rattle.std.specs.Prelude.{◌≡◌, ◌≤◌, length};
+ghost use Rattle.std.specs.Prelude.{◌≡◌, ◌<◌, ◌≤◌, length};
 ghost use Rattle.sha2.specs.Sha256.{sha256};
 ghost use Rattle.cat_desk.specs.Log.{Follows};
-ghost use Rattle.cat_desk.specs.Pass.{Keeps, all_left_by, known, mark_of, number_of, seen};
+ghost use Rattle.cat_desk.specs.Marks.{Linked};
+ghost use Rattle.cat_desk.specs.Pass.{Keeps, all_left_by, known, mark_of, number_of, seen, turn_of};
 ghost use Rattle.cat_model.specs.Book.{Reads};
 ghost use Rattle.cat_model.specs.Mark.{Grows};
 ghost use Rattle.cat_work.specs.Passes.{IsAlone, IsReady, book_of};
@@ -29,7 +30,10 @@ pub fn read<R: Wait, K: Keeper>(
     ensures ready { IsReady desk.now pass.new }
     ensures known { (known pass.old ≤ length (seen pass.new))
         × (known pass.new ≡ length (seen pass.new)) }
+    ensures turn { turn_of pass.old < turn_of pass.new }
     ensures grows { Grows (mark_of pass.old) (mark_of pass.new) }
+    ensures linked { Linked (number_of pass.old) (mark_of pass.old) (mark_of pass.new) }
+    ensures still { IsAlone pass.old → mark_of pass.new ≡ mark_of pass.old }
     ensures follows { Follows (number_of pass.old) (seen pass.old) (seen pass.new) }
     ensures reads { Reads sha256 (book_of desk.now pass.new) ask.now result }
     ensures alone { IsAlone pass.old

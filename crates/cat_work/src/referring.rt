@@ -1,15 +1,15 @@
 //! Calls on references.
-ghost use Rattle.std.specs.Prelude.{ℕ, ◌≡◌, ◌≤◌, false, length, IsTrue};
+ghost use Rattle.std.specs.Prelude.{ℕ, ◌≡◌, ◌<◌, ◌≤◌, false, length, IsTrue};
 ghost use Rattle.sha2.specs.Sha256.{sha256};
 ghost use Rattle.cat_checks.specs.Histories.{IsLegalFrom};
-ghost use Rattle.cat_desk.specs.Pass.{Keeps, all_left_by, known, mark_of, number_of, seen};
+ghost use Rattle.cat_desk.specs.Pass.{Keeps, all_left_by, known, mark_of, number_of, seen, turn_of};
 ghost use Rattle.cat_io.specs.Clocks.{Ticks};
 ghost use Rattle.cat_model.specs.Book.{call_on};
 ghost use Rattle.cat_model.specs.Drafts.{nothing_open};
 ghost use Rattle.cat_model.specs.Mark.{Grows};
 ghost use Rattle.cat_model.specs.Step.{opens_draft};
 ghost use Rattle.cat_model.specs.WellMade.{is_well_made};
-ghost use Rattle.cat_work.specs.Answers.{Answers, AnswersAlone, Knows};
+ghost use Rattle.cat_work.specs.Answers.{Answers, AnswersAlone, Knows, NoDraftIsNew, sweeps_in};
 ghost use Rattle.cat_work.specs.Passes.{IsAlone, IsReady, book_of};
 ghost use Rattle.cat_work.specs.Turns.{Comes};
 
@@ -39,6 +39,7 @@ fn refer_at<R: Wait, K: Keeper>(
     ensures kept { Keeps desk.now pass.old pass.new }
     ensures known { (known pass.old ≤ length (seen pass.new))
         × (known pass.new ≡ length (seen pass.new)) }
+    ensures turn { turn_of pass.old < turn_of pass.new }
     ensures legal { IsLegalFrom desk.now.opened (seen pass.new) }
     ensures comes { (attempts : ℕ)
         → Comes desk.now command.now pass.old pass.new attempts moment result }
@@ -79,6 +80,9 @@ pub fn refer<R: Wait, K: Keeper, C: Clock>(
         × (IsAlone pass.old
         → all_left_by pass.old ≡ nothing_open
         → all_left_by pass.new ≡ nothing_open) }
+    ensures unswept { IsAlone pass.old
+        → sweeps_in (mark_of pass.new) ≡ sweeps_in (mark_of pass.old) }
+    ensures undrafted { NoDraftIsNew (number_of pass.old) (mark_of pass.old) (mark_of pass.new) }
 {
     let moment = Moment::from_micros(clock.now());
     refer_at(rt, alloc, desk, pass, moment, command)

@@ -1,10 +1,10 @@
 //! The turns of a call: each finds the store in one state and leaves it in another.
-ghost use Rattle.std.specs.Prelude.{◌≡◌, ◌≤◌, ◌∷◌, [], None, true, length, IfOk, IfErr, IsTrue};
+ghost use Rattle.std.specs.Prelude.{◌≡◌, ◌<◌, ◌≤◌, ◌∷◌, [], None, true, length, IfOk, IfErr, IsTrue};
 ghost use Rattle.sha2.specs.Sha256.{sha256};
 ghost use Rattle.cat_decisions.specs.Builds.{IsBuilt, IsGivenBy};
 ghost use Rattle.cat_checks.specs.Histories.{IsLegalFrom};
 ghost use Rattle.cat_core.specs.Drafts.{command_in, open_draft_of};
-ghost use Rattle.cat_desk.specs.Pass.{IsFree, Keeps, known, left_by, number_of, seen};
+ghost use Rattle.cat_desk.specs.Pass.{IsFree, Keeps, known, left_by, number_of, seen, turn_of};
 ghost use Rattle.cat_model.specs.Step.{opens_draft};
 ghost use Rattle.cat_model.specs.WellMade.{is_well_made};
 ghost use Rattle.cat_work.specs.Passes.{state_of};
@@ -33,6 +33,7 @@ pub(crate) fn open<'a, R: Wait, K: Keeper>(
     ensures kept { Keeps desk.now pass.old pass.new }
     ensures known { (known pass.old ≤ length (seen pass.new))
         × (known pass.new ≡ length (seen pass.new)) }
+    ensures turn { turn_of pass.old < turn_of pass.new }
     ensures legal { IsLegalFrom desk.now.opened (seen pass.new) }
     ensures opened { IfOk result (λ t. Opens K desk.now command.now pass.old pass.new t.0 t.1) }
     ensures refused { IfErr result (λ r. OpensNone K desk.now command.now pass.old pass.new r) }
@@ -64,6 +65,7 @@ pub(crate) fn settle<'a, R: Wait, K: Keeper>(
     ensures kept { Keeps desk.now pass.old pass.new }
     ensures known { (known pass.old ≤ length (seen pass.new))
         × (known pass.new ≡ length (seen pass.new)) }
+    ensures turn { turn_of pass.old < turn_of pass.new }
     ensures legal { IsLegalFrom desk.now.opened (seen pass.new) }
     ensures settled { SettlesIn K desk.now pass.old pass.new draft.entry built moment result }
 {
@@ -88,6 +90,7 @@ pub(crate) fn give_up<R: Wait, K: Keeper>(
     ensures kept { Keeps desk.now pass.old pass.new }
     ensures known { (known pass.old ≤ length (seen pass.new))
         × (known pass.new ≡ length (seen pass.new)) }
+    ensures turn { turn_of pass.old < turn_of pass.new }
     ensures legal { IsLegalFrom desk.now.opened (seen pass.new) }
     ensures dropped { DropsIn K desk.now pass.old pass.new draft.entry }
 {

@@ -1,7 +1,8 @@
 use Rattle.std.proofs.Common.{refl, sym, ap, subst, ◌∙◌}
 use Rattle.sha2.specs.Sha256.{sha256}
 use Rattle.cat_desk.specs.Log.{Follows}
-use Rattle.cat_desk.specs.Pass.{number_of, seen}
+use Rattle.cat_desk.specs.Marks.{Linked}
+use Rattle.cat_desk.specs.Pass.{mark_of, number_of, seen}
 use Rattle.cat_model.specs.Book.{Book, Reads}
 use Rattle.cat_model.specs.Mark.{Mark}
 use Rattle.cat_model.specs.TurnLaws.{grows_self}
@@ -25,6 +26,9 @@ returns-clause-grows g c = let held = c.enter-held.result.value in let turn : Tu
     c.history.ensures.led c.history.ensures.draft c.history.ensures.base c.history.ensures.led c.history.ensures.draft c.history.ensures.base c.leave.ensures.seen.0 c.leave.ensures.mark.0 (grows_self held.mark) c.leave.ensures.left in
     grew_in c.args.desk.now c.args.pass.now c.leave.new.pass held held turn
 
+pub returns-clause-linked : goal.returns-clause-linked
+returns-clause-linked g c = subst (Linked (number_of c.args.pass.now) (mark_of c.args.pass.now)) (sym c.leave.ensures.mark.0) c.enter-held.ensures.mark.0
+
 pub returns-clause-reads : goal.returns-clause-reads
 returns-clause-reads g c = let held = c.enter-held.result.value in let turn : Turned c.args.desk.now c.args.pass.now c.leave.new.pass held held =
     turned c.args.desk.now c.args.pass.now c.enter-held.new.pass c.leave.new.pass held held c.enter-held.ensures.turn.1 c.enter-held.ensures.legal.0 refl c.enter-held.ensures.follows.0 c.enter-held.ensures.mark.0 c.enter-held.ensures.own c.enter-held.ensures.alone
@@ -39,3 +43,6 @@ returns-clause-alone g c only = let held = c.enter-held.result.value in let turn
       ap (λ (m : Mark). m.fault) (turn.mark_is ∙ (turn.alone only).1),
       same_open c.args.desk.now c.args.pass.now c.leave.new.pass held held turn refl only,
     )
+
+pub returns-clause-still : goal.returns-clause-still
+returns-clause-still g c only = c.leave.ensures.mark.0 ∙ (c.enter-held.ensures.alone only).1
