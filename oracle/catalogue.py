@@ -13,9 +13,9 @@ DEFAULT_BRANCH = "main"
 
 BRANCH, TAG = "BRANCH", "TAG"
 
-ICEBERG_TABLE, ICEBERG_VIEW, DELTA_LAKE_TABLE, NAMESPACE = (
-    "ICEBERG_TABLE", "ICEBERG_VIEW", "DELTA_LAKE_TABLE", "NAMESPACE")
-TYPE_BYTES = {ICEBERG_TABLE: 1, ICEBERG_VIEW: 2, DELTA_LAKE_TABLE: 3, NAMESPACE: 4}
+ICEBERG_TABLE, ICEBERG_VIEW, DELTA_LAKE_TABLE, NAMESPACE, UDF = (
+    "ICEBERG_TABLE", "ICEBERG_VIEW", "DELTA_LAKE_TABLE", "NAMESPACE", "UDF")
+TYPE_BYTES = {ICEBERG_TABLE: 1, ICEBERG_VIEW: 2, DELTA_LAKE_TABLE: 3, NAMESPACE: 4, UDF: 5}
 
 NORMAL, FORCE, DROP = "NORMAL", "FORCE", "DROP"
 
@@ -116,6 +116,8 @@ def content_bytes(content, content_id):
         out += listed(content["metadataLocationHistory"], text)
         out += listed(content["checkpointLocationHistory"], text)
         out += option(content["lastCheckpoint"], text)
+    elif kind == UDF:
+        out += text(content["metadataLocation"]) + text(content["versionId"]) + text(content["signatureId"])
     else:
         out += listed(content["elements"], text)
         pairs = sorted(content["properties"].items(), key=lambda p: p[0].encode("utf-8"))
@@ -362,8 +364,8 @@ class Catalogue:
     def on_chain(self, head, commit_hash):
         return commit_hash in self.chain(head)
 
-    def resolve(self, name, commit_hash):
-        """The commit that a read speaks of: a name, a hash, or both."""
+    def pointed(self, name, commit_hash):
+        """The commit that a read points at by a name, a hash, or both."""
         if name is None:
             if not self.known(commit_hash):
                 raise not_found()
@@ -374,6 +376,14 @@ class Catalogue:
         if not self.on_chain(head, commit_hash):
             raise not_found()
         return commit_hash
+
+    def resolve(self, where):
+        """The commit that a read speaks of: one pointed at, or one that its chain has so many further on."""
+        name, commit_hash, back = where
+        chain = self.chain(self.pointed(name, commit_hash))
+        if back >= len(chain):
+            raise not_found()
+        return chain[back]
 
     def shown(self, name, commit_hash):
         if name is None:
@@ -678,26 +688,26 @@ class Catalogue:
 
     # Reading.
 
-    def at(self, name, commit_hash, token_hash):
-        found = self.resolve(name, commit_hash)
+    def at(self, where, token_hash):
+        found = self.resolve(where)
         if token_hash is not None:
             if not self.known(token_hash):
                 raise not_found()
             found = token_hash
         return found
 
-    def entries_page(self, name, commit_hash, token, keeps, limit_):
-        found = self.at(name, commit_hash, None if token is None else token[0])
+    def entries_page(self, where, token, keeps, limit_):
+        found = self.at(where, None if token is None else token[0])
         items = sorted(self.entries(found).items(), key=lambda i: key_order(i[0]))
         items = [i for i in items if keeps(i[0])]
         if token is not None:
             items = [i for i in items if key_order(i[0]) > key_order(token[1])]
         page = items[:limit_]
         more = (found, page[-1][0]) if len(items) > limit_ else None
-        return self.shown(name, found), page, more
+        return self.shown(where[0], found), page, more
 
-    def history_page(self, name, commit_hash, token, until, limit_):
-        found = self.at(name, commit_hash, token)
+    def history_page(self, where, token, until, limit_):
+        found = self.at(where, token)
         chain = self.chain(found)
         if until is not None:
             if until not in chain:
@@ -706,21 +716,21 @@ class Catalogue:
         chain = [h for h in chain if h != NO_ANCESTOR]
         return chain[:limit_], (chain[limit_] if len(chain) > limit_ else None)
 
-    def contents_of(self, name, commit_hash, keys):
-        found = self.resolve(name, commit_hash)
+    def contents_of(self, where, keys):
+        found = self.resolve(where)
         entries = self.entries(found)
         out = [(k, self.contents[entries[k][2]]) for k in keys
                if k in entries and entries[k][2] in self.contents]
-        return self.shown(name, found), out
+        return self.shown(where[0], found), out
 
-    def content(self, name, commit_hash, key):
-        found = self.resolve(name, commit_hash)
+    def content(self, where, key):
+        found = self.resolve(where)
         entries = self.entries(found)
         if key not in entries:
             raise Refused("CONTENT_NOT_FOUND", "content absent")
         if entries[key][2] not in self.contents:
             raise Refused("CONTENT_NOT_FOUND", "content expired")
-        return self.shown(name, found), self.contents[entries[key][2]]
+        return self.shown(where[0], found), self.contents[entries[key][2]]
 
 
 def limit(which):

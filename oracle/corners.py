@@ -581,7 +581,8 @@ class Row(compare.Comparison):
                 self.fresh_program()
         for path, query in itertools.product(
                 ("trees/main", "trees/none", "trees/a..b", "trees/main@" + unknown, "trees/@" + unknown, "trees/@" + old,
-                 "trees/main@" + off), ("", "x=", "max-records=x", "page-token=e.%s.t" % unknown, "page-token=e.%s.t" % old,
+                 "trees/main@" + off, "trees/main~0", "trees/-~1", "trees/main@%s~1" % old, "trees/@%s~9" % old, "trees/none~0",
+                 "trees/main~", "trees/main~00000000001", "trees/@%s~4294967296" % old), ("", "x=", "max-records=x", "page-token=e.%s.t" % unknown, "page-token=e.%s.t" % old,
                                         "page-token=h." + unknown, "page-token=h." + off, "limit-hash=" + off,
                                         "limit-hash=%s&page-token=h.%s" % (old, off), "limit-hash=x", "fetch=x", "key=.")):
             for rest in ("/entries", "/history", "", "/contents"):
@@ -606,7 +607,8 @@ class Row(compare.Comparison):
             {"type": "ICEBERG_VIEW", "metadataLocation": "m", "versionId": 1, "schemaId": 2, "sqlText": "s", "dialect": "d"},
             {"type": "DELTA_LAKE_TABLE", "metadataLocationHistory": ["a"], "checkpointLocationHistory": ["b"],
              "lastCheckpoint": "c"},
-            {"type": "NAMESPACE", "elements": ["t"], "properties": {"p": "q"}}]
+            {"type": "NAMESPACE", "elements": ["t"], "properties": {"p": "q"}},
+            {"type": "UDF", "metadataLocation": "m", "versionId": "v", "signatureId": "s"}]
         modes = {"defaultKeyMergeMode": "NORMAL", "keyMergeModes": [{"key": {"elements": ["u"]}, "mergeBehavior": "DROP",
                                                                      "expectedTargetContent": None, "resolvedContent": None}],
                  "dryRun": True, "returnConflictAsResult": False, "fetchAdditionalInfo": True, "message": "m"}

@@ -4,7 +4,7 @@ import copy
 import json
 
 from catalogue import (
-    BRANCH, TAG, ICEBERG_TABLE, ICEBERG_VIEW, DELTA_LAKE_TABLE, NAMESPACE, NORMAL, FORCE, DROP,
+    BRANCH, TAG, ICEBERG_TABLE, ICEBERG_VIEW, DELTA_LAKE_TABLE, NAMESPACE, UDF, NORMAL, FORCE, DROP,
     ALL, COMMITS, SINCE, NO_ANCESTOR, is_child, key_path)
 from instants import GREATEST
 from replies import write_instant, write_uuid
@@ -114,7 +114,7 @@ class Requests:
                 out += ("%%%02X" if self.chance(0.5) else "%%%02x") % b
         return out
 
-    def reference(self, changing=False, hash_chance=0.35):
+    def reference(self, changing=False, hash_chance=0.35, back_chance=0.2):
         """A reference in a path, as it is sent."""
         r = self.rng.random()
         if r < 0.02:
@@ -130,7 +130,16 @@ class Requests:
             out += self.pick(["@", "@", "%40"]) + self.hex(self.hash_for(name))
         elif self.chance(0.12 if not changing else 0.02):
             out = "@" + self.hex(self.hash_for(name))
+        if self.chance(back_chance if not changing else 0.02):
+            out += self.pick(["~", "~", "%7E"]) + self.back()
         return out
+
+    def back(self):
+        """How many commits back, as it is sent."""
+        if self.chance(0.9):
+            return self.pick(["0", "1", "1", "2", "2", "3", "5", "9", "02", "0000000001"])
+        return self.pick(["", "-1", "+1", "1.", "x", "1~1", "1@" + "a" * 64, "00000000001", "4294967295", "4294967296",
+                          "9999999999", "18446744073709551617", "\u0661"])
 
     def path_key(self, key=None):
         if key is None:
@@ -185,6 +194,10 @@ class Requests:
             out["elements"] = list(key) if self.chance(0.985) else self.pick([["z"], [], list(key) + ["z"]])
             if self.chance(0.5):
                 out["properties"] = {t(): t() for _ in range(self.rng.randrange(3))}
+        elif kind == UDF:
+            for name in ("metadataLocation", "versionId", "signatureId"):
+                if self.chance(0.99):
+                    out[name] = t()
         if content_id is not None:
             out["id"] = content_id
         elif self.chance(0.1):
@@ -255,7 +268,7 @@ class Requests:
                 what = "PUT"
             op = {"type": what, "key": self.key_json(key)}
             if what == "PUT":
-                kind = self.weighted([(ICEBERG_TABLE, 5), (ICEBERG_VIEW, 2), (DELTA_LAKE_TABLE, 2),
+                kind = self.weighted([(ICEBERG_TABLE, 5), (ICEBERG_VIEW, 2), (DELTA_LAKE_TABLE, 2), (UDF, 2),
                                       (NAMESPACE, 5 if len(key) < 3 else 1)])
                 given = None
                 if there is not None and (careful or self.chance(0.7)):
@@ -276,7 +289,7 @@ class Requests:
                     if new not in used and new not in now:
                         used.add(new)
                         kind = there[0] if self.chance(0.9) else self.pick(
-                            [ICEBERG_TABLE, ICEBERG_VIEW, DELTA_LAKE_TABLE, NAMESPACE])
+                            [ICEBERG_TABLE, ICEBERG_VIEW, DELTA_LAKE_TABLE, NAMESPACE, UDF])
                         ops.append({"type": "PUT", "key": self.key_json(new),
                                     "content": self.content(kind, new, write_uuid(there[1]))})
                         now[new] = (kind, None, None)
@@ -651,12 +664,12 @@ class Requests:
         return [("type", self.weighted([(BRANCH, 6), (TAG, 3), ("DETACHED", 0.3), ("", 0.3)]))]
 
     def an_assign(self):
-        where = self.reference(hash_chance=0.4)
+        where = self.reference(hash_chance=0.4, back_chance=0.02)
         return ("PUT", "/api/v2/trees/" + where + self.query(self.of_kind(where)), [],
                 self.body_bytes(self.source()))
 
     def a_delete(self):
-        where = self.reference(hash_chance=0.4)
+        where = self.reference(hash_chance=0.4, back_chance=0.02)
         body = b"" if self.chance(0.8) else self.pick([b"{}", b"x", b"\xff"])
         return "DELETE", "/api/v2/trees/" + where + self.query(self.of_kind(where)), [], body
 

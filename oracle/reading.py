@@ -130,6 +130,10 @@ class Reader:
         out["checkpointLocationHistory"] = self.list(self.text)
         out["lastCheckpoint"] = self.option(self.text)
 
+    def udf(self, out):
+        for name in ("metadataLocation", "versionId", "signatureId"):
+            out[name] = self.text()
+
     def namespace(self, out):
         out["elements"], out["properties"] = self.list(self.text), self.texts_to(self.text)
 

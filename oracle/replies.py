@@ -11,7 +11,7 @@ import instants
 import policies
 
 from catalogue import (
-    BRANCH, TAG, ICEBERG_TABLE, ICEBERG_VIEW, DELTA_LAKE_TABLE, NAMESPACE, NORMAL, FORCE, DROP, MOST_PATTERNS,
+    BRANCH, TAG, ICEBERG_TABLE, ICEBERG_VIEW, DELTA_LAKE_TABLE, NAMESPACE, UDF, NORMAL, FORCE, DROP, MOST_PATTERNS,
     NO_ANCESTOR, DEFAULT_BRANCH, Operation, Refused, bad, key_order, key_path)
 
 STATUS = {
@@ -30,6 +30,7 @@ PHRASES = {
 
 NAME = re.compile(r"[A-Za-z][A-Za-z0-9./_-]*\Z")
 DIGITS = re.compile(r"[0-9]+\Z")
+MOST_BACK = (1 << 32) - 1
 HASH = re.compile(r"[0-9A-Fa-f]{64}\Z")
 
 
@@ -266,6 +267,9 @@ def a_content(v):
         properties = v.get("properties")
         out["properties"] = {} if properties is None else {
             k: a_text(t) for k, t in an_object(properties).items()}
+    elif kind == UDF:
+        for name in ("metadataLocation", "versionId", "signatureId"):
+            out[name] = a_text(v.get(name))
     else:
         raise NoReading
     return out, given
@@ -442,6 +446,17 @@ def read_reference(s, changing):
     return name, found
 
 
+def read_position(s):
+    """What a read asks for: a reference in a path, and how many commits back from it."""
+    s, tilde, digits = s.partition("~")
+    name, found = read_reference(s, False)
+    if not tilde:
+        return name, found, 0
+    if not DIGITS.match(digits) or len(digits) > 10 or int(digits) > MOST_BACK:
+        raise bad("bad path")
+    return name, found, int(digits)
+
+
 class Query:
     def __init__(self, b):
         self.pairs = query_pairs(b)
@@ -584,7 +599,7 @@ class Session:
         place = [decoded(p) for p in parts]
         where = key = None
         if place:
-            where = read_reference(place[0], changing)
+            where = read_reference(place[0], True) if changing else read_position(place[0])
         if len(place) == 2:
             key = key_of_path(place[1])
             if key is None:
@@ -634,7 +649,7 @@ class Session:
 
     def get_tree(self, where, key, query, body, moment):
         c = self.catalogue
-        return lambda: {"reference": reference_json(c.shown(where[0], c.resolve(*where)))}
+        return lambda: {"reference": reference_json(c.shown(where[0], c.resolve(where)))}
 
     def put_tree(self, where, key, query, body, moment):
         kind = query.kind()
@@ -662,7 +677,7 @@ class Session:
                     and (not keys or k in keys))
 
         def do():
-            shown, page, more = self.catalogue.entries_page(where[0], where[1], token, keeps, size)
+            shown, page, more = self.catalogue.entries_page(where, token, keeps, size)
             out = {"effectiveReference": reference_json(shown),
                    "entries": [{"contentId": write_uuid(e[1]), "name": key_json(k), "type": e[0]}
                                for k, e in page]}
@@ -676,7 +691,7 @@ class Session:
         fetch = query.read("fetch", lambda v: v if v in ("MINIMAL", "ALL") else None)
 
         def do():
-            page, more = self.catalogue.history_page(where[0], where[1], token, until, size)
+            page, more = self.catalogue.history_page(where, token, until, size)
             out = {"logEntries": [self.log_entry(h, fetch == "ALL") for h in page]}
             return self.paged(out, more, lambda h: "h." + h.hex())
         return do
@@ -714,7 +729,7 @@ class Session:
 
     def contents_reply(self, where, keys):
         def do():
-            shown, found = self.catalogue.contents_of(where[0], where[1], keys)
+            shown, found = self.catalogue.contents_of(where, keys)
             return {"contents": [{"content": content_json(v), "key": key_json(k)}
                                  for k, v in found],
                     "effectiveReference": reference_json(shown)}
@@ -722,7 +737,7 @@ class Session:
 
     def get_content(self, where, key, query, body, moment):
         def do():
-            shown, kept = self.catalogue.content(where[0], where[1], key)
+            shown, kept = self.catalogue.content(where, key)
             return {"content": content_json(kept), "effectiveReference": reference_json(shown)}
         return do
 

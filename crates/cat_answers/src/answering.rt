@@ -11,13 +11,13 @@ use crate::keyed::keyed_contents;
 use crate::listing::{entries_part, history_part, references_part};
 use crate::turning::{commit_before, needs_until, turned_to};
 use cat_model::ask::{Ask, ContentAsk, ContentsAsk, EntriesAsk, HistoryAsk};
-use cat_model::reference::{Effective, Pointer, Reference};
+use cat_model::copies::copy_content;
+use cat_model::reference::{Effective, Position, Reference};
 use cat_model::refusal::{Missing, Refusal};
 use cat_model::reply::{ContentReply, ContentsReply, Reply};
 use cat_names::hash::Hash;
 use cat_state::catalogue::Catalogue;
 use cat_state::contents::find_content;
-use cat_state::copies::copy_content;
 use cat_state::failure::Failure;
 use std::alloc::{AllocError, Global};
 
@@ -36,11 +36,11 @@ pub(crate) fn effective(reference: Option<&Reference>, hash: Hash) -> Result<Eff
 }
 
 #[tactic(auto, unfolding(cat_model::specs::Answer::answer_reference))]
-fn reference(catalogue: &Catalogue, pointer: &Pointer) -> Result<Reply, Failure>
-    ensures { Gives result (answer_reference sha256 catalogue.now pointer.now) }
+fn reference(catalogue: &Catalogue, at: &Position) -> Result<Reply, Failure>
+    ensures { Gives result (answer_reference sha256 catalogue.now at.now) }
 {
-    let reference = catalogue.perhaps_named(&pointer.name)?;
-    let hash = catalogue.pointed(reference, &pointer.hash)?;
+    let reference = catalogue.perhaps_named(&at.from.name)?;
+    let hash = catalogue.positioned(reference, at)?;
     Ok(Reply::Effective(effective(reference, hash)?))
 }
 
@@ -48,8 +48,8 @@ fn reference(catalogue: &Catalogue, pointer: &Pointer) -> Result<Reply, Failure>
 fn entries(alloc: Global, catalogue: &Catalogue, ask: &EntriesAsk) -> Result<Reply, Failure>
     ensures { Gives result (answer_entries sha256 catalogue.now ask.now) }
 {
-    let reference = catalogue.perhaps_named(&ask.at.name)?;
-    let asked = catalogue.pointed(reference, &ask.at.hash)?;
+    let reference = catalogue.perhaps_named(&ask.at.from.name)?;
+    let asked = catalogue.positioned(reference, &ask.at)?;
     let before = commit_before(&ask.after);
     let hash = turned_to(catalogue, asked, &before)?;
     Ok(Reply::Entries(entries_part(alloc, catalogue, reference, hash, ask)?))
@@ -59,8 +59,8 @@ fn entries(alloc: Global, catalogue: &Catalogue, ask: &EntriesAsk) -> Result<Rep
 fn history(alloc: Global, catalogue: &Catalogue, ask: &HistoryAsk) -> Result<Reply, Failure>
     ensures { Gives result (answer_history sha256 catalogue.now ask.now) }
 {
-    let reference = catalogue.perhaps_named(&ask.at.name)?;
-    let asked = catalogue.pointed(reference, &ask.at.hash)?;
+    let reference = catalogue.perhaps_named(&ask.at.from.name)?;
+    let asked = catalogue.positioned(reference, &ask.at)?;
     let hash = turned_to(catalogue, asked, &ask.from)?;
     needs_until(catalogue, &hash, &ask.until)?;
     Ok(Reply::History(history_part(alloc, catalogue, &hash, ask)?))
@@ -74,8 +74,8 @@ fn contents_of_keys(
 ) -> Result<Reply, Failure>
     ensures { Gives result (answer_contents sha256 catalogue.now ask.now) }
 {
-    let reference = catalogue.perhaps_named(&ask.at.name)?;
-    let hash = catalogue.pointed(reference, &ask.at.hash)?;
+    let reference = catalogue.perhaps_named(&ask.at.from.name)?;
+    let hash = catalogue.positioned(reference, &ask.at)?;
     let map = catalogue.map_at(&hash)?;
     let contents = keyed_contents(alloc, catalogue.contents(), &map, ask.keys.as_slice())?;
     Ok(Reply::Contents(ContentsReply {
@@ -88,8 +88,8 @@ fn contents_of_keys(
 fn content(catalogue: &Catalogue, ask: &ContentAsk) -> Result<Reply, Failure>
     ensures { Gives result (answer_content sha256 catalogue.now ask.now) }
 {
-    let reference = catalogue.perhaps_named(&ask.at.name)?;
-    let hash = catalogue.pointed(reference, &ask.at.hash)?;
+    let reference = catalogue.perhaps_named(&ask.at.from.name)?;
+    let hash = catalogue.positioned(reference, &ask.at)?;
     let Some(entry) = catalogue.map_at(&hash)?.get(&ask.key) else {
         return Err(Failure::Refused(Refusal::ContentNotFound(Missing::Absent)));
     };
@@ -109,7 +109,7 @@ pub fn answer(alloc: Global, catalogue: &Catalogue, ask: &Ask) -> Result<Reply, 
     match ask {
         Ask::Config => Ok(Reply::Config),
         Ask::References(ask) => Ok(Reply::References(references_part(alloc, catalogue, ask)?)),
-        Ask::Reference(pointer) => reference(catalogue, pointer),
+        Ask::Reference(at) => reference(catalogue, at),
         Ask::Entries(ask) => entries(alloc, catalogue, ask),
         Ask::History(ask) => history(alloc, catalogue, ask),
         Ask::Contents(ask) => contents_of_keys(alloc, catalogue, ask),

@@ -9,12 +9,13 @@ use cat_codes::fault::NoMemory;
 use cat_codes::seq::Seq;
 use cat_model::commit::Commit;
 use cat_model::content::Content;
+use cat_model::copies::copy_content;
 use cat_model::entry::Entry;
 use cat_model::reply::{Change, HistoryItem};
 use cat_names::hash::Hash;
 use cat_names::key::ContentKey;
 use cat_state::contents::find_content;
-use cat_state::copies::{copy_content, copy_meta};
+use cat_state::copies::copy_meta;
 use cat_tables::table::Table;
 use std::alloc::Global;
 

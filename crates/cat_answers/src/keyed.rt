@@ -8,9 +8,9 @@ use cat_codes::fault::NoMemory;
 use cat_codes::seq::Seq;
 use cat_keymap::key_map::KeyMap;
 use cat_model::content::Content;
+use cat_model::copies::copy_content;
 use cat_names::key::ContentKey;
 use cat_state::contents::find_content;
-use cat_state::copies::copy_content;
 use cat_tables::table::Table;
 use std::alloc::Global;
 

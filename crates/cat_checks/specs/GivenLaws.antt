@@ -9,13 +9,12 @@ use Rattle.cat_names.specs.declared.hash.ContentId.{ContentId}
 use Rattle.cat_model.specs.declared.command.CommitRequest.{CommitRequest}
 use Rattle.cat_model.specs.declared.content.Content.{Content}
 use Rattle.cat_model.specs.declared.entry.Entry.{Entry}
-use Rattle.cat_model.specs.declared.entry.ContentKind.{ContentKind}
-use Rattle.cat_model.specs.declared.entry.ContentKind.TheVariants.{IcebergTable, IcebergView, DeltaLakeTable, Namespace}
 use Rattle.cat_model.specs.declared.op.Op.{Op}
 use Rattle.cat_model.specs.declared.op.Op.TheVariants.{Put, Delete, Unchanged}
 use Rattle.cat_model.specs.Commits.{given, given_from, given_ops, given_request, puts, with_their_contents}
 use Rattle.cat_model.specs.Contents.{body_kind}
 use Rattle.cat_model.specs.Distinct.{are_distinct}
+use Rattle.cat_model.specs.FormatLaws.{type_same}
 use Rattle.cat_model.specs.Judge.{op_key}
 use Rattle.cat_model.specs.Same.{same_entry, same_hash, same_id, same_key, same_type}
 use Rattle.cat_model.specs.State.{Digest, entry_for, fresh_id}
@@ -77,12 +76,6 @@ request_once digest draft c have =
     ap (λ (both : List Both). record c { ops = ops_of both; contents = contents_of both }) (let e : given_ops digest draft (given_request digest draft c) ≡ given_ops digest draft c = given_once digest draft c have in e)
 
 -- ---- well made as before
-
-type_same : (kind : ContentKind) → same_type kind kind ≡ true
-type_same IcebergTable = refl
-type_same IcebergView = refl
-type_same DeltaLakeTable = refl
-type_same Namespace = refl
 
 same_bytes : (bytes : List ℕ) → bytes_eq bytes bytes ≡ true
 same_bytes bytes = (bytes_eq-Decides bytes bytes).1 refl

@@ -10,8 +10,8 @@ use Rattle.cat_names.specs.declared.hash.ContentId.{ContentId}
 use Rattle.cat_names.specs.Fields.{id_code}
 use Rattle.cat_model.specs.declared.content.Body.{Body}
 use Rattle.cat_model.specs.declared.content.Body.TheVariants as bodies
-use Rattle.cat_model.specs.Contents.{content_code, of_table, of_view, of_delta, of_namespace, table_code, view_code, delta_code, namespace_code}
-use Rattle.cat_content.specs.Forms.{content_as, content_data, table_as, view_as, delta_as, namespace_as, IsOfBytes}
+use Rattle.cat_model.specs.Contents.{content_code, of_table, of_view, of_delta, of_namespace, of_udf, table_code, view_code, delta_code, namespace_code, udf_code}
+use Rattle.cat_content.specs.Forms.{content_as, content_data, table_as, view_as, delta_as, namespace_as, udf_as, IsOfBytes}
 
 texts_back : (xs : List (List ℕ)) → list_as as_str (list_data string xs) ≡ Some xs
 texts_back xs = list_back as_str string (λ _. refl) xs
@@ -24,7 +24,7 @@ delta_again id ms cs None len small = rw (id_back id len small, texts_back ms, t
 delta_again id ms cs (Some x) len small = rw (id_back id len small, texts_back ms, texts_back cs) refl
 
 pub read_again : (id : ContentId) (body : Body) → (content_code).Fits (record { id = id; body = body }) → IsOfBytes id → content_as (content_data (record { id = id; body = body })) ≡ Some (record { id = Some id; body = body })
-unfolding content_as content_data content_code of_table of_view of_delta of_namespace table_code view_code delta_code namespace_code table_as view_as delta_as namespace_as id_code ascending
+unfolding content_as content_data content_code of_table of_view of_delta of_namespace of_udf table_code view_code delta_code namespace_code udf_code table_as view_as delta_as namespace_as udf_as id_code ascending
 read_again id (bodies.IcebergTable t) fits small =
     let f = fits.1.0 in
     let n = f.1.1 in
@@ -38,3 +38,6 @@ read_again id (bodies.DeltaLakeTable t) fits small =
 read_again id (bodies.Namespace n) fits small =
     let f = fits.1.0 in
     rw (id_back id f.0 small, texts_back n.elements, map_back as_str string (λ _. refl) n.properties f.1.1.2) refl
+read_again id (bodies.Udf g) fits small =
+    let f = fits.1.0 in
+    rw (id_back id f.0 small) refl

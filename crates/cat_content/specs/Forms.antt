@@ -8,33 +8,20 @@ use Rattle.cat_json.specs.Names.{id_as, id_data}
 use Rattle.cat_json.specs.Numbers.{integer, small_integer, integer_data, no_float_integer}
 use Rattle.cat_json.specs.Writing.{list_data, map_data, ◌+>◌, ◌+?>◌, floatless}
 use Rattle.cat_names.specs.declared.hash.ContentId.{ContentId}
+use Rattle.cat_model.specs.Formats.{kind_name, kind_named}
 use Rattle.cat_model.specs.declared.entry.ContentKind.{ContentKind}
 use Rattle.cat_model.specs.declared.entry.ContentKind.TheVariants as kinds
 use Rattle.cat_model.specs.declared.content.IcebergTable.{IcebergTable}
 use Rattle.cat_model.specs.declared.content.IcebergView.{IcebergView}
 use Rattle.cat_model.specs.declared.content.DeltaLakeTable.{DeltaLakeTable}
 use Rattle.cat_model.specs.declared.content.Namespace.{Namespace}
+use Rattle.cat_model.specs.declared.content.Udf.{Udf}
 use Rattle.cat_model.specs.declared.content.Body.{Body}
 use Rattle.cat_model.specs.declared.content.Body.TheVariants as bodies
 use Rattle.cat_model.specs.declared.content.Content.{Content}
 use Rattle.cat_content.specs.declared.read.Given.{Given}
 
--- the name of a type
-abbrev pub kind_name : ContentKind → List ℕ
-kind_name kinds.IcebergTable = codes "ICEBERG_TABLE"
-kind_name kinds.IcebergView = codes "ICEBERG_VIEW"
-kind_name kinds.DeltaLakeTable = codes "DELTA_LAKE_TABLE"
-kind_name kinds.Namespace = codes "NAMESPACE"
-
 -- the type of a name
-abbrev pub kind_named : List ℕ → Option ContentKind
-kind_named text =
-    if bytes_eq text (codes "ICEBERG_TABLE") then Some kinds.IcebergTable
-    else if bytes_eq text (codes "ICEBERG_VIEW") then Some kinds.IcebergView
-    else if bytes_eq text (codes "DELTA_LAKE_TABLE") then Some kinds.DeltaLakeTable
-    else if bytes_eq text (codes "NAMESPACE") then Some kinds.Namespace
-    else None
-
 abbrev pub kind_as : Data → Option ContentKind
 kind_as d = as_str d >>= kind_named
 
@@ -68,11 +55,19 @@ namespace_as d =
     defaulted (map_as as_str) [] (codes "properties") d >>= λ properties.
     Some (record { elements = elements; properties = properties })
 
+unfoldable pub udf_as : Data → Option Udf
+udf_as d =
+    required as_str (codes "metadataLocation") d >>= λ location.
+    required as_str (codes "versionId") d >>= λ version.
+    required as_str (codes "signatureId") d >>= λ signature.
+    Some (record { metadata_location = location; version_id = version; signature_id = signature })
+
 abbrev pub body_as : ContentKind → Data → Option Body
 body_as kinds.IcebergTable d = table_as d >>= λ t. Some (bodies.IcebergTable t)
 body_as kinds.IcebergView d = view_as d >>= λ v. Some (bodies.IcebergView v)
 body_as kinds.DeltaLakeTable d = delta_as d >>= λ t. Some (bodies.DeltaLakeTable t)
 body_as kinds.Namespace d = namespace_as d >>= λ n. Some (bodies.Namespace n)
+body_as kinds.Udf d = udf_as d >>= λ f. Some (bodies.Udf f)
 
 unfoldable pub content_as : Data → Option Given
 content_as d =
@@ -91,24 +86,30 @@ body_data id (bodies.IcebergTable t) = object (no_members
     +> (codes "snapshotId", integer_data t.snapshot_id)
     +> (codes "sortOrderId", integer_data t.sort_order_id)
     +> (codes "specId", integer_data t.spec_id)
-    +> (codes "type", string (codes "ICEBERG_TABLE")))
+    +> (codes "type", string (kind_name kinds.IcebergTable)))
 body_data id (bodies.IcebergView v) = object (no_members
     +> (codes "id", id_data id)
     +> (codes "metadataLocation", string v.metadata_location)
     +> (codes "schemaId", integer_data v.schema_id)
-    +> (codes "type", string (codes "ICEBERG_VIEW"))
+    +> (codes "type", string (kind_name kinds.IcebergView))
     +> (codes "versionId", integer_data v.version_id))
 body_data id (bodies.DeltaLakeTable t) = object (no_members
     +> (codes "checkpointLocationHistory", list_data string t.checkpoint_locations)
     +> (codes "id", id_data id)
     +?> (codes "lastCheckpoint", option_map string t.last_checkpoint)
     +> (codes "metadataLocationHistory", list_data string t.metadata_locations)
-    +> (codes "type", string (codes "DELTA_LAKE_TABLE")))
+    +> (codes "type", string (kind_name kinds.DeltaLakeTable)))
 body_data id (bodies.Namespace n) = object (no_members
     +> (codes "elements", list_data string n.elements)
     +> (codes "id", id_data id)
     +> (codes "properties", map_data string n.properties)
-    +> (codes "type", string (codes "NAMESPACE")))
+    +> (codes "type", string (kind_name kinds.Namespace)))
+body_data id (bodies.Udf f) = object (no_members
+    +> (codes "id", id_data id)
+    +> (codes "metadataLocation", string f.metadata_location)
+    +> (codes "signatureId", string f.signature_id)
+    +> (codes "type", string (kind_name kinds.Udf))
+    +> (codes "versionId", string f.version_id))
 
 unfoldable pub content_data : Content → Data
 content_data c = body_data c.id c.body
@@ -119,6 +120,7 @@ no_float_body id (bodies.IcebergTable t) = search (floatless, no_float_integer)
 no_float_body id (bodies.IcebergView v) = search (floatless, no_float_integer)
 no_float_body id (bodies.DeltaLakeTable t) = search floatless
 no_float_body id (bodies.Namespace n) = search floatless
+no_float_body id (bodies.Udf f) = search floatless
 
 pub no_float_content : (c : Content) → has_float (content_data c) ≡ false
 unfolding content_data

@@ -7,7 +7,9 @@ mod read;
 mod write;
 
 pub use bytes::{from_bytes, hash, to_bytes};
-pub use cat_model::content::{Body, Content, DeltaLakeTable, IcebergTable, IcebergView, Namespace};
+pub use cat_model::content::{
+    Body, Content, DeltaLakeTable, IcebergTable, IcebergView, Namespace, Udf,
+};
 pub use cat_model::entry::ContentKind;
 pub use read::{Given, from_json};
 pub use write::{reads_again, to_json};

@@ -2,7 +2,7 @@
 
 ghost use Rattle.serde_json.specs.View.{view};
 ghost use Rattle.cat_json.specs.Reading.{Gives};
-ghost use Rattle.cat_content.specs.Forms.{kind_as, table_as, view_as, delta_as, namespace_as, body_as, content_as};
+ghost use Rattle.cat_content.specs.Forms.{kind_as, table_as, view_as, delta_as, namespace_as, udf_as, body_as, content_as};
 
 use crate::{ContentForm, KindForm};
 use cat_codes::ascending::Ascending;
@@ -10,7 +10,7 @@ use cat_codes::seq::Seq;
 use cat_codes::text::Text;
 use cat_json::fault::JsonFault;
 use cat_json::read::{ReadForm, defaulted, optional, required};
-use cat_model::content::{Body, DeltaLakeTable, IcebergTable, IcebergView, Namespace};
+use cat_model::content::{Body, DeltaLakeTable, IcebergTable, IcebergView, Namespace, Udf};
 use cat_model::entry::ContentKind;
 use cat_names::hash::ContentId;
 use serde_json::Value;
@@ -31,12 +31,12 @@ impl ReadForm for KindForm {
     ghost reads = { kind_as };
 
     fn from_json(_alloc: Global, value: &Value) -> Result<ContentKind, JsonFault> {
-        match value.as_str() {
-            Some("ICEBERG_TABLE") => Ok(ContentKind::IcebergTable),
-            Some("ICEBERG_VIEW") => Ok(ContentKind::IcebergView),
-            Some("DELTA_LAKE_TABLE") => Ok(ContentKind::DeltaLakeTable),
-            Some("NAMESPACE") => Ok(ContentKind::Namespace),
-            _ => Err(JsonFault::Bad),
+        let Some(name) = value.as_str() else {
+            return Err(JsonFault::Bad);
+        };
+        match ContentKind::named(name) {
+            None => Err(JsonFault::Bad),
+            Some(kind) => Ok(kind),
         }
     }
 }
@@ -102,6 +102,20 @@ fn namespace(alloc: Global, value: &Value) -> Result<Namespace, JsonFault>
     })
 }
 
+#[tactic(auto, unfolding(crate::specs::Forms::udf_as))]
+fn udf(alloc: Global, value: &Value) -> Result<Udf, JsonFault>
+    ensures { Gives result (udf_as (view value.now)) }
+{
+    let metadata_location = required::<Text>(alloc, value, "metadataLocation")?;
+    let version_id = required::<Text>(alloc, value, "versionId")?;
+    let signature_id = required::<Text>(alloc, value, "signatureId")?;
+    Ok(Udf {
+        metadata_location,
+        version_id,
+        signature_id,
+    })
+}
+
 fn body(alloc: Global, kind: ContentKind, value: &Value) -> Result<Body, JsonFault>
     ensures { Gives result (body_as kind (view value.now)) }
 {
@@ -110,6 +124,7 @@ fn body(alloc: Global, kind: ContentKind, value: &Value) -> Result<Body, JsonFau
         ContentKind::IcebergView => Body::IcebergView(view_of(alloc, value)?),
         ContentKind::DeltaLakeTable => Body::DeltaLakeTable(delta(alloc, value)?),
         ContentKind::Namespace => Body::Namespace(namespace(alloc, value)?),
+        ContentKind::Udf => Body::Udf(udf(alloc, value)?),
     })
 }
 

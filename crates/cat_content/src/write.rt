@@ -5,7 +5,8 @@ ghost use Rattle.serde_json.specs.Data.{string};
 ghost use Rattle.serde_json.specs.View.{view};
 ghost use Rattle.cat_model.specs.Contents.{content_code};
 ghost use Rattle.cat_model.specs.declared.content.Body.TheVariants as bodies;
-ghost use Rattle.cat_content.specs.Forms.{kind_name as name_of, content_as, content_data, body_data, no_float_content, IsOfBytes};
+ghost use Rattle.cat_model.specs.Formats.{kind_name};
+ghost use Rattle.cat_content.specs.Forms.{content_as, content_data, body_data, no_float_content, IsOfBytes};
 
 use crate::{ContentForm, KindForm};
 use cat_codes::ascending::Ascending;
@@ -13,32 +14,23 @@ use cat_codes::fault::NoMemory;
 use cat_codes::seq::Seq;
 use cat_codes::text::Text;
 use cat_json::write::{Object, WriteForm};
-use cat_model::content::{Body, Content, DeltaLakeTable, IcebergTable, IcebergView, Namespace};
+use cat_model::content::{
+    Body, Content, DeltaLakeTable, IcebergTable, IcebergView, Namespace, Udf,
+};
 use cat_model::entry::ContentKind;
 use cat_names::hash::ContentId;
 use serde_json::Value;
 use std::alloc::Global;
 
-fn kind_name(kind: ContentKind) -> &'static str
-    ensures { result.now ≡ name_of kind }
-{
-    match kind {
-        ContentKind::IcebergTable => "ICEBERG_TABLE",
-        ContentKind::IcebergView => "ICEBERG_VIEW",
-        ContentKind::DeltaLakeTable => "DELTA_LAKE_TABLE",
-        ContentKind::Namespace => "NAMESPACE",
-    }
-}
-
 impl WriteForm for KindForm {
     type Of = ContentKind;
 
-    ghost writes = { λ kind. string (name_of kind) };
+    ghost writes = { λ kind. string (kind_name kind) };
 
     ghost no_float = { λ _. refl };
 
     fn to_json(alloc: Global, value: &ContentKind) -> Result<Value, NoMemory> {
-        Ok(Value::String(String::from_str(alloc, kind_name(*value))?))
+        Ok(Value::String(String::from_str(alloc, value.name())?))
     }
 }
 
@@ -99,6 +91,20 @@ fn namespace(alloc: Global, id: &ContentId, found: &Namespace) -> Result<Value, 
     )
 }
 
+fn udf(alloc: Global, id: &ContentId, found: &Udf) -> Result<Value, NoMemory>
+    ensures { IfOk result (λ v. view v ≡ body_data id.now (bodies.Udf found.now)) }
+{
+    Ok(
+        Object::new(alloc)
+            .with::<ContentId>("id", id)?
+            .with::<Text>("metadataLocation", &found.metadata_location)?
+            .with::<Text>("signatureId", &found.signature_id)?
+            .with::<KindForm>("type", &ContentKind::Udf)?
+            .with::<Text>("versionId", &found.version_id)?
+            .into_value(),
+    )
+}
+
 /// The content as a JSON object, with its id.
 #[tactic(auto, unfolding(crate::specs::Forms::content_data))]
 pub fn to_json(alloc: Global, content: &Content) -> Result<Value, NoMemory>
@@ -110,6 +116,7 @@ pub fn to_json(alloc: Global, content: &Content) -> Result<Value, NoMemory>
         Body::IcebergView(found) => view_of(alloc, id, found),
         Body::DeltaLakeTable(found) => delta(alloc, id, found),
         Body::Namespace(found) => namespace(alloc, id, found),
+        Body::Udf(found) => udf(alloc, id, found),
     }
 }
 

@@ -14,12 +14,12 @@ use Rattle.cat_model.specs.declared.refusal.Missing.TheVariants as missing
 use Rattle.cat_model.specs.declared.refusal.Refusal.TheVariants.{ContentNotFound, RefNotFound}
 use Rattle.cat_model.specs.declared.reply.Reply.TheVariants as replies
 use Rattle.cat_model.specs.Answer.{answer, answer_content, answer_contents, answer_entries, answer_history, answer_reference, effective_at, needs_until, turned_to}
-use Rattle.cat_model.specs.CauseLaws.{HasEarly, HasSteps, causes_bind, causes_needs, opening_causes, perhaps_causes, pointed_causes, step_causes}
+use Rattle.cat_model.specs.CauseLaws.{HasEarly, HasSteps, causes_bind, causes_needs, opening_causes, perhaps_causes, positioned_causes, step_causes}
 use Rattle.cat_model.specs.Chain.{entries, on_chain}
 use Rattle.cat_model.specs.Maps.{entry_of}
 use Rattle.cat_model.specs.Moves.{needs_contents}
 use Rattle.cat_model.specs.Records.{expired_keys, needs_no_expired}
-use Rattle.cat_model.specs.Refusing.{◌>>=◌, found, needs, perhaps_named, pointed}
+use Rattle.cat_model.specs.Refusing.{◌>>=◌, found, needs, perhaps_named, positioned}
 use Rattle.cat_model.specs.State.{State, content_at, is_known}
 use Rattle.cat_model.specs.Step.{Turn, opening, step}
 use Rattle.cat_core.specs.PlainLaws.{IsUsual, is_usual}
@@ -79,21 +79,21 @@ unfolding answer_reference answer_entries answer_history answer_contents answer_
 usual_answer state asks.Config = tt
 usual_answer state (asks.References a) = tt
 usual_answer state (asks.Reference p) =
-    causes_bind is_usual (perhaps_named state p.name) _ (perhaps_causes sha256 is_usual usual_early state p.name) (λ r.
-    causes_bind is_usual (pointed sha256 state r p.hash) _ (pointed_causes sha256 is_usual usual_early state r p.hash) (λ h. tt))
+    causes_bind is_usual (perhaps_named state p.from.name) _ (perhaps_causes sha256 is_usual usual_early state p.from.name) (λ r.
+    causes_bind is_usual (positioned sha256 state r p) _ (positioned_causes sha256 is_usual usual_early state r p) (λ h. tt))
 usual_answer state (asks.Entries a) =
-    causes_bind is_usual (perhaps_named state a.at.name) _ (perhaps_causes sha256 is_usual usual_early state a.at.name) (λ r.
-    causes_bind is_usual (pointed sha256 state r a.at.hash) _ (pointed_causes sha256 is_usual usual_early state r a.at.hash) (λ h.
+    causes_bind is_usual (perhaps_named state a.at.from.name) _ (perhaps_causes sha256 is_usual usual_early state a.at.from.name) (λ r.
+    causes_bind is_usual (positioned sha256 state r a.at) _ (positioned_causes sha256 is_usual usual_early state r a.at) (λ h.
     causes_bind is_usual (turned_to sha256 state h (option_map (λ x. x.0) a.after)) _ (usual_turned state h (option_map (λ x. x.0) a.after)) (λ g. tt)))
 usual_answer state (asks.History a) =
-    causes_bind is_usual (perhaps_named state a.at.name) _ (perhaps_causes sha256 is_usual usual_early state a.at.name) (λ r.
-    causes_bind is_usual (pointed sha256 state r a.at.hash) _ (pointed_causes sha256 is_usual usual_early state r a.at.hash) (λ h.
+    causes_bind is_usual (perhaps_named state a.at.from.name) _ (perhaps_causes sha256 is_usual usual_early state a.at.from.name) (λ r.
+    causes_bind is_usual (positioned sha256 state r a.at) _ (positioned_causes sha256 is_usual usual_early state r a.at) (λ h.
     causes_bind is_usual (turned_to sha256 state h a.from) _ (usual_turned state h a.from) (λ g.
     causes_bind is_usual (needs_until state g a.until) _ (usual_until state g a.until) (λ u. tt))))
 usual_answer state (asks.Contents a) =
-    causes_bind is_usual (perhaps_named state a.at.name) _ (perhaps_causes sha256 is_usual usual_early state a.at.name) (λ r.
-    causes_bind is_usual (pointed sha256 state r a.at.hash) _ (pointed_causes sha256 is_usual usual_early state r a.at.hash) (λ h. tt))
+    causes_bind is_usual (perhaps_named state a.at.from.name) _ (perhaps_causes sha256 is_usual usual_early state a.at.from.name) (λ r.
+    causes_bind is_usual (positioned sha256 state r a.at) _ (positioned_causes sha256 is_usual usual_early state r a.at) (λ h. tt))
 usual_answer state (asks.Content a) =
-    causes_bind is_usual (perhaps_named state a.at.name) _ (perhaps_causes sha256 is_usual usual_early state a.at.name) (λ r.
-    causes_bind is_usual (pointed sha256 state r a.at.hash) _ (pointed_causes sha256 is_usual usual_early state r a.at.hash) (λ h.
+    causes_bind is_usual (perhaps_named state a.at.from.name) _ (perhaps_causes sha256 is_usual usual_early state a.at.from.name) (λ r.
+    causes_bind is_usual (positioned sha256 state r a.at) _ (positioned_causes sha256 is_usual usual_early state r a.at) (λ h.
     usual_tail (entry_of (entries state.commits h) a.key) state.present (effective_at r h)))

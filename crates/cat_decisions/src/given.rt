@@ -11,11 +11,12 @@ use cat_codes::fault::NoMemory;
 use cat_codes::seq::Seq;
 use cat_model::command::CommitRequest;
 use cat_model::content::Content;
+use cat_model::copies::copy_content;
 use cat_model::entry::Entry;
 use cat_model::op::Op;
 use cat_names::hash::{ContentId, Hash};
 use cat_names::key::ContentKey;
-use cat_state::copies::{copy_content, copy_op};
+use cat_state::copies::copy_op;
 use cat_state::records::content_hash;
 use std::alloc::Global;
 

@@ -16,15 +16,13 @@ use Rattle.cat_names.specs.declared.hash.ContentId.{ContentId}
 use Rattle.cat_model.specs.declared.command.CommitRequest.{CommitRequest}
 use Rattle.cat_model.specs.declared.content.Content.{Content}
 use Rattle.cat_model.specs.declared.entry.Entry.{Entry}
-use Rattle.cat_model.specs.declared.entry.ContentKind.{ContentKind}
-use Rattle.cat_model.specs.declared.entry.ContentKind.TheVariants.{IcebergTable, IcebergView, DeltaLakeTable, Namespace}
 use Rattle.cat_model.specs.declared.op.Op.{Op}
 use Rattle.cat_model.specs.declared.op.Op.TheVariants.{Put, Delete, Unchanged}
 use Rattle.cat_model.specs.Commits.{given, given_content, given_from, given_ops, given_request, puts, with_their_contents}
 use Rattle.cat_model.specs.Contents.{content_code}
 use Rattle.cat_model.specs.ContentLaws.{content_is}
-use Rattle.cat_model.specs.FormatLaws.{meta_is}
-use Rattle.cat_model.specs.Same.{same_entry, same_type}
+use Rattle.cat_model.specs.FormatLaws.{meta_is, type_same}
+use Rattle.cat_model.specs.Same.{same_entry}
 use Rattle.cat_model.specs.State.{Digest, entry_for, fresh_id}
 use Rattle.cat_model.specs.WellMade.{have_contents, is_made}
 use Rattle.cat_frames.specs.Telling.{told_by_is, always_is}
@@ -100,12 +98,6 @@ request_is digest draft = told_by_is request_fields request_of _ (λ x fits. ap 
 
 same : (bytes : List ℕ) → bytes_eq bytes bytes ≡ true
 same bytes = (bytes_eq-Decides bytes bytes).1 refl
-
-type_same : (kind : ContentKind) → same_type kind kind ≡ true
-type_same IcebergTable = refl
-type_same IcebergView = refl
-type_same DeltaLakeTable = refl
-type_same Namespace = refl
 
 entry_same : (e : Entry) → same_entry e e ≡ true
 entry_same e = both_true _ _ (both_true _ _ (type_same e.kind) (same e.id.bytes)) (same e.hash.bytes)

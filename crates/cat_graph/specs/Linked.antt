@@ -54,3 +54,7 @@ IsOther (Some kept) c = kept ≡ c → ⊥
 -- the commits that references point at, under their hashes
 abbrev pub values : List (Bor Hash × Bor Commit) → Commits
 values pairs = map (λ x. (x.0.now, x.1.now)) pairs
+
+-- the hashes of commits
+abbrev pub hashes : Commits → List Hash
+hashes commits = map (λ x. x.0) commits

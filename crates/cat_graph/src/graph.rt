@@ -1,11 +1,13 @@
 //! Commits and their chains.
 
-ghost use Rattle.std.specs.Prelude.{◌≡◌, ◌≢◌, ◌≤◌, ◌<◌, ◌+◌, ◌-◌, ◌↔◌, [], ◌∷◌, ◌++◌, None, Err, IfOk, IsOk, IsTrue, OnOk, OnErr, length, nat_eq, take, drop};
+ghost use Rattle.std.specs.Prelude.{◌≡◌, ◌≢◌, ◌≤◌, ◌<◌, ◌+◌, ◌-◌, ◌↔◌, [], ◌∷◌, ◌++◌, None, Err, IfOk, IsOk, IsTrue, OnOk, OnErr, length, nat_eq, slice_get, take, drop};
 ghost use Rattle.std.specs.Option.{is_some, option_map};
-ghost use Rattle.cat_model.specs.Chain.{commit_of, generation, on_chain};
+ghost use Rattle.sha2.specs.Sha256.{sha256};
+ghost use Rattle.cat_model.specs.State.{no_ancestor};
+ghost use Rattle.cat_model.specs.Chain.{back, commit_of, generation, on_chain};
 ghost use Rattle.cat_model.specs.Chain;
 ghost use Rattle.cat_model.specs.Transplants.{are_children, are_consecutive, has_parent};
-ghost use Rattle.cat_graph.specs.Linked.{AreLinked, IsNext, IsOther, is_known, is_merge_known, is_next, merge_generation, next_generation, values, with_commit};
+ghost use Rattle.cat_graph.specs.Linked.{AreLinked, IsNext, IsOther, hashes, is_known, is_merge_known, is_next, merge_generation, next_generation, values, with_commit};
 
 use crate::add_fault::AddFault;
 use cat_codes::fault::NoMemory;
@@ -200,6 +202,36 @@ impl Graph {
             at = commit.parent;
         }
         true
+    }
+
+    fn walked_back(&self, hash: &Hash, n: u32) -> Option<Hash>
+        ensures { result ≡ back self.now hash.now n }
+    {
+        self.known();
+        let mut at = *hash;
+        let mut left = n;
+        while left > 0 {
+            let Some(child) = self.get(&at) else {
+                return None;
+            };
+            at = child.parent;
+            left -= 1;
+        }
+        Some(at)
+    }
+
+    /// The member of this number of the chain of a hash, counted from 0, which is the hash itself.
+    /// The last one is the hash that has no ancestor; none past it. One look-up for each step, and
+    /// no memory.
+    #[tactic(auto, using(crate::proofs::Members::back_on_chain))]
+    pub fn back(&self, hash: &Hash, n: u32) -> Option<Hash>
+        ensures back { result ≡ back self.now hash.now n }
+        ensures on_chain { IsTrue (is_known self.now hash.now)
+            → result
+            ≡ slice_get (hashes (Chain.chain self.now hash.now) ++ no_ancestor sha256 ∷ []) n }
+    {
+        self.known();
+        self.walked_back(hash, n)
     }
 
     /// The first commits of the chain of a hash, under their hashes, at most so many.

@@ -243,8 +243,9 @@ impl KeyMap {
 fn state_of(kind: ContentKind) -> ParentState
     ensures { result ≡ Parents.kind_state kind }
 {
-    match kind {
-        ContentKind::Namespace => ParentState::Namespace,
-        _ => ParentState::Other,
+    if kind.number() == ContentKind::Namespace.number() {
+        ParentState::Namespace
+    } else {
+        ParentState::Other
     }
 }

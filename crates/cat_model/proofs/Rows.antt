@@ -16,3 +16,5 @@ pub mod Transplanting
 pub mod Again
 pub mod Sweeping
 pub mod Collecting
+pub mod Back
+pub mod Functions

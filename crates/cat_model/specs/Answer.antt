@@ -14,7 +14,7 @@ use Rattle.cat_model.specs.declared.commit.Commit.{Commit}
 use Rattle.cat_model.specs.declared.content.Content.{Content}
 use Rattle.cat_model.specs.declared.reference.Effective.{Effective}
 use Rattle.cat_model.specs.declared.reference.Effective.TheVariants.{Named, Detached}
-use Rattle.cat_model.specs.declared.reference.Pointer.{Pointer}
+use Rattle.cat_model.specs.declared.reference.Position.{Position}
 use Rattle.cat_model.specs.declared.reference.Reference.{Reference}
 use Rattle.cat_model.specs.declared.refusal.Missing.TheVariants as missing
 use Rattle.cat_model.specs.declared.refusal.Refusal.{Refusal}
@@ -30,7 +30,7 @@ use Rattle.cat_model.specs.Maps.{Map, entry_of}
 use Rattle.cat_model.specs.Maps as maps
 use Rattle.cat_model.specs.Chain.{entries, on_chain}
 use Rattle.cat_model.specs.State.{Digest, State, content_at, is_known}
-use Rattle.cat_model.specs.Refusing.{◌>>=◌, Tested, needs, found, perhaps_named, pointed}
+use Rattle.cat_model.specs.Refusing.{◌>>=◌, Tested, needs, found, perhaps_named, positioned}
 use Rattle.cat_model.specs.Pages.{first, last_shown, references_after, history}
 
 -- a commit as a reference at it, or detached
@@ -51,11 +51,11 @@ references_page references a =
     let left = references_after references a.after in
     record { items = take a.limit left; next = option_map (λ r. r.name) (last_shown a.limit left) }
 
--- a reference at its head, or at a hash on its chain
-unfoldable pub answer_reference : Digest → State → Pointer → Result Reply Refusal
+-- a reference at its head, or at a hash on its chain, or at a commit before it
+unfoldable pub answer_reference : Digest → State → Position → Result Reply Refusal
 answer_reference digest state p =
-    perhaps_named state p.name >>= λ reference.
-    pointed digest state reference p.hash >>= λ hash.
+    perhaps_named state p.from.name >>= λ reference.
+    positioned digest state reference p >>= λ hash.
     Ok (replies.Effective (effective_at reference hash))
 
 -- ---- entries and commits
@@ -63,8 +63,8 @@ answer_reference digest state p =
 -- a page of the entries at a commit that pass a filter
 unfoldable pub answer_entries : Digest → State → EntriesAsk → Result Reply Refusal
 answer_entries digest state a =
-    perhaps_named state a.at.name >>= λ reference.
-    pointed digest state reference a.at.hash >>= λ asked.
+    perhaps_named state a.at.from.name >>= λ reference.
+    positioned digest state reference a.at >>= λ asked.
     turned_to digest state asked (option_map (λ x. x.0) a.after) >>= λ hash.
     let left = entries_after (listing (entries state.commits hash) a.filter) (option_map (λ x. x.1) a.after) in
     Ok (replies.Entries (record {
@@ -102,8 +102,8 @@ needs_until state hash (Some last) = needs (on_chain state.commits hash last) Re
 -- a page of a chain
 unfoldable pub answer_history : Digest → State → HistoryAsk → Result Reply Refusal
 answer_history digest state a =
-    perhaps_named state a.at.name >>= λ reference.
-    pointed digest state reference a.at.hash >>= λ asked.
+    perhaps_named state a.at.from.name >>= λ reference.
+    positioned digest state reference a.at >>= λ asked.
     turned_to digest state asked a.from >>= λ hash.
     needs_until state hash a.until >>= λ _.
     let left = history state.commits hash a.until in
@@ -125,8 +125,8 @@ keyed_content present map key = option_map (λ content. (key, content)) (content
 -- the contents of keys, in the order asked for; keys without one are left out
 unfoldable pub answer_contents : Digest → State → ContentsAsk → Result Reply Refusal
 answer_contents digest state a =
-    perhaps_named state a.at.name >>= λ reference.
-    pointed digest state reference a.at.hash >>= λ hash.
+    perhaps_named state a.at.from.name >>= λ reference.
+    positioned digest state reference a.at >>= λ hash.
     Ok (replies.Contents (record {
       effective = effective_at reference hash;
       contents = filter_map (keyed_content state.present (entries state.commits hash)) a.keys;
@@ -135,8 +135,8 @@ answer_contents digest state a =
 -- the content of one key
 unfoldable pub answer_content : Digest → State → ContentAsk → Result Reply Refusal
 answer_content digest state a =
-    perhaps_named state a.at.name >>= λ reference.
-    pointed digest state reference a.at.hash >>= λ hash.
+    perhaps_named state a.at.from.name >>= λ reference.
+    positioned digest state reference a.at >>= λ hash.
     found (entry_of (entries state.commits hash) a.key) (ContentNotFound missing.Absent) >>= λ entry.
     found (content_at state.present entry.hash) (ContentNotFound missing.Expired) >>= λ content.
     Ok (replies.Content (record { effective = effective_at reference hash; content = content }))

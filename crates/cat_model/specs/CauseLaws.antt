@@ -15,6 +15,7 @@ use Rattle.cat_model.specs.declared.content.Content.{Content}
 use Rattle.cat_model.specs.declared.limits.Quantity.TheVariants as quantities
 use Rattle.cat_model.specs.declared.op.Op.{Op}
 use Rattle.cat_model.specs.declared.reference.Kind.{Kind}
+use Rattle.cat_model.specs.declared.reference.Position.{Position}
 use Rattle.cat_model.specs.declared.reference.Reference.{Reference}
 use Rattle.cat_model.specs.declared.refusal.Reason.{Reason}
 use Rattle.cat_model.specs.declared.refusal.Reason.TheVariants.{NotConsecutive}
@@ -30,7 +31,7 @@ use Rattle.cat_model.specs.Maps.{Map}
 use Rattle.cat_model.specs.Merges.{Planned, Plans, all_conflicts, all_set, commits_made, merge_opening, merge_plans, needs_planned_room, needs_set_contents, planned_commit, step_applied, step_merge, step_planned, step_unless_conflicts, with_planned}
 use Rattle.cat_model.specs.Moves.{needs_contents, needs_head, needs_log, needs_new_name, needs_other_than_default, step_assign, step_create, step_delete}
 use Rattle.cat_model.specs.Records.{added, commit_bytes, content_bytes, with_commit, with_content, with_contents}
-use Rattle.cat_model.specs.Refusing.{◌>>=◌, found, named, needs, needs_at_most, needs_branch, needs_kind, needs_room, needs_source_kind, perhaps_named, pointed}
+use Rattle.cat_model.specs.Refusing.{◌>>=◌, found, named, needs, needs_at_most, needs_branch, needs_kind, needs_room, needs_source_kind, perhaps_named, pointed, positioned}
 use Rattle.cat_model.specs.State.{Digest, State, commit_hash, content_hash}
 use Rattle.cat_model.specs.Step.{Turn, opening, step}
 use Rattle.cat_model.specs.Transplants.{are_consecutive, needs_on_chain, step_transplant, transplant_opening, transplant_plans}
@@ -75,6 +76,10 @@ module _ (digest : Digest) (among : Refusal → Bool) (early : HasEarly among) w
   pointed_causes state (Some reference) (Some hash) = causes_choice among _ hash RefNotFound early.missing
   pointed_causes state None (Some hash) = causes_choice among _ hash RefNotFound early.missing
   pointed_causes state None None = early.missing
+
+  pub positioned_causes : (state : State) (reference : Option Reference) (p : Position) → Causes among (positioned digest state reference p)
+  positioned_causes state reference p =
+      causes_bind among (pointed digest state reference p.from.hash) _ (pointed_causes state reference p.from.hash) (λ hash. causes_found among _ RefNotFound early.missing)
 
   branch_causes : (branch : Reference) → Causes among (needs_branch branch)
   branch_causes branch = causes_needs among _ (BadRequest _) (early.bad _)

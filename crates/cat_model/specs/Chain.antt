@@ -1,5 +1,5 @@
 -- Commits, their chains, and the map at each of them.
-use Rattle.std.specs.Prelude.{ℕ, List, [], ◌∷◌, Option, Some, None, Bool, ◌||◌, if◌then◌else◌}
+use Rattle.std.specs.Prelude.{ℕ, List, [], ◌∷◌, Option, Some, None, Bool, ◌||◌, if◌then◌else◌, slice_get}
 use Rattle.cat_names.specs.declared.hash.Hash.{Hash}
 use Rattle.cat_model.specs.declared.commit.Commit.{Commit}
 use Rattle.cat_model.specs.Same.{same_hash}
@@ -18,6 +18,15 @@ commit_of (x ∷ older) hash = if same_hash x.0 hash then Some x.1 else commit_o
 abbrev pub chain : Commits → Hash → Commits
 chain [] hash = []
 chain (x ∷ older) hash = if same_hash x.0 hash then x ∷ chain older x.1.parent else chain older hash
+
+-- the hashes of a chain, from this one to the one that has no ancestor
+abbrev pub members : Commits → Hash → List Hash
+members [] hash = hash ∷ []
+members (x ∷ older) hash = if same_hash x.0 hash then hash ∷ members older x.1.parent else members older hash
+
+-- the member of this number of a chain, counted from 0, where there is one
+abbrev pub back : Commits → Hash → ℕ → Option Hash
+back commits hash n = slice_get (members commits hash) n
 
 -- the map after the changes of a chain, the oldest commit's first
 abbrev pub map_of : Commits → Map

@@ -12,6 +12,7 @@ use Rattle.cat_model.specs.declared.content.IcebergTable.{IcebergTable}
 use Rattle.cat_model.specs.declared.content.IcebergView.{IcebergView}
 use Rattle.cat_model.specs.declared.content.DeltaLakeTable.{DeltaLakeTable}
 use Rattle.cat_model.specs.declared.content.Namespace.{Namespace}
+use Rattle.cat_model.specs.declared.content.Udf.{Udf}
 use Rattle.cat_model.specs.declared.content.Body.{Body}
 use Rattle.cat_model.specs.declared.content.Body.TheVariants as bodies
 use Rattle.cat_model.specs.declared.content.Content.{Content}
@@ -45,12 +46,20 @@ namespace_code = as_type
     (λ x. record { elements = x.0; properties = x.1 })
     (list text_code ⊗ ascending (slice_cmp nat_cmp) text_code text_code)
 
+-- the fields of a function
+unfoldable pub udf_code : Code Udf
+udf_code = as_type
+    (λ f. (f.metadata_location, (f.version_id, f.signature_id)))
+    (λ x. record { metadata_location = x.0; version_id = x.1.0; signature_id = x.1.1 })
+    (text_code ⊗ text_code ⊗ text_code)
+
 -- the type of a content
 abbrev pub body_kind : Body → ContentKind
 body_kind (bodies.IcebergTable t) = kinds.IcebergTable
 body_kind (bodies.IcebergView v) = kinds.IcebergView
 body_kind (bodies.DeltaLakeTable t) = kinds.DeltaLakeTable
 body_kind (bodies.Namespace n) = kinds.Namespace
+body_kind (bodies.Udf f) = kinds.Udf
 
 -- the number of a content's type
 abbrev pub content_tag : Content → ℕ
@@ -62,6 +71,7 @@ table_of id (bodies.IcebergTable t) = Some (id, t)
 table_of id (bodies.IcebergView v) = None
 table_of id (bodies.DeltaLakeTable t) = None
 table_of id (bodies.Namespace n) = None
+table_of id (bodies.Udf f) = None
 
 -- the id and fields of a view
 abbrev pub view_of : ContentId → Body → Option (ContentId × IcebergView)
@@ -69,6 +79,7 @@ view_of id (bodies.IcebergTable t) = None
 view_of id (bodies.IcebergView v) = Some (id, v)
 view_of id (bodies.DeltaLakeTable t) = None
 view_of id (bodies.Namespace n) = None
+view_of id (bodies.Udf f) = None
 
 -- the id and fields of a Delta Lake table
 abbrev pub delta_of : ContentId → Body → Option (ContentId × DeltaLakeTable)
@@ -76,6 +87,7 @@ delta_of id (bodies.IcebergTable t) = None
 delta_of id (bodies.IcebergView v) = None
 delta_of id (bodies.DeltaLakeTable t) = Some (id, t)
 delta_of id (bodies.Namespace n) = None
+delta_of id (bodies.Udf f) = None
 
 -- the id and fields of a namespace
 abbrev pub namespace_of : ContentId → Body → Option (ContentId × Namespace)
@@ -83,6 +95,15 @@ namespace_of id (bodies.IcebergTable t) = None
 namespace_of id (bodies.IcebergView v) = None
 namespace_of id (bodies.DeltaLakeTable t) = None
 namespace_of id (bodies.Namespace n) = Some (id, n)
+namespace_of id (bodies.Udf f) = None
+
+-- the id and fields of a function
+abbrev pub udf_of : ContentId → Body → Option (ContentId × Udf)
+udf_of id (bodies.IcebergTable t) = None
+udf_of id (bodies.IcebergView v) = None
+udf_of id (bodies.DeltaLakeTable t) = None
+udf_of id (bodies.Namespace n) = None
+udf_of id (bodies.Udf f) = Some (id, f)
 
 -- a content that is a table
 unfoldable pub of_table : Code Content
@@ -100,6 +121,10 @@ of_delta = variant (λ x. record { id = x.0; body = bodies.DeltaLakeTable x.1 })
 unfoldable pub of_namespace : Code Content
 of_namespace = variant (λ x. record { id = x.0; body = bodies.Namespace x.1 }) (λ c. namespace_of c.id c.body) (id_code ⊗ namespace_code)
 
+-- a content that is a function
+unfoldable pub of_udf : Code Content
+of_udf = variant (λ x. record { id = x.0; body = bodies.Udf x.1 }) (λ c. udf_of c.id c.body) (id_code ⊗ udf_code)
+
 -- the contents of a type's number
 abbrev pub content_of : ℕ → Code Content
 content_of zero = nothing
@@ -107,7 +132,8 @@ content_of (suc zero) = of_table
 content_of (suc (suc zero)) = of_view
 content_of (suc (suc (suc zero))) = of_delta
 content_of (suc (suc (suc (suc zero)))) = of_namespace
-content_of (suc (suc (suc (suc (suc n))))) = nothing
+content_of (suc (suc (suc (suc (suc zero))))) = of_udf
+content_of (suc (suc (suc (suc (suc (suc n)))))) = nothing
 
 -- a content: the number of its type, its id, and the fields of its type
 unfoldable pub content_code : Code Content

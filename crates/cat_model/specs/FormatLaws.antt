@@ -1,6 +1,7 @@
 -- The formats of entries and commits are codes.
 use Rattle.std.proofs.Common.{◌≡◌, ℕ, zero, suc, Some, refl, ap, sym, ◌∙◌}
-use Rattle.std.specs.Prelude.{nat_le}
+use Rattle.std.proofs.lemmas.Bool.{eq-eqb}
+use Rattle.std.specs.Prelude.{nat_le, true}
 use Rattle.std.specs.Ordering.{nat_cmp}
 use Rattle.std.specs.Cmp.Lexicographic.{slice_cmp}
 use Rattle.cat_codes.specs.declared.fault.FieldFault.TheVariants.{Range}
@@ -12,7 +13,8 @@ use Rattle.cat_codes.specs.FieldLaws.{pair_is, as_type_is, chosen_is, only_is, p
 use Rattle.cat_codes.specs.ListLaws.{list_is, ascending_is}
 use Rattle.cat_names.specs.KeyLaws.{hash_is, id_is, key_is}
 use Rattle.cat_model.specs.declared.entry.ContentKind.{ContentKind}
-use Rattle.cat_model.specs.declared.entry.ContentKind.TheVariants.{IcebergTable, IcebergView, DeltaLakeTable, Namespace}
+use Rattle.cat_model.specs.declared.entry.ContentKind.TheVariants.{IcebergTable, IcebergView, DeltaLakeTable, Namespace, Udf}
+use Rattle.cat_model.specs.Same.{same_type}
 use Rattle.cat_model.specs.Formats.{moment_code, kind_number, kind_of, kind_code, entry_code, meta_code, commit_code}
 
 pub moment_is : IsCode moment_code
@@ -24,6 +26,7 @@ kind_back IcebergTable = refl
 kind_back IcebergView = refl
 kind_back DeltaLakeTable = refl
 kind_back Namespace = refl
+kind_back Udf = refl
 
 some_is : (k l : ContentKind) (n : ℕ) → Some k ≡ Some l → kind_number k ≡ n → kind_number l ≡ n
 some_is k l n e h = let same : k ≡ l = cc in ap kind_number (sym same) ∙ h
@@ -34,7 +37,12 @@ kind_forth (suc zero) k e = some_is IcebergTable k 1 e refl
 kind_forth (suc (suc zero)) k e = some_is IcebergView k 2 e refl
 kind_forth (suc (suc (suc zero))) k e = some_is DeltaLakeTable k 3 e refl
 kind_forth (suc (suc (suc (suc zero)))) k e = some_is Namespace k 4 e refl
-kind_forth (suc (suc (suc (suc (suc n))))) k e = absurd cc
+kind_forth (suc (suc (suc (suc (suc zero))))) k e = some_is Udf k 5 e refl
+kind_forth (suc (suc (suc (suc (suc (suc n)))))) k e = absurd cc
+
+-- a type is the same as itself
+pub type_same : (kind : ContentKind) → same_type kind kind ≡ true
+type_same kind = eq-eqb (kind_number kind) (kind_number kind) refl
 
 pub kind_is : IsCode kind_code
 unfolding kind_code

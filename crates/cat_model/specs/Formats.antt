@@ -1,5 +1,5 @@
 -- The byte formats of entries and commits.
-use Rattle.std.specs.Prelude.{ℕ, zero, suc, [], ◌∷◌, Option, Some, None, nat_le}
+use Rattle.std.specs.Prelude.{ℕ, zero, suc, List, [], ◌∷◌, Option, Some, None, nat_le, bytes_eq, codes, if◌then◌else◌}
 use Rattle.std.specs.Ordering.{nat_cmp}
 use Rattle.std.specs.Cmp.Lexicographic.{slice_cmp}
 use Rattle.cat_codes.specs.declared.fault.FieldFault.TheVariants.{Range}
@@ -7,7 +7,7 @@ use Rattle.cat_codes.specs.Code.{Code, ◌⊗◌, as_type, chosen, only, prefixe
 use Rattle.cat_codes.specs.Texts.{text_code}
 use Rattle.cat_names.specs.Fields.{hash_code, id_code, key_code, key_cmp}
 use Rattle.cat_model.specs.declared.entry.ContentKind.{ContentKind}
-use Rattle.cat_model.specs.declared.entry.ContentKind.TheVariants.{IcebergTable, IcebergView, DeltaLakeTable, Namespace}
+use Rattle.cat_model.specs.declared.entry.ContentKind.TheVariants.{IcebergTable, IcebergView, DeltaLakeTable, Namespace, Udf}
 use Rattle.cat_model.specs.declared.entry.Entry.{Entry}
 use Rattle.cat_model.specs.declared.commit.Meta.{Meta}
 use Rattle.cat_model.specs.declared.commit.Commit.{Commit}
@@ -24,6 +24,7 @@ kind_number IcebergTable = 1
 kind_number IcebergView = 2
 kind_number DeltaLakeTable = 3
 kind_number Namespace = 4
+kind_number Udf = 5
 
 -- the type of a number
 abbrev pub kind_of : ℕ → Option ContentKind
@@ -32,7 +33,26 @@ kind_of (suc zero) = Some IcebergTable
 kind_of (suc (suc zero)) = Some IcebergView
 kind_of (suc (suc (suc zero))) = Some DeltaLakeTable
 kind_of (suc (suc (suc (suc zero)))) = Some Namespace
-kind_of (suc (suc (suc (suc (suc n))))) = None
+kind_of (suc (suc (suc (suc (suc zero))))) = Some Udf
+kind_of (suc (suc (suc (suc (suc (suc n)))))) = None
+
+-- the name of a type
+abbrev pub kind_name : ContentKind → List ℕ
+kind_name IcebergTable = codes "ICEBERG_TABLE"
+kind_name IcebergView = codes "ICEBERG_VIEW"
+kind_name DeltaLakeTable = codes "DELTA_LAKE_TABLE"
+kind_name Namespace = codes "NAMESPACE"
+kind_name Udf = codes "UDF"
+
+-- the type of a name
+abbrev pub kind_named : List ℕ → Option ContentKind
+kind_named text =
+    if bytes_eq text (codes "ICEBERG_TABLE") then Some IcebergTable
+    else if bytes_eq text (codes "ICEBERG_VIEW") then Some IcebergView
+    else if bytes_eq text (codes "DELTA_LAKE_TABLE") then Some DeltaLakeTable
+    else if bytes_eq text (codes "NAMESPACE") then Some Namespace
+    else if bytes_eq text (codes "UDF") then Some Udf
+    else None
 
 -- a type as its number
 unfoldable pub kind_code : Code ContentKind

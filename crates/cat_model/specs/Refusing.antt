@@ -6,11 +6,12 @@ use Rattle.cat_model.specs.declared.refusal.Refusal.TheVariants.{BadRequest, Ref
 use Rattle.cat_model.specs.declared.reply.Reply.{Reply}
 use Rattle.cat_model.specs.declared.refusal.Reason.TheVariants.{NotABranch, OtherType}
 use Rattle.cat_model.specs.declared.limits.Quantity.{Quantity}
+use Rattle.cat_model.specs.declared.reference.Position.{Position}
 use Rattle.cat_model.specs.declared.reference.Reference.{Reference}
 use Rattle.cat_model.specs.declared.reference.Kind.{Kind}
 use Rattle.cat_model.specs.declared.reference.Kind.TheVariants.{Branch}
 use Rattle.cat_model.specs.Same.{same_kind}
-use Rattle.cat_model.specs.Chain.{on_chain}
+use Rattle.cat_model.specs.Chain.{back, on_chain}
 use Rattle.cat_model.specs.State.{Digest, State, reference_of, is_known}
 
 infixr 5 ◌>>=◌
@@ -77,3 +78,7 @@ pointed digest state (Some reference) None = Ok reference.head
 pointed digest state (Some reference) (Some hash) = if on_chain state.commits reference.head hash then Ok hash else Err RefNotFound
 pointed digest state None (Some hash) = if is_known digest state hash then Ok hash else Err RefNotFound
 pointed digest state None None = Err RefNotFound
+
+-- so many commits back along the chain from what is pointed at; refused where the chain has fewer
+abbrev pub positioned : Digest → State → Option Reference → Position → Result Hash Refusal
+positioned digest state reference p = pointed digest state reference p.from.hash >>= λ hash. found (back state.commits hash p.back) RefNotFound

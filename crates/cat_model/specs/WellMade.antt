@@ -47,6 +47,7 @@ may_stand_at key (bodies.Namespace n) = pointwise bytes_eq n.elements key
 may_stand_at key (bodies.IcebergTable t) = true
 may_stand_at key (bodies.IcebergView v) = true
 may_stand_at key (bodies.DeltaLakeTable t) = true
+may_stand_at key (bodies.Udf f) = true
 
 -- a PUT is of its content: of its type, and where the request gave the id, of its id and hash
 abbrev pub is_of : Digest → Entry → Bool → Content → Bool

@@ -1,7 +1,7 @@
 //! Calls that read the catalogue.
 
 use crate::filter::Filter;
-use crate::reference::Pointer;
+use crate::reference::Position;
 use cat_codes::seq::Seq;
 use cat_names::hash::Hash;
 use cat_names::key::ContentKey;
@@ -19,7 +19,7 @@ pub struct ReferencesAsk {
 /// A page of the entries at a commit, keys ascending: the first one, or the one after a key.
 #[derive(Drop)]
 pub struct EntriesAsk {
-    pub at: Pointer,
+    pub at: Position,
     pub filter: Filter,
     /// The most entries of the page, 1 to 1,000.
     pub limit: u32,
@@ -30,7 +30,7 @@ pub struct EntriesAsk {
 /// A page of a chain, the newest commit first: from the head, or from a commit.
 #[derive(Drop)]
 pub struct HistoryAsk {
-    pub at: Pointer,
+    pub at: Position,
     /// The last commit that is asked for; none asks for the whole chain.
     pub until: Option<Hash>,
     /// Whether the operations of each commit are asked for.
@@ -44,14 +44,14 @@ pub struct HistoryAsk {
 /// The contents of keys at a commit.
 #[derive(Drop)]
 pub struct ContentsAsk {
-    pub at: Pointer,
+    pub at: Position,
     pub keys: Seq<ContentKey>,
 }
 
 /// The content of a key at a commit.
 #[derive(Drop)]
 pub struct ContentAsk {
-    pub at: Pointer,
+    pub at: Position,
     pub key: ContentKey,
 }
 
@@ -61,8 +61,8 @@ pub enum Ask {
     /// What the server is: its versions, its default branch, the hash without ancestor.
     Config,
     References(ReferencesAsk),
-    /// A reference, at its head or at a hash on its chain, or a commit alone.
-    Reference(Pointer),
+    /// A reference, at its head or at a hash on its chain, or a commit alone, or one before these.
+    Reference(Position),
     Entries(EntriesAsk),
     History(HistoryAsk),
     Contents(ContentsAsk),

@@ -2,8 +2,8 @@
 
 ghost use Rattle.std.specs.Prelude.{◌≡◌, bytes_eq};
 ghost use Rattle.std.specs.Cmp.Lexicographic.{pointwise};
-ghost use Rattle.cat_model.specs.Contents.{table_code, view_code, delta_code, namespace_code, content_code, body_kind};
-ghost use Rattle.cat_model.specs.ContentLaws.{table_is, view_is, delta_is, namespace_is, content_is};
+ghost use Rattle.cat_model.specs.Contents.{table_code, view_code, delta_code, namespace_code, udf_code, content_code, body_kind};
+ghost use Rattle.cat_model.specs.ContentLaws.{table_is, view_is, delta_is, namespace_is, udf_is, content_is};
 ghost use Rattle.cat_model.specs.WellMade.{may_stand_at};
 
 use crate::entry::ContentKind;
@@ -56,6 +56,15 @@ pub struct Namespace {
     pub properties: Ascending<Text, Text>,
 }
 
+/// The state of a user-defined function.
+#[derive(Clone, Drop)]
+pub struct Udf {
+    /// Where the function's metadata file lies.
+    pub metadata_location: Text,
+    pub version_id: Text,
+    pub signature_id: Text,
+}
+
 /// What a content is, by its type.
 #[derive(Drop)]
 pub enum Body {
@@ -63,6 +72,7 @@ pub enum Body {
     IcebergView(IcebergView),
     DeltaLakeTable(DeltaLakeTable),
     Namespace(Namespace),
+    Udf(Udf),
 }
 
 /// What a key stands for, in full.
@@ -98,6 +108,7 @@ impl Body {
             Body::IcebergView(_) => ContentKind::IcebergView,
             Body::DeltaLakeTable(_) => ContentKind::DeltaLakeTable,
             Body::Namespace(_) => ContentKind::Namespace,
+            Body::Udf(_) => ContentKind::Udf,
         }
     }
 
@@ -222,12 +233,38 @@ impl Field for Namespace {
     }
 }
 
+impl Field for Udf {
+    ghost code = { udf_code };
+
+    ghost lawful = { udf_is };
+
+    #[tactic(auto, unfolding(crate::specs::Contents::udf_code))]
+    fn read(from: &mut Reader<'_>, alloc: Global) -> Result<Udf, FieldFault> {
+        let metadata_location = Text::read(from, alloc)?;
+        let version_id = Text::read(from, alloc)?;
+        let signature_id = Text::read(from, alloc)?;
+        Ok(Udf {
+            metadata_location,
+            version_id,
+            signature_id,
+        })
+    }
+
+    #[tactic(auto, unfolding(crate::specs::Contents::udf_code))]
+    fn write(&self, out: &mut Writer) -> Result<(), NoMemory> {
+        self.metadata_location.write(out)?;
+        self.version_id.write(out)?;
+        self.signature_id.write(out)?;
+        Ok(())
+    }
+}
+
 impl Field for Content {
     ghost code = { content_code };
 
     ghost lawful = { content_is };
 
-    #[tactic(auto, unfolding(crate::specs::Contents::content_code, crate::specs::Contents::of_table, crate::specs::Contents::of_view, crate::specs::Contents::of_delta, crate::specs::Contents::of_namespace))]
+    #[tactic(auto, unfolding(crate::specs::Contents::content_code, crate::specs::Contents::of_table, crate::specs::Contents::of_view, crate::specs::Contents::of_delta, crate::specs::Contents::of_namespace, crate::specs::Contents::of_udf))]
     fn read(from: &mut Reader<'_>, alloc: Global) -> Result<Content, FieldFault> {
         match from.u8()? {
             1 => {
@@ -262,11 +299,19 @@ impl Field for Content {
                     body: Body::Namespace(namespace),
                 })
             }
+            5 => {
+                let id = ContentId::read(from, alloc)?;
+                let udf = Udf::read(from, alloc)?;
+                Ok(Content {
+                    id,
+                    body: Body::Udf(udf),
+                })
+            }
             _ => Err(FieldFault::Range),
         }
     }
 
-    #[tactic(auto, unfolding(crate::specs::Contents::content_code, crate::specs::Contents::of_table, crate::specs::Contents::of_view, crate::specs::Contents::of_delta, crate::specs::Contents::of_namespace))]
+    #[tactic(auto, unfolding(crate::specs::Contents::content_code, crate::specs::Contents::of_table, crate::specs::Contents::of_view, crate::specs::Contents::of_delta, crate::specs::Contents::of_namespace, crate::specs::Contents::of_udf))]
     fn write(&self, out: &mut Writer) -> Result<(), NoMemory> {
         match &self.body {
             Body::IcebergTable(table) => {
@@ -291,6 +336,12 @@ impl Field for Content {
                 out.u8(4)?;
                 self.id.write(out)?;
                 namespace.write(out)?;
+                Ok(())
+            }
+            Body::Udf(udf) => {
+                out.u8(5)?;
+                self.id.write(out)?;
+                udf.write(out)?;
                 Ok(())
             }
         }

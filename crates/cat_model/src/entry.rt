@@ -1,7 +1,7 @@
 //! Entries of keys.
 
 ghost use Rattle.std.specs.Prelude.{◌≡◌, None, Some};
-ghost use Rattle.cat_model.specs.Formats.{kind_number, kind_of, kind_code, entry_code};
+ghost use Rattle.cat_model.specs.Formats.{kind_number, kind_of, kind_name, kind_named, kind_code, entry_code};
 ghost use Rattle.cat_model.specs.FormatLaws.{kind_is, entry_is};
 
 use cat_codes::fault::{FieldFault, NoMemory};
@@ -18,6 +18,7 @@ pub enum ContentKind {
     IcebergView,
     DeltaLakeTable,
     Namespace,
+    Udf,
 }
 
 impl ContentKind {
@@ -30,6 +31,7 @@ impl ContentKind {
             ContentKind::IcebergView => 2,
             ContentKind::DeltaLakeTable => 3,
             ContentKind::Namespace => 4,
+            ContentKind::Udf => 5,
         }
     }
 
@@ -42,6 +44,34 @@ impl ContentKind {
             2 => Some(ContentKind::IcebergView),
             3 => Some(ContentKind::DeltaLakeTable),
             4 => Some(ContentKind::Namespace),
+            5 => Some(ContentKind::Udf),
+            _ => None,
+        }
+    }
+
+    /// Its name in JSON.
+    pub fn name(self) -> &'static str
+        ensures { result.now ≡ kind_name self }
+    {
+        match self {
+            ContentKind::IcebergTable => "ICEBERG_TABLE",
+            ContentKind::IcebergView => "ICEBERG_VIEW",
+            ContentKind::DeltaLakeTable => "DELTA_LAKE_TABLE",
+            ContentKind::Namespace => "NAMESPACE",
+            ContentKind::Udf => "UDF",
+        }
+    }
+
+    /// The type of a name; none for a name of no type.
+    pub fn named(name: &str) -> Option<ContentKind>
+        ensures { result ≡ kind_named name.now }
+    {
+        match name {
+            "ICEBERG_TABLE" => Some(ContentKind::IcebergTable),
+            "ICEBERG_VIEW" => Some(ContentKind::IcebergView),
+            "DELTA_LAKE_TABLE" => Some(ContentKind::DeltaLakeTable),
+            "NAMESPACE" => Some(ContentKind::Namespace),
+            "UDF" => Some(ContentKind::Udf),
             _ => None,
         }
     }

@@ -9,6 +9,7 @@ pub mod command;
 pub mod commit;
 pub mod conflict;
 pub mod content;
+pub mod copies;
 pub mod cutoff;
 pub mod entry;
 pub mod filter;

@@ -26,6 +26,14 @@ pub struct Pointer {
     pub hash: Option<Hash>,
 }
 
+/// The commit that a read asks for: so many commits back along the chain from the one that is
+/// pointed at, 0 being that one itself.
+#[derive(Drop)]
+pub struct Position {
+    pub from: Pointer,
+    pub back: u32,
+}
+
 /// The commit that a read was answered at: a reference's, or one that no reference was named for.
 #[derive(Drop)]
 pub enum Effective {

@@ -22,13 +22,15 @@ fn are_digits(text: &[u8]) -> bool
     true
 }
 
-fn is_number(text: &str) -> bool
+/// Whether it is one digit or more, and nothing else.
+pub fn is_number(text: &str) -> bool
     ensures { result ≡ is_number text.now }
 {
     !text.is_empty() && are_digits(text.as_bytes())
 }
 
-fn read_digits(text: &str) -> Result<u32, ParseIntError>
+/// The number of digits; an error where there are none, or the number is too large.
+pub fn read_digits(text: &str) -> Result<u32, ParseIntError>
     requires { all_ascii_digits text.now ≡ true }
     ensures { OkIff result ((0 < length text.now) × (digits_value 10 text.now < 2 ^ 32))
         (digits_value 10 text.now) }

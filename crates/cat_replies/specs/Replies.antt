@@ -3,7 +3,7 @@ use Rattle.std.specs.Prelude.{◌≡◌, ℕ, List, is_some, option_map, codes, 
 use Rattle.serde_json.specs.Data.{Data, boolean, string, object, no_members}
 use Rattle.serde_json.specs.Written.{has_float}
 use Rattle.cat_commit.specs.Metas.{told_meta_data, no_float_told_meta}
-use Rattle.cat_content.specs.Forms.{kind_name, content_data, no_float_content}
+use Rattle.cat_content.specs.Forms.{content_data, no_float_content}
 use Rattle.cat_json.specs.Names.{hash_data, id_data, key_data, no_float_key}
 use Rattle.cat_json.specs.Numbers.{natural_data}
 use Rattle.cat_json.specs.Writing.{◌+>◌, ◌+?>◌, list_data, no_float_list, floatless}
@@ -11,6 +11,7 @@ use Rattle.cat_names.specs.Fields.{Key}
 use Rattle.cat_names.specs.Hashes.{no_ancestor}
 use Rattle.cat_names.specs.declared.hash.ContentId.{ContentId}
 use Rattle.cat_names.specs.declared.hash.Hash.{Hash}
+use Rattle.cat_model.specs.Formats.{kind_name}
 use Rattle.cat_model.specs.declared.content.Content.{Content}
 use Rattle.cat_model.specs.declared.entry.Entry.{Entry}
 use Rattle.cat_model.specs.declared.reference.Effective.{Effective}

@@ -11,11 +11,10 @@ use Rattle.cat_names.specs.Fields.{Key}
 use Rattle.cat_names.specs.declared.hash.ContentId.{ContentId}
 use Rattle.cat_model.specs.Commits.{with_their_contents, puts}
 use Rattle.cat_model.specs.Contents.{body_kind}
-use Rattle.cat_model.specs.Same.{same_type}
+use Rattle.cat_model.specs.FormatLaws.{type_same}
 use Rattle.cat_model.specs.State.{content_hash}
 use Rattle.cat_model.specs.WellMade.{may_stand_at, is_made}
 use Rattle.cat_model.specs.declared.content.Body.{Body}
-use Rattle.cat_model.specs.declared.content.Body.TheVariants as bodies
 use Rattle.cat_model.specs.declared.content.Content.{Content}
 use Rattle.cat_model.specs.declared.op.Op.{Op}
 use Rattle.cat_model.specs.declared.op.Op.TheVariants as ops
@@ -39,20 +38,14 @@ abbrev ready : Option (Op × Option Content) → Bool
 ready None = true
 ready (Some x) = is_ready x
 
-same_kind : (body : Body) → same_type (body_kind body) (body_kind body) ≡ true
-same_kind (bodies.IcebergTable t) = refl
-same_kind (bodies.IcebergView v) = refl
-same_kind (bodies.DeltaLakeTable t) = refl
-same_kind (bodies.Namespace n) = refl
-
 same_bytes : (bytes : List ℕ) → bytes_eq bytes bytes ≡ true
 same_bytes bytes = search rules
 
 given_ready : (key : Key) (c : Content) → may_stand_at key c.body ≡ true → is_ready (given_put key c) ≡ true
-given_ready key c e = rw (e, same_kind c.body, same_bytes c.id.bytes, same_bytes (content_hash sha256 c).bytes) refl
+given_ready key c e = rw (e, type_same (body_kind c.body), same_bytes c.id.bytes, same_bytes (content_hash sha256 c).bytes) refl
 
 put_ready : (key : Key) (id : Option ContentId) (body : Body) → may_stand_at key body ≡ true → is_ready (put_of key id body) ≡ true
-put_ready key None body e = rw (e, same_kind body) refl
+put_ready key None body e = rw (e, type_same (body_kind body)) refl
 put_ready key (Some id) body e = given_ready key (record { id = id; body = body }) e
 
 -- ---- so is what an operation is read as

@@ -19,7 +19,7 @@ use Rattle.cat_model.specs.declared.command.Command.TheVariants as commands
 use Rattle.cat_model.specs.declared.content.Content.{Content}
 use Rattle.cat_model.specs.declared.op.Op.{Op}
 use Rattle.cat_model.specs.declared.reference.Kind.{Kind}
-use Rattle.cat_model.specs.declared.reference.Pointer.{Pointer}
+use Rattle.cat_model.specs.declared.reference.Position.{Position}
 use Rattle.cat_model.specs.declared.refusal.Reason.{Reason}
 use Rattle.cat_model.specs.declared.refusal.Reason.TheVariants.{BadPath, BadQuery, BadBody}
 use Rattle.cat_model.specs.declared.refusal.Refusal.{Refusal}
@@ -35,7 +35,7 @@ use Rattle.cat_rest.specs.Changes.{create, assign, delete, commit, create_at, as
 use Rattle.cat_rest.specs.Faults.{◌>>!◌, or_bad, Answers}
 use Rattle.cat_rest.specs.MergeBodies.{manner_as, merge_as, merge}
 use Rattle.cat_rest.specs.Operations.{op_as}
-use Rattle.cat_rest.specs.Paths.{name_of, reference_at, pointer_at, key_at}
+use Rattle.cat_rest.specs.Paths.{name_of, reference_at, position_at, key_at}
 use Rattle.cat_rest.specs.Queries.{required, optional, kind_of, references_asked, entries_asked, history_asked, contents_asked}
 use Rattle.cat_rest.specs.Reads.{requested_as}
 use Rattle.cat_rest.specs.Served.{IsServed, AreServed}
@@ -195,9 +195,9 @@ collect_served body = through (or_bad BadBody (body_as policy_as body)) _ (λ po
 
 -- ---- and each read
 
-pointed_served : {A : Type 0} (part : Option (List ℕ)) (reason : Reason) (o : Pointer → Option A) (f : Pointer → A → Ask) → AreServed (or_bad BadPath (pointer_at part) >>! λ at. or_bad reason (o at) >>! λ x. Ok (Read (f at x)))
+pointed_served : {A : Type 0} (part : Option (List ℕ)) (reason : Reason) (o : Position → Option A) (f : Position → A → Ask) → AreServed (or_bad BadPath (position_at part) >>! λ at. or_bad reason (o at) >>! λ x. Ok (Read (f at x)))
 pointed_served part reason o f =
-    through (or_bad BadPath (pointer_at part)) _ (λ at e. through (or_bad reason (o at)) _ (λ x e. tt))
+    through (or_bad BadPath (position_at part)) _ (λ at e. through (or_bad reason (o at)) _ (λ x e. tt))
 
 trees_served : (r : Message) → AreServed (trees_by r)
 trees_served r =
@@ -208,7 +208,7 @@ trees_served r =
 tree_served : (part : Option (List ℕ)) (r : Message) → AreServed (tree_by part r)
 tree_served part r =
     chosen AreServed (bytes_eq r.method (codes "GET")) _ _
-    (through (or_bad BadPath (pointer_at part)) _ (λ at e. tt))
+    (through (or_bad BadPath (position_at part)) _ (λ at e. tt))
     (chosen AreServed (bytes_eq r.method (codes "PUT")) _ _
     (assign_served part (query_of r.target) r.body)
     (delete_served part (query_of r.target)))

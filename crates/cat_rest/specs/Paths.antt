@@ -1,7 +1,8 @@
 -- References and keys in paths.
-use Rattle.std.specs.Prelude.{ℕ, ◌==◌, nat_eq, List, length, Option, Some, None, is_some, Bool, bytes_eq, if◌then◌else◌, codes}
+use Rattle.std.specs.Prelude.{ℕ, ◌==◌, ◌^◌, ◌&&◌, nat_eq, nat_le, nat_lt, List, length, Option, Some, None, is_some, Bool, bytes_eq, if◌then◌else◌, codes}
 use Rattle.std.specs.List.{before_first, after_first, position}
 use Rattle.std.specs.Str.{is_utf8}
+use Rattle.std.specs.Str.Parse.{digits_value}
 use Rattle.percent_encoding.specs.Percent.{percent_decode}
 use Rattle.cat_json.specs.Names.{made}
 use Rattle.cat_json.specs.Reading.{◌>>=◌}
@@ -9,6 +10,8 @@ use Rattle.cat_names.specs.Fields.{Key, key_of, pieces}
 use Rattle.cat_names.specs.Hashes.{hash_of}
 use Rattle.cat_names.specs.RefNames.{is_reference_name}
 use Rattle.cat_model.specs.declared.reference.Pointer.{Pointer}
+use Rattle.cat_model.specs.declared.reference.Position.{Position}
+use Rattle.cat_queries.specs.Parameters.{is_number}
 use Rattle.cat_rest.specs.declared.path.PathReference.{PathReference}
 
 -- a parameter without its escapes, where that is a text
@@ -47,9 +50,25 @@ pointer_in text =
     Some (record { name = name; hash = Some hash }))
     else (name_in text >>= λ name. Some (record { name = Some name; hash = None }))
 
--- what a parameter of a read points at
-abbrev pub pointer_at : Option (List ℕ) → Option Pointer
-pointer_at part = part >>= decoded >>= pointer_in
+abbrev pub is_tilde : ℕ → Bool
+is_tilde byte = byte == 126
+
+-- how many commits back: one to ten digits of a number below 2 ^ 32
+abbrev pub back_in : List ℕ → Option ℕ
+back_in text = if is_number text && nat_le (length text) 10 && nat_lt (digits_value 10 text) (2 ^ 32) then Some (digits_value 10 text) else None
+
+-- what a read points at, or that, `~`, and how many commits back from it
+unfoldable pub position_in : List ℕ → Option Position
+position_in text =
+    if is_some (position is_tilde text) then
+    (pointer_in (before_first is_tilde text) >>= λ from.
+    back_in (after_first is_tilde text) >>= λ back.
+    Some (record { from = from; back = back }))
+    else (pointer_in text >>= λ from. Some (record { from = from; back = 0 }))
+
+-- the commit that a parameter of a read asks for
+abbrev pub position_at : Option (List ℕ) → Option Position
+position_at part = part >>= decoded >>= position_in
 
 -- the reference that a parameter of a change stands for
 abbrev pub reference_at : Option (List ℕ) → Option PathReference

@@ -8,7 +8,7 @@ use Rattle.cat_model.specs.declared.ask.ReferencesAsk.{ReferencesAsk}
 use Rattle.cat_model.specs.declared.filter.Filter.{Filter}
 use Rattle.cat_model.specs.declared.reference.Kind.{Kind}
 use Rattle.cat_model.specs.declared.reference.Kind.TheVariants.{Branch, Tag}
-use Rattle.cat_model.specs.declared.reference.Pointer.{Pointer}
+use Rattle.cat_model.specs.declared.reference.Position.{Position}
 use Rattle.cat_names.specs.Fields.{Key}
 use Rattle.cat_names.specs.Hashes.{hash_of}
 use Rattle.cat_names.specs.declared.hash.Hash.{Hash}
@@ -102,7 +102,7 @@ references_asked query =
     optional references_token (codes "page-token") query >>= λ after.
     Some (record { limit = limit; after = after })
 
-unfoldable pub entries_asked : Pointer → List ℕ → Option EntriesAsk
+unfoldable pub entries_asked : Position → List ℕ → Option EntriesAsk
 entries_asked at query =
     limit_in query >>= λ limit.
     optional entries_token (codes "page-token") query >>= λ after.
@@ -110,7 +110,7 @@ entries_asked at query =
     Some (record { at = at; filter = filter; limit = limit; after = after })
 
 -- without a word the operations are not asked for
-unfoldable pub history_asked : Pointer → List ℕ → Option HistoryAsk
+unfoldable pub history_asked : Position → List ℕ → Option HistoryAsk
 history_asked at query =
     limit_in query >>= λ limit.
     optional history_token (codes "page-token") query >>= λ from.
@@ -118,5 +118,5 @@ history_asked at query =
     optional fetch_of (codes "fetch") query >>= λ fetch.
     Some (record { at = at; until = until; with_operations = unwrap_or fetch false; limit = limit; from = from })
 
-abbrev pub contents_asked : Pointer → List ℕ → Option ContentsAsk
+abbrev pub contents_asked : Position → List ℕ → Option ContentsAsk
 contents_asked at query = keys_in query >>= λ keys. Some (record { at = at; keys = keys })

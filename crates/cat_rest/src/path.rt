@@ -1,16 +1,17 @@
 //! References and keys in paths.
 
-ghost use Rattle.std.specs.Prelude.{option_map};
+ghost use Rattle.std.specs.Prelude.{◌≡◌, option_map};
 ghost use Rattle.cat_rest.specs.Faults.{GivesPath, GivesText, BecomesRefused, NameBecomes, KeyBecomes};
-ghost use Rattle.cat_rest.specs.Paths.{decoded, name_in, reference_in, reference_at, name_before, pointer_in, pointer_at, key_at};
+ghost use Rattle.cat_rest.specs.Paths.{decoded, name_in, reference_in, reference_at, name_before, pointer_in, back_in, position_in, position_at, key_at};
 
-use cat_model::reference::Pointer;
+use cat_model::reference::{Pointer, Position};
 use cat_model::refusal::{Reason, Refusal, Refused};
 use cat_names::hash::Hash;
 use cat_names::key::ContentKey;
 use cat_names::key_fault::KeyFault;
 use cat_names::name_fault::NameFault;
 use cat_names::ref_name::RefName;
+use cat_queries::{is_number, read_digits};
 use percent_encoding::{DecodeError, percent_decode_str};
 use std::alloc::Global;
 use std::borrow::CowStr;
@@ -143,15 +144,50 @@ fn pointer_in(alloc: Global, text: &str) -> Result<Pointer, PathFault>
     }
 }
 
-/// What a parameter of a read points at.
-pub(crate) fn pointer_at(alloc: Global, part: Option<&str>) -> Result<Pointer, PathFault>
-    ensures { GivesPath result (pointer_at (option_map (λ s. s.now) part.entry)) }
+// The most digits of how many commits back a read goes.
+const MOST_DIGITS: usize = 10;
+
+// How many commits back, in digits.
+fn back_in(text: &str) -> Option<u32>
+    ensures { result ≡ back_in text.now }
+{
+    if !is_number(text) || text.len() > MOST_DIGITS {
+        return None;
+    }
+    match read_digits(text) {
+        Ok(back) => Some(back),
+        Err(_) => None,
+    }
+}
+
+#[tactic(auto, unfolding(crate::specs::Paths::position_in))]
+fn position_in(alloc: Global, text: &str) -> Result<Position, PathFault>
+    ensures { GivesPath result (position_in text.now) }
+{
+    match text.split_once('~') {
+        None => {
+            let from = pointer_in(alloc, text)?;
+            Ok(Position { from, back: 0 })
+        }
+        Some((pointer, digits)) => {
+            let from = pointer_in(alloc, pointer)?;
+            match back_in(digits) {
+                Some(back) => Ok(Position { from, back }),
+                None => Err(PathFault::Bad),
+            }
+        }
+    }
+}
+
+/// The commit that a parameter of a read asks for.
+pub(crate) fn position_at(alloc: Global, part: Option<&str>) -> Result<Position, PathFault>
+    ensures { GivesPath result (position_at (option_map (λ s. s.now) part.entry)) }
 {
     let Some(part) = part else {
         return Err(PathFault::Bad);
     };
     let text = decoded(alloc, part)?;
-    pointer_in(alloc, text.as_str())
+    position_in(alloc, text.as_str())
 }
 
 /// The reference that a parameter of a change stands for.

@@ -10,7 +10,7 @@ use cat_codes::seq::Seq;
 use cat_codes::text::Text;
 use cat_model::ask::{ContentsAsk, EntriesAsk, HistoryAsk, ReferencesAsk};
 use cat_model::filter::Filter;
-use cat_model::reference::Pointer;
+use cat_model::reference::Position;
 use cat_names::hash::Hash;
 use cat_names::key::ContentKey;
 use cat_queries::{all, first, page_limit};
@@ -72,7 +72,7 @@ pub(crate) fn references_asked(alloc: Global, query: &[u8]) -> Result<References
 #[tactic(auto, unfolding(crate::specs::Queries::entries_asked))]
 pub(crate) fn entries_asked(
     alloc: Global,
-    at: Pointer,
+    at: Position,
     query: &[u8],
 ) -> Result<EntriesAsk, QueryFault>
     ensures { GivesQuery result (entries_asked at query.now) }
@@ -92,7 +92,7 @@ pub(crate) fn entries_asked(
 #[tactic(auto, unfolding(crate::specs::Queries::history_asked))]
 pub(crate) fn history_asked(
     alloc: Global,
-    at: Pointer,
+    at: Position,
     query: &[u8],
 ) -> Result<HistoryAsk, QueryFault>
     ensures { GivesQuery result (history_asked at query.now) }
@@ -113,7 +113,7 @@ pub(crate) fn history_asked(
 /// The contents of the keys.
 pub(crate) fn contents_asked(
     alloc: Global,
-    at: Pointer,
+    at: Position,
     query: &[u8],
 ) -> Result<ContentsAsk, QueryFault>
     ensures { GivesQuery result (contents_asked at query.now) }

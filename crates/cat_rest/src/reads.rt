@@ -4,7 +4,7 @@ ghost use Rattle.std.specs.Prelude.{option_map};
 ghost use Rattle.cat_rest.specs.Faults.{Answers};
 ghost use Rattle.cat_rest.specs.Reads.{references_at, reference_at, entries_at, history_at, contents_at, requested_as, requested_at, content_at};
 
-use crate::path::{key_at, pointer_at};
+use crate::path::{key_at, position_at};
 use crate::query::{contents_asked, entries_asked, history_asked, references_asked};
 use crate::refused::read_body;
 use crate::wanted::Wanted;
@@ -29,7 +29,7 @@ pub(crate) fn references_at(alloc: Global, query: &[u8]) -> Result<Wanted, Refus
 pub(crate) fn reference_at(alloc: Global, part: Option<&str>) -> Result<Wanted, Refused>
     ensures { Answers result (reference_at (option_map (λ s. s.now) part.entry)) }
 {
-    let at = pointer_at(alloc, part)?;
+    let at = position_at(alloc, part)?;
     Ok(Wanted::Read(Ask::Reference(at)))
 }
 
@@ -37,7 +37,7 @@ pub(crate) fn reference_at(alloc: Global, part: Option<&str>) -> Result<Wanted, 
 pub(crate) fn entries_at(alloc: Global, part: Option<&str>, query: &[u8]) -> Result<Wanted, Refused>
     ensures { Answers result (entries_at (option_map (λ s. s.now) part.entry) query.now) }
 {
-    let at = pointer_at(alloc, part)?;
+    let at = position_at(alloc, part)?;
     let ask = entries_asked(alloc, at, query)?;
     Ok(Wanted::Read(Ask::Entries(ask)))
 }
@@ -46,7 +46,7 @@ pub(crate) fn entries_at(alloc: Global, part: Option<&str>, query: &[u8]) -> Res
 pub(crate) fn history_at(alloc: Global, part: Option<&str>, query: &[u8]) -> Result<Wanted, Refused>
     ensures { Answers result (history_at (option_map (λ s. s.now) part.entry) query.now) }
 {
-    let at = pointer_at(alloc, part)?;
+    let at = position_at(alloc, part)?;
     let ask = history_asked(alloc, at, query)?;
     Ok(Wanted::Read(Ask::History(ask)))
 }
@@ -59,7 +59,7 @@ pub(crate) fn contents_at(
 ) -> Result<Wanted, Refused>
     ensures { Answers result (contents_at (option_map (λ s. s.now) part.entry) query.now) }
 {
-    let at = pointer_at(alloc, part)?;
+    let at = position_at(alloc, part)?;
     let ask = contents_asked(alloc, at, query)?;
     Ok(Wanted::Read(Ask::Contents(ask)))
 }
@@ -85,7 +85,7 @@ pub(crate) fn requested_at(
 ) -> Result<Wanted, Refused>
     ensures { Answers result (requested_at (option_map (λ s. s.now) part.entry) body.now) }
 {
-    let at = pointer_at(alloc, part)?;
+    let at = position_at(alloc, part)?;
     let keys = read_body::<RequestedForm>(alloc, body)?;
     Ok(Wanted::Read(Ask::Contents(ContentsAsk { at, keys })))
 }
@@ -99,7 +99,7 @@ pub(crate) fn content_at(
     ensures { Answers result
         (content_at (option_map (λ s. s.now) part.entry) (option_map (λ s. s.now) key.entry)) }
 {
-    let at = pointer_at(alloc, part)?;
+    let at = position_at(alloc, part)?;
     let key = key_at(alloc, key)?;
     Ok(Wanted::Read(Ask::Content(ContentAsk { at, key })))
 }

@@ -1,6 +1,6 @@
 -- Changes that break no rule of namespaces keep a map well-formed.
 use Rattle.std.proofs.Common.{◌≡◌, ℕ, List, [], ◌∷◌, Option, Some, None, Bool, true, false, ◌&&◌, ◌||◌, if◌then◌else◌, refl, sym, ap, subst, ◌∙◌}
-use Rattle.std.specs.Prelude.{not, is_none, nat_eq}
+use Rattle.std.specs.Prelude.{not, is_none}
 use Rattle.std.specs.List.{AllByRecursion, list_all}
 use Rattle.std.specs.Option.{option_or}
 use Rattle.std.specs.Cmp.{tied_itself}
@@ -11,30 +11,27 @@ use Rattle.cat_codes.specs.Code.{ascends}
 use Rattle.cat_names.specs.Fields.{Key, key_cmp}
 use Rattle.cat_model.specs.declared.conflict.ConflictKind.{ConflictKind}
 use Rattle.cat_model.specs.declared.conflict.ConflictKind.TheVariants.{NotANamespace, NamespaceNotEmpty}
-use Rattle.cat_model.specs.declared.entry.ContentKind.{ContentKind}
-use Rattle.cat_model.specs.declared.entry.ContentKind.TheVariants.{IcebergTable, IcebergView, DeltaLakeTable, Namespace}
+use Rattle.cat_model.specs.declared.entry.ContentKind.TheVariants.{Namespace}
 use Rattle.cat_model.specs.declared.entry.Entry.{Entry}
-use Rattle.cat_model.specs.Formats.{kind_number}
 use Rattle.cat_model.specs.Keys.{parent, begins_with, is_child}
 use Rattle.cat_model.specs.Maps.{Map, Change, IsMap, entry_of, after_changes}
 use Rattle.cat_model.specs.Namespaces.{is_namespace, has_child, parent_fault, outside_fault, emptied_fault, namespace_fault, is_well_formed}
-use Rattle.cat_model.specs.Same.{same_key}
+use Rattle.cat_model.specs.Same.{same_key, same_type}
 use Rattle.cat_keymap.specs.KeyOrder.{key_total, less_is, split3, both_true, and_true, head_tail, ascends_any, ascends_lower}
 use Rattle.cat_keymap.specs.MapLaws.{key_same, at_key, settled, found_after_all, IsMap-after_changes}
-use Rattle.cat_keymap.specs.Parents.{kind_state, entry_state, parent_state}
+use Rattle.cat_keymap.specs.declared.key_map.ParentState.TheVariants as state
+use Rattle.cat_keymap.specs.Parents.{entry_state, parent_state}
 use Rattle.cat_rules.specs.Rules.{state_fault}
 
 -- ---- what the parent's state tells of a key
 
-kind_fault_is : (kind : ContentKind) → state_fault (kind_state kind) ≡ (if nat_eq (kind_number kind) 4 then None else Some NotANamespace)
-kind_fault_is IcebergTable = refl
-kind_fault_is IcebergView = refl
-kind_fault_is DeltaLakeTable = refl
-kind_fault_is Namespace = refl
+fault_is : (namespace : Bool) → state_fault (if namespace then state.Namespace else state.Other) ≡ (if namespace then None else Some NotANamespace)
+fault_is true = refl
+fault_is false = refl
 
 entry_fault_is : (entry : Option Entry) → state_fault (entry_state entry) ≡ parent_fault entry
 entry_fault_is None = refl
-entry_fault_is (Some entry) = kind_fault_is entry.kind
+entry_fault_is (Some entry) = fault_is (same_type entry.kind Namespace)
 
 pub outside_is : (map : Map) (key : Key) → state_fault (parent_state map key) ≡ outside_fault map key
 outside_is map [] = refl

@@ -1,7 +1,8 @@
 -- Where references point.
-use Rattle.std.proofs.Common.{◌≡◌, ℕ, List, [], ◌∷◌, ◌++◌, Option, Some, Bool, true, false, cond, ◌||◌, IsTrue, is_some, refl, subst, ◌⊎◌, inl, inr, ⊎_elim}
+use Rattle.std.proofs.Common.{◌≡◌, ℕ, zero, suc, List, [], ◌∷◌, ◌++◌, Option, Some, Bool, true, false, cond, ◌||◌, IsTrue, is_some, refl, subst, ◌⊎◌, inl, inr, ⊎_elim}
 use Rattle.std.proofs.lemmas.Option.{same_Some}
 use Rattle.std.specs.List.{list_any}
+use Rattle.std.specs.Prelude.{slice_get}
 use Rattle.std.specs.Str.{bytes_eq}
 use Rattle.sha2.specs.Sha256.{sha256}
 use Rattle.cat_names.specs.declared.hash.Hash.{Hash}
@@ -11,7 +12,7 @@ use Rattle.cat_graph.specs.GraphLaws.{same_is}
 use Rattle.cat_graph.specs.Linked.{AreLinked, is_known}
 use Rattle.cat_model.specs.declared.commit.Commit.{Commit}
 use Rattle.cat_model.specs.declared.reference.Reference.{Reference}
-use Rattle.cat_model.specs.Chain.{Commits, commit_of, on_chain}
+use Rattle.cat_model.specs.Chain.{Commits, back, commit_of, members, on_chain}
 use Rattle.cat_model.specs.Same.{same_hash}
 use Rattle.cat_model.specs.State.{no_ancestor, reference_of}
 use Rattle.cat_state.specs.HeldLaws.{all_more}
@@ -52,6 +53,20 @@ pub chain_is_known : (commits : Commits) (head hash : Hash) → AreLinked commit
 chain_is_known [] head hash are on known = same_known [] head hash on known
 chain_is_known (x ∷ older) head hash are on known =
     chain_by (same_hash x.0 head) x older head hash refl (λ e. chain_is_known older x.1.parent hash are.2 e (are.1).parent) (chain_is_known older head hash are.2) on known
+
+member_by : (b : Bool) (x : Hash × Commit) (older : Commits) (hash : Hash) (n : ℕ) (other : Hash) → same_hash x.0 hash ≡ b
+    → ((m : ℕ) → slice_get (members older x.1.parent) m ≡ Some other → IsTrue (is_known older other)) → (slice_get (members older hash) n ≡ Some other → IsTrue (is_known older hash) → IsTrue (is_known older other))
+    → slice_get (cond b (hash ∷ members older x.1.parent) (members older hash)) n ≡ Some other → IsTrue (is_known (x ∷ older) hash) → IsTrue (is_known (x ∷ older) other)
+member_by true x older hash zero other same parent further e known = subst (λ (h : Hash). IsTrue (is_known (x ∷ older) h)) (same_Some hash other e) known
+member_by true x older hash (suc m) other same parent further e known = known_more x older other (parent m e)
+member_by false x older hash n other same parent further e known = known_more x older other (further e (known_less x older hash same known))
+
+-- each member of the chain of a known hash is known
+pub back_is_known : (commits : Commits) (hash : Hash) (n : ℕ) (other : Hash) → AreLinked commits → back commits hash n ≡ Some other → IsTrue (is_known commits hash) → IsTrue (is_known commits other)
+back_is_known [] hash zero other are e known = subst (λ (h : Hash). IsTrue (is_known [] h)) (same_Some hash other e) known
+back_is_known [] hash (suc n) other are e known = absurd cc
+back_is_known (x ∷ older) hash n other are e known =
+    member_by (same_hash x.0 hash) x older hash n other refl (λ m f. back_is_known older x.1.parent m other are.2 f (are.1).parent) (λ f. back_is_known older hash n other are.2 f) e known
 
 -- ---- references
 

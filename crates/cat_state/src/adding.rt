@@ -15,13 +15,13 @@ ghost use Rattle.cat_state.specs.Keeping.{IsHeldAt, MayBeAdded, is_held};
 
 use crate::additions::Additions;
 use crate::catalogue::Catalogue;
-use crate::copies::copy_content;
 use crate::failure::Failure;
 use crate::records::{NewCommit, Record, is_new};
 use cat_codes::fault::NoMemory;
 use cat_codes::field::to_bytes;
 use cat_model::commit::Commit;
 use cat_model::content::Content;
+use cat_model::copies::copy_content;
 use cat_names::hash::Hash;
 use std::alloc::Global;
 

@@ -1,10 +1,10 @@
 //! The commits that requests point at.
 
-ghost use Rattle.std.specs.Prelude.{◌≡◌, IfOk, IsTrue};
+ghost use Rattle.std.specs.Prelude.{◌≡◌, IfOk, IfSome, IsTrue};
 ghost use Rattle.std.specs.List.{list_all};
 ghost use Rattle.std.specs.Option.{option_copied, option_map};
 ghost use Rattle.sha2.specs.Sha256.{sha256};
-ghost use Rattle.cat_model.specs.Chain.{commit_of, on_chain};
+ghost use Rattle.cat_model.specs.Chain.{back, commit_of, on_chain};
 ghost use Rattle.cat_model.specs.State.{is_known};
 ghost use Rattle.cat_model.specs.Refusing as refusing;
 ghost use Rattle.cat_model.specs.Transplants.{are_consecutive};
@@ -13,7 +13,7 @@ ghost use Rattle.cat_state.specs.Keeping.{IsAtCommit, IsHeldAt};
 
 use crate::catalogue::Catalogue;
 use cat_model::commit::Commit;
-use cat_model::reference::Reference;
+use cat_model::reference::{Position, Reference};
 use cat_model::refusal::Refusal;
 use cat_names::hash::Hash;
 use cat_names::ref_name::RefName;
@@ -35,6 +35,16 @@ impl Catalogue {
             → IsTrue (is_known sha256 self.now hash.now) }
     {
         self.commits().on_chain(head, hash)
+    }
+
+    /// The member of this number of the chain of a hash. It is known where the hash is.
+    #[tactic(auto, using(crate::proofs::Heads::back_is_known))]
+    pub fn back(&self, hash: &Hash, n: u32) -> Option<Hash>
+        ensures back { result ≡ back self.now.commits hash.now n }
+        ensures known { IsTrue (is_known sha256 self.now hash.now)
+            → IfSome result (λ hash. IsTrue (is_known sha256 self.now hash)) }
+    {
+        self.commits().back(hash, n)
     }
 
     /// Whether each of the hashes is on the chain of the head.
@@ -109,5 +119,20 @@ impl Catalogue {
             (None, Some(hash)) => self.is_known(hash).then_some(*hash),
         };
         found.ok_or(Refusal::RefNotFound)
+    }
+
+    /// The commit that a read asks for: so many commits back from the one pointed at, where its
+    /// chain has so many. What a reference points at so is known if its head is.
+    pub fn positioned(&self, reference: Option<&Reference>, at: &Position) -> Result<Hash, Refusal>
+        ensures positioned { result
+            ≡ refusing.positioned sha256 self.now (option_copied reference.entry) at.now }
+        ensures known { IsAtCommit self.now (option_copied reference.entry)
+            → IfOk result (λ hash. IsTrue (is_known sha256 self.now hash)) }
+    {
+        let hash = self.pointed(reference, &at.from.hash)?;
+        match self.back(&hash, at.back) {
+            None => Err(Refusal::RefNotFound),
+            Some(hash) => Ok(hash),
+        }
     }
 }

@@ -137,6 +137,14 @@ fn walked(graph: &Graph, alloc: Global, from: u64, limit: usize) -> Option<usize
     }
 }
 
+/// Whether this one stands so many commits before the thousandth.
+fn is_before(graph: &Graph, n: u32, other: u64) -> bool {
+    match graph.back(&hash(1000), n) {
+        Some(found) => found == hash(other),
+        None => false,
+    }
+}
+
 #[test]
 fn a_chain_of_a_thousand_commits_is_walked(rt: HostRuntime) {
     let alloc = rt.alloc();
@@ -149,6 +157,12 @@ fn a_chain_of_a_thousand_commits_is_walked(rt: HostRuntime) {
     assert!(rt; graph.on_chain(&hash(1000), &hash(1)));
     assert!(rt; !graph.on_chain(&hash(1000), &hash(2000)));
     assert!(rt; is_base(&graph, alloc, 1000, 2000, 1));
+    assert!(rt;
+        is_before(&graph, 0, 1000) && is_before(&graph, 1, 999) && is_before(&graph, 999, 1)
+    );
+    assert!(rt; is_before(&graph, 1000, 0));
+    assert!(rt; graph.back(&hash(1000), 1001).is_none());
+    assert!(rt; graph.back(&hash(1000), 4_294_967_295).is_none());
 }
 
 /// How many keys the commits between two touched, if they come from the one to the other, and are

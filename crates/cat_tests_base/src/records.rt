@@ -125,7 +125,7 @@ fn is_content(alloc: Global, bytes: &[u8]) -> bool {
 
 #[test]
 fn a_content_of_each_type_is_written_as_it_was_read(rt: HostRuntime) {
-    for bytes in [&TABLE[..], &VIEW[..], &DELTA[..], &NAMESPACE[..]] {
+    for bytes in [&TABLE[..], &VIEW[..], &DELTA[..], &NAMESPACE[..], &UDF[..]] {
         assert!(&rt; is_content(rt.alloc(), bytes));
     }
 }
@@ -165,6 +165,12 @@ const DELTA: [u8; 45] = [
 const NAMESPACE: [u8; 49] = [
     4, 0, 0, 0, 0, 0, 0, 0, 1, 0, 0, 0, 0, 0, 0, 0, 0, 0, 0, 0, 1, 0, 0, 0, 1, 97, 0, 0, 0, 2, 0,
     0, 0, 1, 107, 0, 0, 0, 1, 118, 0, 0, 0, 1, 108, 0, 0, 0, 0,
+];
+
+/// The function at `m1` with the version `v1` and the signature `s1`.
+const UDF: [u8; 35] = [
+    5, 0, 0, 0, 0, 0, 0, 0, 1, 0, 0, 0, 0, 0, 0, 0, 0, 0, 0, 0, 2, 109, 49, 0, 0, 0, 2, 118, 49, 0,
+    0, 0, 2, 115, 49,
 ];
 
 const COMMIT: &[u8] =

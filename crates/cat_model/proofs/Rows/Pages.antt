@@ -34,7 +34,7 @@ use Rattle.cat_model.specs.declared.reply.HistoryItem.{HistoryItem}
 use Rattle.cat_model.specs.declared.reply.Reply.{Reply}
 use Rattle.cat_model.specs.declared.reply.Reply.TheVariants as replies
 use Rattle.cat_model.specs.declared.reply.Told.{Told}
-use Rattle.cat_model.proofs.Rows.Words.{Request, quick, clock, main, dev, H0, note, table, no_id, new, commit, put_new, create, from_branch, from_hash, after, head, t1, t2, t9, a, a-t, m1, empty, one, both}
+use Rattle.cat_model.proofs.Rows.Words.{Request, quick, clock, main, dev, H0, note, position, table, no_id, new, commit, put_new, create, from_branch, from_hash, after, head, t1, t2, t9, a, a-t, m1, empty, one, both}
 
 abbrev t0 : Key
 t0 = codes "t0" ∷ []
@@ -82,7 +82,7 @@ abbrev pages : Session → List Request → List Page
 pages s requests = map short (script quick 1 clock s requests).said
 
 abbrev listed : Option (List ℕ) → Option Hash → Filter → ℕ → Option (Hash × Key) → Request
-listed name hash filter limit after = Ok (Read (asks.Entries (record { at = record { name = name; hash = hash }; filter = filter; limit = limit; after = after })))
+listed name hash filter limit after = Ok (Read (asks.Entries (record { at = position name hash; filter = filter; limit = limit; after = after })))
 
 -- a commit of two keys, and two commits after it
 abbrev two : Session
@@ -127,7 +127,7 @@ references_by_ascending_names = refl
 -- ---- history
 
 abbrev walked : Option (List ℕ) → Option Hash → Option Hash → Bool → ℕ → Option Hash → Request
-walked name hash until with limit from = Ok (Read (asks.History (record { at = record { name = name; hash = hash }; until = until; with_operations = with; limit = limit; from = from })))
+walked name hash until with limit from = Ok (Read (asks.History (record { at = position name hash; until = until; with_operations = with; limit = limit; from = from })))
 
 abbrev middle : Session
 middle = after two (put_new None t0 m1 ∷ [])
@@ -160,7 +160,7 @@ a_commit_is_shown_whole = refl
 -- ---- contents
 
 abbrev asked : Option (List ℕ) → Option Hash → List Key → Request
-asked name hash keys = Ok (Read (asks.Contents (record { at = record { name = name; hash = hash }; keys = keys })))
+asked name hash keys = Ok (Read (asks.Contents (record { at = position name hash; keys = keys })))
 
 contents_as_they_are_asked_for : pages later (asked (Some main) None (t1 ∷ t9 ∷ t0 ∷ t1 ∷ t2 ∷ []) ∷ asked (Some main) (Some (head two)) (t2 ∷ t0 ∷ []) ∷ asked None (Some H0) (t1 ∷ []) ∷ asked (Some main) None [] ∷ asked (Some main) (Some unknown) [] ∷ [])
     ≡ contents 3 (head later) (t1 ∷ t0 ∷ t1 ∷ []) ∷ contents 3 (head two) (t2 ∷ []) ∷ contents 3 H0 [] ∷ contents 3 (head later) [] ∷ not (Some 3) RefNotFound ∷ []

@@ -17,6 +17,7 @@ use Rattle.cat_model.specs.declared.op.Op.{Op}
 use Rattle.cat_model.specs.declared.op.Op.TheVariants.{Put}
 use Rattle.cat_model.specs.declared.reference.Kind.{Kind}
 use Rattle.cat_model.specs.declared.reference.Kind.TheVariants.{Branch}
+use Rattle.cat_model.specs.declared.reference.Position.{Position}
 use Rattle.cat_model.specs.declared.reference.Effective.{Effective}
 use Rattle.cat_model.specs.declared.reference.Effective.TheVariants.{Named, Detached}
 use Rattle.cat_model.specs.declared.refusal.Refusal.{Refusal}
@@ -87,8 +88,11 @@ put_new expected key location = commit main expected (new key (table no_id locat
 abbrev pub put : Key → ContentId → List ℕ → Request
 put key id location = commit main None (again key (table id location) ∷ []) (table id location ∷ [])
 
+abbrev pub position : Option (List ℕ) → Option Hash → Position
+position name hash = record { from = record { name = name; hash = hash }; back = 0 }
+
 abbrev pub read : Option (List ℕ) → Option Hash → Key → Request
-read name hash key = Ok (Read (asks.Content (record { at = record { name = name; hash = hash }; key = key })))
+read name hash key = Ok (Read (asks.Content (record { at = position name hash; key = key })))
 
 -- a source: a name, a hash, and the kind that is stated of it
 abbrev pub Source : Type 0
@@ -110,7 +114,11 @@ abbrev pub delete : List ℕ → Option Kind → Option Hash → Request
 delete name kind expected = Ok (Change (commands.Delete (record { name = name; kind = kind; expected = expected })))
 
 abbrev pub look : Option (List ℕ) → Option Hash → Request
-look name hash = Ok (Read (asks.Reference (record { name = name; hash = hash })))
+look name hash = Ok (Read (asks.Reference (position name hash)))
+
+-- so many commits before
+abbrev pub look_back : Option (List ℕ) → Option Hash → ℕ → Request
+look_back name hash n = Ok (Read (asks.Reference (record { from = record { name = name; hash = hash }; back = n })))
 
 abbrev pub merge_as : Bool → Bool → List ℕ → Option Hash → List ℕ → Hash → Behaviour → Request
 merge_as tried result into hash from from_hash mode = Ok (Change (commands.Merge (record {
