@@ -9,7 +9,7 @@ use Rattle.cat_checks.specs.LeadingLaws.{replayed_limits}
 use Rattle.cat_checks.specs.Legal.{is_legal, next_book, or_at, read_next, replayed, replayed_call}
 use Rattle.cat_codes.specs.declared.fault.FieldFault.{FieldFault}
 use Rattle.cat_core.specs.Stored.{Stored, opened_of}
-use Rattle.cat_desk.specs.Pass.{DeskId, Remembers, mark_of, seen}
+use Rattle.cat_desk.specs.Pass.{DeskId, Remembers, mark_of, number_of, seen, spare_of}
 use Rattle.cat_desk.specs.declared.pass.Pass.{Pass}
 use Rattle.cat_model.specs.declared.limits.Limits.{Limits}
 use Rattle.cat_model.specs.declared.log_entry.LogEntry.{LogEntry}
@@ -22,6 +22,7 @@ use Rattle.cat_state.specs.Kept.{spelling, spellings}
 use Rattle.cat_work.specs.Passes.{IsReady, book_of, state_of}
 use Rattle.cat_serve.specs.declared.serving.Served.{Served}
 use Rattle.cat_serve.specs.declared.serving.Served.TheVariants as serveds
+use Rattle.cat_serve.specs.Sessions.{Readings}
 use Rattle.cat_serve.specs.Workers.{Ends as BothEnds, ServesAll}
 use Rattle.cat_cli.specs.Hosting.{Comes, CountStays, Heard, Hosts, IsAsBefore, IsListening, Service, WorksOn}
 use Rattle.cat_cli.specs.HostingLaws.{all_begin}
@@ -57,8 +58,8 @@ comes_on so so' none none' service a b serveds.NoMemory f g c = (g c.0, c.1)
 -- ---- on a desk
 
 -- a listener that was told to listen is m, and then b
-module _ {In Out : Type 0} (ends : BothEnds In Out) (service : Service) (a m b : Heard (In × Out)) (desk : DeskId) (p q : Pass)
-    (tells : m.tells ≡ a.tells) (waiting : m.waiting ≡ a.waiting) (returned : m.returned ≡ a.returned) (rejoined : m.rejoined ≡ a.rejoined) (out : m.out ≡ a.out) (twins : m.twins ≡ a.twins) (level : m.faults ≡ a.faults)
+module _ {In Out : Type 0} (ends : BothEnds In Out) (service : Service) (a m b : Heard (In × Out)) (desk : DeskId) (p : Pass) (ahead : Option Readings) (q : Pass) (now : Option Readings)
+    (tells : m.tells ≡ a.tells) (waiting : m.waiting ≡ a.waiting) (returned : m.returned ≡ a.returned) (rejoined : m.rejoined ≡ a.rejoined) (out : m.out ≡ a.out) (twins : m.twins ≡ a.twins) (dealt : m.dealt ≡ a.dealt) (level : m.faults ≡ a.faults)
     (heard : IsTrue a.tells → m.listens ≡ Some (service.address, service.connections))
     (stays : b.listens ≡ m.listens) (away : IsTrue m.tells → (b.out ≡ m.out) × (b.twins ≡ m.twins)) where
   still_tells : IsTrue a.tells → IsTrue m.tells
@@ -67,12 +68,12 @@ module _ {In Out : Type 0} (ends : BothEnds In Out) (service : Service) (a m b :
   listening : IsListening service a b
   listening = record { listens = λ t. stays ∙ heard t; out = λ t. (away (still_tells t)).0 ∙ out; twins = λ t. (away (still_tells t)).1 ∙ twins }
 
-  works : ServesAll ends desk service.attempts service.workers m.tells m.waiting b.waiting m.returned b.returned m.rejoined b.rejoined p q → WorksOn ends service a b desk p q
+  works : ServesAll ends desk service.attempts service.workers m.tells m.waiting b.waiting m.returned b.returned m.rejoined b.rejoined m.dealt b.dealt m.faults b.faults p ahead q now → WorksOn ends service a b desk p ahead q now
   works s = record {
     listening = listening;
     serves =
-        subst (λ (z : Bool × List (In × Out) × List (In × Out) × List (List (In × Out))). ServesAll ends desk service.attempts service.workers z.0 z.1 b.waiting z.2 b.returned z.3 b.rejoined p q)
-        (λ i. (tells i, waiting i, returned i, rejoined i)) s;
+        subst (λ (z : Bool × List (In × Out) × List (In × Out) × List (List (In × Out)) × List (List (In × Out)) × ℕ). ServesAll ends desk service.attempts service.workers z.0 z.1 b.waiting z.2 b.returned z.3 b.rejoined z.4 b.dealt z.5 b.faults p ahead q now)
+        (λ i. (tells i, waiting i, returned i, rejoined i, dealt i, level i)) s;
   }
 
   count_from : CountStays m.faults b.faults → CountStays a.faults b.faults
@@ -82,11 +83,11 @@ module _ {In Out : Type 0} (ends : BothEnds In Out) (service : Service) (a m b :
   rose_from rose = subst (λ (n : ℕ). Rose n b.faults) level rose
 
   pub comes : (paused : Type 0) (end : Served)
-      → (end ≢ serveds.NoMemory → ServesAll ends desk service.attempts service.workers m.tells m.waiting b.waiting m.returned b.returned m.rejoined b.rejoined p q)
+      → (end ≢ serveds.NoMemory → ServesAll ends desk service.attempts service.workers m.tells m.waiting b.waiting m.returned b.returned m.rejoined b.rejoined m.dealt b.dealt m.faults b.faults p ahead q now)
       → (end ≡ serveds.End → IsTrue m.tells → b.waiting ≡ [])
       → (end ≡ serveds.NoMemory → Remembers p q × paused × (IsTrue m.tells → (b.waiting ≡ m.waiting) × (b.returned ≡ m.returned)))
       → (end ≡ serveds.ListenerFault → Rose m.faults b.faults) → (end ≢ serveds.ListenerFault → CountStays m.faults b.faults)
-      → Comes (WorksOn ends service a b desk p q) (Remembers p q × paused) service a b end
+      → Comes (WorksOn ends service a b desk p ahead q now) (Remembers p q × paused) service a b end
   comes paused serveds.End serves done none cause same =
       (works (serves served_all), record { none_waits = λ t. done refl (still_tells t); level = count_from (same none_failed) })
   comes paused serveds.ListenerFault serves done none cause same = inl (works (serves served_some), rose_from (cause refl))
@@ -106,13 +107,13 @@ module _ {In Out : Type 0} (ends : BothEnds In Out) (service : Service) (a m b :
 same_standing : (desk : DeskId) (p q : Pass) → Remembers p q → book_of desk q ≡ book_of desk p
 same_standing desk p q r = λ i. record { state = state_of desk (r.seen i); draft = (r.mark i).draft; log = reverse (r.seen i); base = desk.opened.state }
 
-pub hosts : {In Out K : Type 0} (ends : BothEnds In Out) (service : Service) (a b : Heard (In × Out)) (desk : DeskId) (p q : Pass) (old new : Stored K) (paused : Type 0) (end : Served)
-    → desk.opened ≡ opened_of old → (desk.begun ≡ reverse old.book.log) × (seen p ≡ desk.begun) → book_of desk p ≡ old.book → mark_of p ≡ old.mark → IsReady desk q → new.book ≡ book_of desk q → new.mark ≡ mark_of q
-    → Comes (WorksOn ends service a b desk p q) (Remembers p q × paused) service a b end → Comes (Hosts ends service a b old new) (IsAsBefore old new × paused) service a b end
-hosts {In} {Out} {K} ends service a b desk p q old new paused end opened begun book mark ready left_book left_mark c =
-    comes_on (WorksOn ends service a b desk p q) (Hosts ends service a b old new) (Remembers p q × paused) (IsAsBefore old new × paused) service a b end served spared c
+pub hosts : {In Out K : Type 0} (ends : BothEnds In Out) (service : Service) (a b : Heard (In × Out)) (desk : DeskId) (p : Pass) (ahead : Option Readings) (q : Pass) (now : Option Readings) (old new : Stored K) (paused : Type 0) (end : Served)
+    → number_of p ≡ 1 → spare_of p ≡ 4294967294 → desk.opened ≡ opened_of old → (desk.begun ≡ reverse old.book.log) × (seen p ≡ desk.begun) → book_of desk p ≡ old.book → mark_of p ≡ old.mark → IsReady desk q → new.book ≡ book_of desk q → new.mark ≡ mark_of q
+    → Comes (WorksOn ends service a b desk p ahead q now) (Remembers p q × paused) service a b end → Comes (Hosts ends service a b ahead now old new) (IsAsBefore old new × paused) service a b end
+hosts {In} {Out} {K} ends service a b desk p ahead q now old new paused end number spare opened begun book mark ready left_book left_mark c =
+    comes_on (WorksOn ends service a b desk p ahead q now) (Hosts ends service a b ahead now old new) (Remembers p q × paused) (IsAsBefore old new × paused) service a b end served spared c
   where
-    served : WorksOn ends service a b desk p q → Hosts ends service a b old new
+    served : WorksOn ends service a b desk p ahead q now → Hosts ends service a b ahead now old new
     served works = record {
       desk = desk;
       first = p;
@@ -120,6 +121,9 @@ hosts {In} {Out} {K} ends service a b desk p q old new paused end opened begun b
       opened = opened;
       begun = begun.0;
       saw = begun.1;
+      mark_is = mark;
+      number_is = number;
+      splits = omega (arith, spare);
       works = works;
       legal = ready.legal;
       starts = ready.starts;
@@ -158,7 +162,7 @@ if_fault None P so = tt
 if_fault (Some x) P so = so x refl
 
 -- the store of a journal's catalogue came back, and its disk was given back
-module _ {In Out D K : Type 0} (ends : BothEnds In Out) (service : Service) (a b : Heard (In × Out)) (told : D → Option (List ℕ)) (may_leave : D → List ℕ → Type 0) (moment : D → ℕ) (left_since : D → ℕ → List ℕ → Type 0)
+module _ {In Out D K : Type 0} (ends : BothEnds In Out) (service : Service) (a b : Heard (In × Out)) (ahead now : Option Readings) (told : D → Option (List ℕ)) (may_leave : D → List ℕ → Type 0) (moment : D → ℕ) (left_since : D → ℕ → List ℕ → Type 0)
     (down : K → Option ℕ) (in_flight : K → Option (List ℕ)) (since least : ℕ) (early : List ℕ → Type 0) (disk again : D) (old new : Stored K)
     (stored : IsStored (told disk) old.book (down old.keeper)) (began : old.began ≡ 0) (up : old.mark.fault ≡ None)
     (begun : IsBegun since least early (told disk) (moment disk) (may_leave disk))
@@ -166,7 +170,7 @@ module _ {In Out D K : Type 0} (ends : BothEnds In Out) (service : Service) (a b
     (flies : in_flight new.keeper ≡ option_map (λ (x : FailedAppend). x.payload) new.mark.fault)
     (holds : HoldsLog in_flight new.keeper new.book (told again))
     (leaves : KeepsThrough since least early (may_leave again) (left_since again) in_flight new.keeper new.book (told again)) where
-  hosted : (to : ℕ → Type 0) → ((x : FailedAppend) → new.mark.fault ≡ Some x → to x.count) → Hosts ends service a b old new → Hosted ends to service a b (told disk) (told again) (images_of may_leave moment left_since disk again)
+  hosted : (to : ℕ → Type 0) → ((x : FailedAppend) → new.mark.fault ≡ Some x → to x.count) → Hosts ends service a b ahead now old new → Hosted ends to service a b ahead now (told disk) (told again) (images_of may_leave moment left_since disk again)
   hosted to counted h =
       let added = h.starts.0 in
       let grows : seen h.last ≡ reverse old.book.log ++ added = h.starts.1 ∙ ap (λ (l : List LogEntry). l ++ added) h.begun in
@@ -187,8 +191,11 @@ module _ {In Out D K : Type 0} (ends : BothEnds In Out) (service : Service) (a b
         opened = h.opened ∙ (λ i. record { state = first_state sha256 (limits i); draft = 0; faults = began i });
         begun = h.begun;
         saw = h.saw;
+        clean = ap (λ (m : Mark). m.fault) h.mark_is ∙ up;
+        number_is = h.number_is;
+        splits = h.splits;
         works = h.works;
-        sessions = all_begin ends h.desk service.attempts service.workers a.tells a.waiting b.waiting a.returned b.returned a.rejoined b.rejoined h.first h.last h.works.serves;
+        sessions = all_begin ends h.desk service.attempts service.workers a.tells a.waiting b.waiting a.returned b.returned a.rejoined b.rejoined a.dealt b.dealt a.faults b.faults h.first ahead h.last now h.works.serves;
         legal = h.legal;
         added = added;
         grows = grows;
@@ -216,6 +223,6 @@ module _ {In Out D K : Type 0} (ends : BothEnds In Out) (service : Service) (a b
       )
 
   -- by how serving ended
-  pub comes_down : (paused : Type 0) (to : ℕ → Type 0) (end : Served) → ((x : FailedAppend) → new.mark.fault ≡ Some x → to x.count) → Comes (Hosts ends service a b old new) (IsAsBefore old new × paused) service a b end
-      → Comes (Hosted ends to service a b (told disk) (told again) (images_of may_leave moment left_since disk again)) (OpenedOnly paused (told disk) (told again) (images_of may_leave moment left_since disk again)) service a b end
+  pub comes_down : (paused : Type 0) (to : ℕ → Type 0) (end : Served) → ((x : FailedAppend) → new.mark.fault ≡ Some x → to x.count) → Comes (Hosts ends service a b ahead now old new) (IsAsBefore old new × paused) service a b end
+      → Comes (Hosted ends to service a b ahead now (told disk) (told again) (images_of may_leave moment left_since disk again)) (OpenedOnly paused (told disk) (told again) (images_of may_leave moment left_since disk again)) service a b end
   comes_down paused to end counted c = comes_on _ _ _ _ service a b end (hosted to counted) (opened_only paused) c

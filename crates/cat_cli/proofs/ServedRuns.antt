@@ -8,6 +8,7 @@ use Rattle.cat_model.specs.Mark.{FailedAppend}
 use Rattle.cat_state.specs.Kept.{spellings}
 use Rattle.cat_serve.specs.declared.serving.Served.{Served}
 use Rattle.cat_serve.specs.declared.serving.Served.TheVariants as serveds
+use Rattle.cat_serve.specs.Sessions.{Readings}
 use Rattle.cat_serve.specs.Workers.{Ends as BothEnds}
 use Rattle.cat_cli.specs.declared.status.Status.{Status}
 use Rattle.cat_cli.specs.declared.status.Status.TheVariants as statuses
@@ -158,9 +159,9 @@ module _ {D : Type 0} (told : D → Option (List ℕ)) (may_leave : D → List �
   opened_back paused o = (o.0, opens_there told may_leave moment left_since place mid place' disk again is out back o.0 o.1, o.2)
 
   -- or its journal was served from
-  module _ {In Out : Type 0} (ends : BothEnds In Out) (service : Service) (a b : Heard (In × Out)) where
-    hosted_there : (to to' : ℕ → Type 0) → ((c : ℕ) → to c → to' c) → Hosted ends to service a b (told disk) (told again) (images_of may_leave moment left_since disk again)
-        → Hosted ends to' service a b (told_at told place) (told_at told place') (images_at may_leave moment left_since place place')
+  module _ {In Out : Type 0} (ends : BothEnds In Out) (service : Service) (a b : Heard (In × Out)) (ahead now : Option Readings) where
+    hosted_there : (to to' : ℕ → Type 0) → ((c : ℕ) → to c → to' c) → Hosted ends to service a b ahead now (told disk) (told again) (images_of may_leave moment left_since disk again)
+        → Hosted ends to' service a b ahead now (told_at told place) (told_at told place') (images_at may_leave moment left_since place place')
     hosted_there to to' on h = record {
       payloads = h.payloads;
       book = h.book;
@@ -171,6 +172,9 @@ module _ {D : Type 0} (told : D → Option (List ℕ)) (may_leave : D → List �
       opened = h.opened;
       begun = h.begun;
       saw = h.saw;
+      clean = h.clean;
+      number_is = h.number_is;
+      splits = h.splits;
       works = h.works;
       sessions = h.sessions;
       legal = h.legal;
@@ -187,13 +191,13 @@ module _ {D : Type 0} (told : D → Option (List ℕ)) (may_leave : D → List �
 
     -- by the status
     pub serves_there : (fell : Type 0) (to : ℕ → Type 0) (level untouched paused : Type 0) (k : Sunk) (most : ℕ) (end : Served) (failed wrote : Bool) (status : Status)
-        → Comes (Hosted ends (CountedBy most) service a b (told disk) (told again) (images_of may_leave moment left_since disk again)) (OpenedOnly paused (told disk) (told again) (images_of may_leave moment left_since disk again)) service a b end
+        → Comes (Hosted ends (CountedBy most) service a b ahead now (told disk) (told again) (images_of may_leave moment left_since disk again)) (OpenedOnly paused (told disk) (told again) (images_of may_leave moment left_since disk again)) service a b end
         → ((c : ℕ) → CountedBy most c → to c) → (failed ≡ false → most ≡ 0) → (most ≡ 0 → level) → status ≡ status_after end failed wrote → IsToldOf end wrote k
-        → ServesKnown ends fell to level untouched paused service a b k (told_at told place) (told_at told place') (images_at may_leave moment left_since place place') status
+        → ServesKnown ends fell to level untouched paused service a b ahead now k (told_at told place) (told_at told place') (images_at may_leave moment left_since place place') status
     unfolding hosted_there
     serves_there fell to level untouched paused k most end failed wrote status c on stays same by tells =
         inl (ended
-        (Hosted ends (CountedBy most) service a b (told disk) (told again) (images_of may_leave moment left_since disk again)) (OpenedOnly paused (told disk) (told again) (images_of may_leave moment left_since disk again))
-        (Hosted ends to service a b (told_at told place) (told_at told place') (images_at may_leave moment left_since place place')) (HostedWell ends to service a b (told_at told place) (told_at told place') (images_at may_leave moment left_since place place'))
+        (Hosted ends (CountedBy most) service a b ahead now (told disk) (told again) (images_of may_leave moment left_since disk again)) (OpenedOnly paused (told disk) (told again) (images_of may_leave moment left_since disk again))
+        (Hosted ends to service a b ahead now (told_at told place) (told_at told place') (images_at may_leave moment left_since place place')) (HostedWell ends to service a b ahead now (told_at told place) (told_at told place') (images_at may_leave moment left_since place place'))
         (OpenedOnly paused (told_at told place) (told_at told place') (images_at may_leave moment left_since place place')) level service a b k (hosted_there (CountedBy most) to on) (opened_back paused) end failed wrote status by tells
         (λ still. (λ h. (hosted_there (CountedBy most) to on h, none_counted (mark_of h.last).fault most h.cause (stays still)), same (stays still))) c)

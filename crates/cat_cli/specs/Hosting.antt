@@ -4,11 +4,12 @@ use Rattle.cat_io.specs.Causes.{Rose}
 use Rattle.cat_checks.specs.Histories.{IsLegalFrom}
 use Rattle.cat_core.specs.Stored.{Stored, opened_of}
 use Rattle.cat_desk.specs.Log.{BeginsWith}
-use Rattle.cat_desk.specs.Pass.{DeskId, mark_of, seen}
+use Rattle.cat_desk.specs.Pass.{DeskId, mark_of, number_of, seen}
 use Rattle.cat_desk.specs.declared.pass.Pass.{Pass}
 use Rattle.cat_serve.specs.declared.serving.Served.{Served}
 use Rattle.cat_serve.specs.declared.serving.Served.TheVariants as serveds
-use Rattle.cat_serve.specs.Workers.{Ends as BothEnds, ServesAll}
+use Rattle.cat_serve.specs.Sessions.{Readings}
+use Rattle.cat_serve.specs.Workers.{Ends as BothEnds, ServesAll, first_split}
 use Rattle.cat_cli.specs.declared.serving.ServeOptions.{ServeOptions}
 
 -- ---- what is asked for, and what is seen of a listener
@@ -32,11 +33,12 @@ pub record Heard (C : Type 0) : Type 0 where
   pub rejoined : List (List C)
   pub out : ℕ
   pub twins : ℕ
+  pub dealt : List (List C)
   pub faults : ℕ
 
-abbrev pub heard_of : {L C : Type 0} → (L → Bool) → (L → Option (List ℕ × ℕ)) → (L → List C) → (L → List C) → (L → List (List C)) → (L → ℕ) → (L → ℕ) → (L → ℕ) → L → Heard C
-heard_of tells listens waiting returned rejoined out twins faults l =
-    record { tells = tells l; listens = listens l; waiting = waiting l; returned = returned l; rejoined = rejoined l; out = out l; twins = twins l; faults = faults l }
+abbrev pub heard_of : {L C : Type 0} → (L → Bool) → (L → Option (List ℕ × ℕ)) → (L → List C) → (L → List C) → (L → List (List C)) → (L → ℕ) → (L → ℕ) → (L → List (List C)) → (L → ℕ) → L → Heard C
+heard_of tells listens waiting returned rejoined out twins dealt faults l =
+    record { tells = tells l; listens = listens l; waiting = waiting l; returned = returned l; rejoined = rejoined l; out = out l; twins = twins l; dealt = dealt l; faults = faults l }
 
 -- ---- how a listener is left
 
@@ -44,7 +46,7 @@ heard_of tells listens waiting returned rejoined out twins faults l =
 abbrev pub CountStays : ℕ → ℕ → Type 0
 CountStays before now = before < 2 ^ 64 → now ≡ before
 
--- `listen` failed: the connections stay, and the twins
+-- `listen` failed: the connections stay, the twins, and what those to come are dealt
 pub record IsDeaf {C : Type 0} (service : Service) (a b : Heard C) : Type 0 where
   pub rose : Rose a.faults b.faults
   pub listens : IsTrue a.tells → length service.address ≤ 512 → b.listens ≡ Some (service.address, service.connections)
@@ -53,6 +55,7 @@ pub record IsDeaf {C : Type 0} (service : Service) (a b : Heard C) : Type 0 wher
   pub rejoined : b.rejoined ≡ a.rejoined
   pub out : b.out ≡ a.out
   pub twins : b.twins ≡ a.twins
+  pub dealt : b.dealt ≡ a.dealt
 
 -- `listen` was handed the address and the number, and as many connections and twins are out as before
 pub record IsListening {C : Type 0} (service : Service) (a b : Heard C) : Type 0 where
@@ -80,20 +83,23 @@ Comes so none service a b serveds.NoMemory = none × IsIdle service a b
 
 -- ---- on a desk, and on the store that it holds
 
--- workers served a listener's connections on passes of a desk, from one pass to another
-pub record WorksOn {In Out : Type 0} (ends : BothEnds In Out) (service : Service) (a b : Heard (In × Out)) (desk : DeskId) (p q : Pass) : Type 0 where
+-- workers served a listener's connections on passes of a desk, from one pass to another, by a clock that told so and then so, and its twins
+pub record WorksOn {In Out : Type 0} (ends : BothEnds In Out) (service : Service) (a b : Heard (In × Out)) (desk : DeskId) (p : Pass) (ahead : Option Readings) (q : Pass) (now : Option Readings) : Type 0 where
   pub listening : IsListening service a b
-  pub serves : ServesAll ends desk service.attempts service.workers a.tells a.waiting b.waiting a.returned b.returned a.rejoined b.rejoined p q
+  pub serves : ServesAll ends desk service.attempts service.workers a.tells a.waiting b.waiting a.returned b.returned a.rejoined b.rejoined a.dealt b.dealt a.faults b.faults p ahead q now
 
--- they did so on a desk that was made of a store, which has then the log that the last pass has seen
-pub record Hosts {In Out K : Type 0} (ends : BothEnds In Out) (service : Service) (a b : Heard (In × Out)) (old new : Stored K) : Type 0 where
+-- they did so on a desk that was made of a store, which has then the log that the last pass has seen; the first pass has the number 1, and splits off those of the numbers from 2 on
+pub record Hosts {In Out K : Type 0} (ends : BothEnds In Out) (service : Service) (a b : Heard (In × Out)) (ahead now : Option Readings) (old new : Stored K) : Type 0 where
   pub desk : DeskId
   pub first : Pass
   pub last : Pass
   pub opened : desk.opened ≡ opened_of old
   pub begun : desk.begun ≡ reverse old.book.log
   pub saw : seen first ≡ desk.begun
-  pub works : WorksOn ends service a b desk first last
+  pub mark_is : mark_of first ≡ old.mark
+  pub number_is : number_of first ≡ 1
+  pub splits : first_split first ≡ 2
+  pub works : WorksOn ends service a b desk first ahead last now
   pub legal : IsLegalFrom desk.opened (seen last)
   pub starts : BeginsWith desk.begun (seen last)
   pub log_is : new.book.log ≡ reverse (seen last)

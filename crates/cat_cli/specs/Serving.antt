@@ -5,7 +5,7 @@ use Rattle.std.specs.Io.KnownBytes.{Appends}
 use Rattle.sha2.specs.Sha256.{sha256}
 use Rattle.cat_io.specs.Causes.{Rose}
 use Rattle.cat_checks.specs.Histories.{IsLegalFrom}
-use Rattle.cat_desk.specs.Pass.{DeskId, mark_of, seen}
+use Rattle.cat_desk.specs.Pass.{DeskId, mark_of, number_of, seen}
 use Rattle.cat_desk.specs.declared.pass.Pass.{Pass}
 use Rattle.cat_model.specs.declared.log_entry.LogEntry.{LogEntry}
 use Rattle.cat_model.specs.Book.{Book}
@@ -16,7 +16,8 @@ use Rattle.cat_model.specs.Turns.{Opened}
 use Rattle.cat_state.specs.Kept.{spellings}
 use Rattle.cat_serve.specs.declared.serving.Served.{Served}
 use Rattle.cat_serve.specs.declared.serving.Served.TheVariants as serveds
-use Rattle.cat_serve.specs.Workers.{Ends as BothEnds}
+use Rattle.cat_serve.specs.Sessions.{Readings}
+use Rattle.cat_serve.specs.Workers.{Ends as BothEnds, first_split}
 use Rattle.cat_cli.specs.declared.status.Status.{Status}
 use Rattle.cat_cli.specs.declared.status.Status.TheVariants as statuses
 use Rattle.cat_cli.specs.declared.unopened.Unopened.{Unopened}
@@ -37,8 +38,8 @@ opened_by_program = record { state = first_state sha256 program_limits; draft = 
 abbrev pub flying_at : Pass → Option (List ℕ)
 flying_at p = option_map (λ (f : FailedAppend). f.payload) (mark_of p).fault
 
--- A desk was made of the catalogue of the journal, workers served on its passes, and the journal has the entries of all that they changed: the log at the end begins with the one that was opened, each of its entries is legal where it stands, and what each session's pass had seen is a beginning of it. Where an append failed, to is so of the count of faults that is told of it.
-pub record Hosted {In Out : Type 0} (ends : BothEnds In Out) (to : ℕ → Type 0) (service : Service) (a b : Heard (In × Out)) (journal left : Option (List ℕ)) (images : Images) : Type 0 where
+-- A desk was made of the catalogue of the journal, workers served on its passes, whose numbers are 1 and those from 2 on, and the journal has the entries of all that they changed: the log at the end begins with the one that was opened, each of its entries is legal where it stands, and what each session's pass had seen is a beginning of it. No append had failed before, and the mark of each session's pass grew to that of the last one. Where an append failed, to is so of the count of faults that is told of it.
+pub record Hosted {In Out : Type 0} (ends : BothEnds In Out) (to : ℕ → Type 0) (service : Service) (a b : Heard (In × Out)) (ahead now : Option Readings) (journal left : Option (List ℕ)) (images : Images) : Type 0 where
   pub payloads : List (List ℕ)
   pub book : Book
   pub begins : Begins journal payloads book
@@ -48,8 +49,11 @@ pub record Hosted {In Out : Type 0} (ends : BothEnds In Out) (to : ℕ → Type 
   pub opened : desk.opened ≡ opened_by_program
   pub begun : desk.begun ≡ reverse book.log
   pub saw : seen first ≡ desk.begun
-  pub works : WorksOn ends service a b desk first last
-  pub sessions : AllBegin ends desk service.attempts works.serves (seen last)
+  pub clean : (mark_of first).fault ≡ None
+  pub number_is : number_of first ≡ 1
+  pub splits : first_split first ≡ 2
+  pub works : WorksOn ends service a b desk first ahead last now
+  pub sessions : AllBegin ends desk service.attempts works.serves last
   pub legal : IsLegalFrom desk.opened (seen last)
   pub added : List LogEntry
   pub grows : seen last ≡ reverse book.log ++ added
@@ -57,9 +61,9 @@ pub record Hosted {In Out : Type 0} (ends : BothEnds In Out) (to : ℕ → Type 
   pub crash : Survives journal left images payloads (spellings added) (flying_at last)
   pub cause : IfSome (mark_of last).fault (λ f. to f.count)
 
--- and no append failed
-abbrev pub HostedWell : {In Out : Type 0} → BothEnds In Out → (ℕ → Type 0) → Service → Heard (In × Out) → Heard (In × Out) → Option (List ℕ) → Option (List ℕ) → Images → Type 0
-HostedWell ends to service a b journal left images = (h : Hosted ends to service a b journal left images) × ((mark_of h.last).fault ≡ None)
+-- and no append failed, so no call was told of one
+abbrev pub HostedWell : {In Out : Type 0} → BothEnds In Out → (ℕ → Type 0) → Service → Heard (In × Out) → Heard (In × Out) → Option Readings → Option Readings → Option (List ℕ) → Option (List ℕ) → Images → Type 0
+HostedWell ends to service a b ahead now journal left images = (h : Hosted ends to service a b ahead now journal left images) × ((mark_of h.last).fault ≡ None)
 
 -- or the journal was opened, and stands for what it did; paused says that the clock wasn't read
 abbrev pub OpenedOnly : Type 0 → Option (List ℕ) → Option (List ℕ) → Images → Type 0
@@ -122,7 +126,7 @@ pub record RefusesKnown (fell level untouched : Type 0) (k : Sunk) (journal left
   pub still : untouched
 
 -- what a run of `serve` does
-abbrev pub ServesKnown : {In Out : Type 0} → BothEnds In Out → Type 0 → (ℕ → Type 0) → Type 0 → Type 0 → Type 0 → Service → Heard (In × Out) → Heard (In × Out) → Sunk → Option (List ℕ) → Option (List ℕ) → Images → Status → Type 0
-ServesKnown ends fell to level untouched paused service a b k journal left images status =
-    Ended (Hosted ends to service a b journal left images) (HostedWell ends to service a b journal left images) (OpenedOnly paused journal left images) level service a b k status
+abbrev pub ServesKnown : {In Out : Type 0} → BothEnds In Out → Type 0 → (ℕ → Type 0) → Type 0 → Type 0 → Type 0 → Service → Heard (In × Out) → Heard (In × Out) → Option Readings → Option Readings → Sunk → Option (List ℕ) → Option (List ℕ) → Images → Status → Type 0
+ServesKnown ends fell to level untouched paused service a b ahead now k journal left images status =
+    Ended (Hosted ends to service a b ahead now journal left images) (HostedWell ends to service a b ahead now journal left images) (OpenedOnly paused journal left images) level service a b k status
     ⊎ RefusesKnown fell level untouched k journal left images status

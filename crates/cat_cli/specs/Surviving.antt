@@ -56,7 +56,7 @@ abbrev pub EndsAt : List (List ℕ) → Option (List ℕ) → List ℕ → List 
 EndsAt payloads None bytes c = c ≡ bytes
 EndsAt payloads (Some p) bytes c = WithOrWithout payloads p (outcome c)
 
--- A crash leaves of a journal what was acknowledged: at the end all of it, and at each moment of the run a front of what was added, behind all that was there; where an append failed its payload counts as the last, which a crash may leave or not.
+-- What a crash leaves of a journal. At the end all that was there and all that was added; at each moment of the run all that was there and some front of what was added, or what one might have left before the run, or no more than a new journal has. Where an append failed its payload counts as the last, which a crash may leave or not.
 pub record Survives (journal left : Option (List ℕ)) (images : Images) (payloads added : List (List ℕ)) (flying : Option (List ℕ)) : Type 0 where
   pub at_the_end : IfSome left (λ bytes. (c : List ℕ) → images.after c → EndsAt (payloads ++ added) flying bytes c)
   pub at_any_moment : IfSome journal (λ bytes. IfSome left (λ now. (c : List ℕ) → images.since c → IsEarlier images.before journal c ⊎ IsOnTheWay payloads (with_flying added flying) c))

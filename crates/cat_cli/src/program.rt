@@ -128,10 +128,10 @@ pub fn run<R: Threads + Wait + Sync, O: Disks, S: Source, K: Sink, C: Clock + Dr
           workers = workers;
           attempts = attempts;
         })
-        (heard_of L.tells L.listens L.waiting L.returned L.rejoined L.out L.twins L.faults
+        (heard_of L.tells L.listens L.waiting L.returned L.rejoined L.out L.twins L.dealt L.faults
         listener.old)
-        (heard_of L.tells L.listens L.waiting L.returned L.rejoined L.out L.twins L.faults
-        listener.new)
+        (heard_of L.tells L.listens L.waiting L.returned L.rejoined L.out L.twins L.dealt L.faults
+        listener.new) (C.ahead clock.old) (C.ahead clock.new)
         (record {
           held = K.held sink.old;
           after = K.held sink.new;

@@ -64,14 +64,14 @@ fn serve_at<R: Threads + Wait + Sync, K0: Keeper, L: Listener, C: Clock + Drop>(
     ensures comes { Comes
         (WorksOn (ends_of L.In.left L.In.faults L.Out.held L.Out.faults)
         (service_of options.entry)
-        (heard_of L.tells L.listens L.waiting L.returned L.rejoined L.out L.twins L.faults
+        (heard_of L.tells L.listens L.waiting L.returned L.rejoined L.out L.twins L.dealt L.faults
         listener.old)
-        (heard_of L.tells L.listens L.waiting L.returned L.rejoined L.out L.twins L.faults
-        listener.new) desk.now pass.old pass.new)
+        (heard_of L.tells L.listens L.waiting L.returned L.rejoined L.out L.twins L.dealt L.faults
+        listener.new) desk.now pass.old (C.ahead clock.old) pass.new (C.ahead clock.new))
         (Remembers pass.old pass.new × (clock.new ≡ clock.old)) (service_of options.entry)
-        (heard_of L.tells L.listens L.waiting L.returned L.rejoined L.out L.twins L.faults
+        (heard_of L.tells L.listens L.waiting L.returned L.rejoined L.out L.twins L.dealt L.faults
         listener.old)
-        (heard_of L.tells L.listens L.waiting L.returned L.rejoined L.out L.twins L.faults
+        (heard_of L.tells L.listens L.waiting L.returned L.rejoined L.out L.twins L.dealt L.faults
         listener.new) result }
     ensures ready { IsReady desk.now pass.new }
     ensures alone { IsAlone pass.new }
@@ -114,14 +114,15 @@ fn hold_serving<R: Threads + Wait + Sync, K0: Keeper, L: Listener, C: Clock + Dr
     ensures comes { IfOk result
         (λ t. Comes
         (Hosts (ends_of L.In.left L.In.faults L.Out.held L.Out.faults) (service_of options.entry)
-        (heard_of L.tells L.listens L.waiting L.returned L.rejoined L.out L.twins L.faults
+        (heard_of L.tells L.listens L.waiting L.returned L.rejoined L.out L.twins L.dealt L.faults
         listener.old)
-        (heard_of L.tells L.listens L.waiting L.returned L.rejoined L.out L.twins L.faults
-        listener.new) store t.0) (IsAsBefore store t.0 × (clock.new ≡ clock.old))
+        (heard_of L.tells L.listens L.waiting L.returned L.rejoined L.out L.twins L.dealt L.faults
+        listener.new) (C.ahead clock.old) (C.ahead clock.new) store t.0)
+        (IsAsBefore store t.0 × (clock.new ≡ clock.old))
         (service_of options.entry)
-        (heard_of L.tells L.listens L.waiting L.returned L.rejoined L.out L.twins L.faults
+        (heard_of L.tells L.listens L.waiting L.returned L.rejoined L.out L.twins L.dealt L.faults
         listener.old)
-        (heard_of L.tells L.listens L.waiting L.returned L.rejoined L.out L.twins L.faults
+        (heard_of L.tells L.listens L.waiting L.returned L.rejoined L.out L.twins L.dealt L.faults
         listener.new) t.1) }
     ensures fallen { IfOk result
         (λ t. K0.down t.0.keeper ≡ option_map (λ (x : FailedAppend). x.count) t.0.mark.fault) }
@@ -175,16 +176,16 @@ fn serve_on<
         (λ end. Comes
         (Hosted (ends_of L.In.left L.In.faults L.Out.held L.Out.faults)
         (CountedBy (D.faults result.0)) (service_of options.entry)
-        (heard_of L.tells L.listens L.waiting L.returned L.rejoined L.out L.twins L.faults
+        (heard_of L.tells L.listens L.waiting L.returned L.rejoined L.out L.twins L.dealt L.faults
         listener.old)
-        (heard_of L.tells L.listens L.waiting L.returned L.rejoined L.out L.twins L.faults
-        listener.new) (D.told disk) (D.told result.0)
+        (heard_of L.tells L.listens L.waiting L.returned L.rejoined L.out L.twins L.dealt L.faults
+        listener.new) (C.ahead clock.old) (C.ahead clock.new) (D.told disk) (D.told result.0)
         (images_of D.may_leave D.moment D.left_since disk result.0))
         (OpenedOnly (clock.new ≡ clock.old) (D.told disk) (D.told result.0)
         (images_of D.may_leave D.moment D.left_since disk result.0)) (service_of options.entry)
-        (heard_of L.tells L.listens L.waiting L.returned L.rejoined L.out L.twins L.faults
+        (heard_of L.tells L.listens L.waiting L.returned L.rejoined L.out L.twins L.dealt L.faults
         listener.old)
-        (heard_of L.tells L.listens L.waiting L.returned L.rejoined L.out L.twins L.faults
+        (heard_of L.tells L.listens L.waiting L.returned L.rejoined L.out L.twins L.dealt L.faults
         listener.new) end) }
     ensures listener_cause { IfOk result.1
         (λ end. end ≡ Served.ListenerFault → Rose (L.faults listener.old) (L.faults listener.new)) }
@@ -254,10 +255,10 @@ pub(crate) fn serve<R: Threads + Wait + Sync, O: Disks, K: Sink, C: Clock + Drop
         (O.faults disks.new ≡ O.faults disks.old)
         ((listener.new ≡ listener.old) × (clock.new ≡ clock.old)) (clock.new ≡ clock.old)
         (service_of options.entry)
-        (heard_of L.tells L.listens L.waiting L.returned L.rejoined L.out L.twins L.faults
+        (heard_of L.tells L.listens L.waiting L.returned L.rejoined L.out L.twins L.dealt L.faults
         listener.old)
-        (heard_of L.tells L.listens L.waiting L.returned L.rejoined L.out L.twins L.faults
-        listener.new)
+        (heard_of L.tells L.listens L.waiting L.returned L.rejoined L.out L.twins L.dealt L.faults
+        listener.new) (C.ahead clock.old) (C.ahead clock.new)
         (record {
           held = K.held sink.old;
           after = K.held sink.new;

@@ -1,5 +1,5 @@
 -- What a listener gives and takes back, and what its calls leave as it was.
-use Rattle.std.specs.Prelude.{◌≡◌, ◌<◌, ◌≤◌, ℕ, Bool, IsTrue, List, [], ◌∷◌, ◌++◌, length, Option, Some, None, Result, Ok, Err, OnOk}
+use Rattle.std.specs.Prelude.{◌≡◌, ◌<◌, ◌≤◌, ℕ, Bool, IsTrue, List, [], ◌∷◌, ◌++◌, length, drop, Option, Some, None, Result, Ok, Err, OnOk}
 
 -- an accept gives the first of the connections to come, and none exactly where none is left; one that fails takes none
 abbrev pub Gives : {C E : Type 0} → List C → List C → Result (Option C) E → Type 0
@@ -17,6 +17,16 @@ count_given (Err e) = 0
 abbrev pub count_made : {A E : Type 0} → Result A E → ℕ
 count_made (Ok twin) = 1
 count_made (Err e) = 0
+
+-- the first of what twins are dealt, and nothing where none is left
+abbrev pub first_of : {C : Type 0} → List (List C) → List C
+first_of [] = []
+first_of (group ∷ groups) = group
+
+-- a new twin is given the first of what twins are dealt, and the rest is left for those to come
+pub record Deals {L C : Type 0} (coming : L → List C) (old new : List (List C)) (twin : L) : Type 0 where
+  pub given : coming twin ≡ first_of old
+  pub rest : new ≡ drop 1 old
 
 -- a listener that tells, tells what `listen` was handed; where that failed, an address of up to 512 bytes
 pub record Hears {T E : Type 0} (tells : Bool) (result : Result T E) (address : List ℕ) (connections : ℕ) (told : Option (List ℕ × ℕ)) : Type 0 where
@@ -38,10 +48,11 @@ pub record OwnStay {L C : Type 0} (coming back : L → List C) (away : L → ℕ
   pub returned : back new ≡ back old
   pub out : away new ≡ away old
 
--- those of its twins that came back stay, and how many twins are out
-pub record TwinsStay {L C : Type 0} (back : L → List (List C)) (away : L → ℕ) (old new : L) : Type 0 where
+-- those of its twins that came back stay, how many twins are out, and what those to come are dealt
+pub record TwinsStay {L C : Type 0} (back : L → List (List C)) (away : L → ℕ) (next : L → List (List C)) (old new : L) : Type 0 where
   pub rejoined : back new ≡ back old
   pub twins : away new ≡ away old
+  pub dealt : next new ≡ next old
 
 -- a listener that heard of no address, and gave and took back nothing
 pub record IsFresh {L C : Type 0} (heard : L → Option (List ℕ × ℕ)) (back : L → List C) (away : L → ℕ) (l : L) : Type 0 where

@@ -29,6 +29,10 @@ twins_of l = l.twins
 abbrev pub lists_in : MemoryListener → List ConnectionList
 lists_in l = l.lists.items
 
+-- the connections that each of them is given
+abbrev pub dealt_by : MemoryListener → List (List (MemorySource × MemorySink))
+dealt_by l = map (λ (list : ConnectionList). list.connections.items) l.lists.items
+
 abbrev pub faults_in : MemoryListener → ℕ
 faults_in l = l.faults
 

@@ -117,8 +117,8 @@ impl MemoryListener {
 impl Listener for MemoryListener {
     ghost use Rattle.std.specs.Prelude.{◌-◌, IfOk, IsErr, OnOk, drop, is_err, true};
     ghost use Rattle.cat_io.specs.Causes.{HasCause, raised_by, raised_if};
-    ghost use Rattle.cat_io.specs.Listening.{Gives, Hears, IsFresh, OwnStay, Stands, TakesBack, TwinsStay, count_given, count_made};
-    ghost use Rattle.cat_io.specs.MemoryListeners.{IsMadeOf, faults_in, heard_by, kept_of, listen_fails, lists_in, out_of, plan_of, rejoined_to, returned_to, twins_of, waiting_in};
+    ghost use Rattle.cat_io.specs.Listening.{Deals, Gives, Hears, IsFresh, OwnStay, Stands, TakesBack, TwinsStay, count_given, count_made};
+    ghost use Rattle.cat_io.specs.MemoryListeners.{IsMadeOf, dealt_by, faults_in, heard_by, kept_of, listen_fails, lists_in, out_of, plan_of, rejoined_to, returned_to, twins_of, waiting_in};
     ghost use Rattle.cat_io.specs.Plans.{counted, fails_next};
 
     type In = MemorySource;
@@ -141,12 +141,14 @@ impl Listener for MemoryListener {
 
     ghost twins = { twins_of };
 
+    ghost dealt = { dealt_by };
+
     /// Fails too where the address has more than 512 bytes.
     fn listen(&mut self, address: &str, connections: u64) -> Result<(), Failed>
         ensures cause { HasCause (faults_in self.old) (faults_in self.new) result }
         ensures hears { Hears true result address.now connections (heard_by self.new) }
         ensures own { OwnStay waiting_in returned_to out_of self.old self.new }
-        ensures others { TwinsStay rejoined_to twins_of self.old self.new }
+        ensures others { TwinsStay rejoined_to twins_of dealt_by self.old self.new }
         ensures fails { is_err result ≡ listen_fails self.old address.now }
         ensures kept { heard_by self.new ≡ kept_of address.now connections }
         ensures counts { faults_in self.new ≡ raised_if (is_err result) (faults_in self.old) }
@@ -173,6 +175,7 @@ impl Listener for MemoryListener {
         ensures plan { plan_of self.new ≡ counted (plan_of self.old) }
         ensures made { IfOk result (IsMadeOf (lists_in self.old)) }
         ensures lists { OnOk result (lists_in self.new ≡ drop 1 (lists_in self.old)) }
+        ensures deals { IfOk result (Deals waiting_in (dealt_by self.old) (dealt_by self.new)) }
     {
         if self.calls.next_fails() {
             return Err(AllocError);
@@ -197,7 +200,7 @@ impl Listener for MemoryListener {
         ensures gives { Gives (waiting_in self.old) (waiting_in self.new) result }
         ensures returned { returned_to self.new ≡ returned_to self.old }
         ensures out { out_of self.new ≡ out_of self.old + count_given result }
-        ensures others { TwinsStay rejoined_to twins_of self.old self.new }
+        ensures others { TwinsStay rejoined_to twins_of dealt_by self.old self.new }
         ensures fails { is_err result ≡ fails_next (plan_of self.old) }
         ensures counts { faults_in self.new ≡ raised_if (is_err result) (faults_in self.old) }
         ensures plan { plan_of self.new ≡ counted (plan_of self.old) }
@@ -223,7 +226,7 @@ impl Listener for MemoryListener {
         ensures returned { TakesBack true (out_of self.old) (returned_to self.old)
             (returned_to self.new) (input, output) }
         ensures out { out_of self.new ≡ out_of self.old - 1 }
-        ensures others { TwinsStay rejoined_to twins_of self.old self.new }
+        ensures others { TwinsStay rejoined_to twins_of dealt_by self.old self.new }
         ensures plan { plan_of self.new ≡ plan_of self.old }
         ensures lists { lists_in self.new ≡ lists_in self.old }
     {
@@ -242,6 +245,7 @@ impl Listener for MemoryListener {
         ensures rejoined { TakesBack true (twins_of self.old) (rejoined_to self.old)
             (rejoined_to self.new) (returned_to twin) }
         ensures twins { twins_of self.new ≡ twins_of self.old - 1 }
+        ensures dealt { dealt_by self.new ≡ dealt_by self.old }
         ensures plan { plan_of self.new ≡ plan_of self.old }
         ensures lists { lists_in self.new ≡ lists_in self.old }
     {

@@ -215,6 +215,8 @@ impl<R: Net<Listener = TcpListener, Stream = TcpStream> + Clock + Copy + Send> L
 
     ghost twins = { λ _. 0 };
 
+    ghost dealt = { λ _. [] };
+
     fn listen(&mut self, address: &str, connections: u64) -> Result<(), Failed> {
         match bound(&self.runtime, self.alloc, address, connections) {
             Ok(shared) => {

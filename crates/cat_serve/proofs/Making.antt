@@ -1,5 +1,5 @@
 -- The entries that a request makes.
-use Rattle.std.proofs.Common.{◌≡◌, ℕ, ◌==◌, List, [], ◌∷◌, ◌++◌, cond, Bool, Result, Ok, Err, refl, sym, ◌∙◌, ap, ap₂, inl, inr}
+use Rattle.std.proofs.Common.{◌≡◌, ℕ, ◌==◌, List, [], ◌∷◌, ◌++◌, cond, Bool, Result, Ok, Err, refl, sym, ◌∙◌, ap, ap₂, subst, inl, inr}
 use Rattle.std.proofs.lemmas.Bool.{eq-eqb, ne_eqb}
 use Rattle.std.proofs.lemmas.List.{append-nil}
 use Rattle.std.proofs.lemmas.List.Elements.{filter-append}
@@ -13,7 +13,9 @@ use Rattle.cat_model.specs.declared.refusal.Refusal.{Refusal}
 use Rattle.cat_model.specs.declared.refusal.Refused.{Refused}
 use Rattle.cat_model.specs.declared.reply.Told.{Told}
 use Rattle.cat_model.specs.declared.sweep.Sweep.{Sweep}
+use Rattle.cat_model.specs.Mark.{Grows}
 use Rattle.cat_model.specs.Sweeps.{sweep_entry}
+use Rattle.cat_model.specs.TurnLaws.{grows_self}
 use Rattle.cat_policy.specs.declared.policy.Policy.{Policy}
 use Rattle.cat_policy.specs.Policies.{resolved}
 use Rattle.cat_collect.specs.Answers.{Answers as CollectionAnswers}
@@ -117,3 +119,11 @@ made_in desk attempts (Ok (Collect policy)) taken p q told (inl collection) = ma
 made_in desk attempts (Ok (Read ask)) taken p q told (inl reading) = ([], reading.follows)
 made_in desk attempts (Err why) taken p q told (inl call) = absurd call
 made_in desk attempts wants taken p q told (inr refusal) = ([], ([], ap seen refusal.stays ∙ sym (append-nil (seen p)), tt))
+
+-- the mark grows, whatever it comes to
+pub mark_grows : (desk : DeskId) (attempts : ℕ) (wants : Result Wanted Refusal) (taken : List ℕ) (p q : Pass) (told : Result Told Refused) → Comes desk attempts wants taken p q told → Grows (mark_of p) (mark_of q)
+mark_grows desk attempts (Ok (Change command)) taken p q told (inl change) = change.grows
+mark_grows desk attempts (Ok (Collect policy)) taken p q told (inl collection) = collection.grows
+mark_grows desk attempts (Ok (Read ask)) taken p q told (inl reading) = reading.grows
+mark_grows desk attempts (Err why) taken p q told (inl call) = absurd call
+mark_grows desk attempts wants taken p q told (inr refusal) = subst (λ (x : Pass). Grows (mark_of p) (mark_of x)) (sym refusal.stays) (grows_self (mark_of p))

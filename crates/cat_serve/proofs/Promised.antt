@@ -12,22 +12,22 @@ use Rattle.cat_rest.specs.Wanted.{wanted}
 use Rattle.cat_serve.specs.declared.ending.Session.{Session as End}
 use Rattle.cat_serve.specs.Entries.{entries_of}
 use Rattle.cat_serve.specs.Passes.{EndsBy, GoesBy, Place, Visit, Visits, Went, place}
-use Rattle.cat_serve.specs.Serving.{AreAnswered, Rises, Serves, made_by, replies_of}
+use Rattle.cat_serve.specs.Serving.{AreAnswered, GrowsTo, Rises, Serves, made_by, replies_of}
+use Rattle.cat_serve.specs.ServingLaws.{grows_to_itself, grows_to_on}
 use Rattle.cat_serve.specs.Sessions.{Readings}
-use Rattle.cat_serve.proofs.Making.{makes_begins, makes_own}
+use Rattle.cat_serve.proofs.Making.{makes_begins, makes_own, mark_grows}
 use Rattle.cat_serve.proofs.Told.{appends_nothing, appends_on}
 
 -- ---- one visit, and then others
 
-rises_begins : (p : Pass) (visits : List Visit) (q : Pass) → Rises p visits q → BeginsWith (seen p) (seen q)
-rises_begins p [] q same = ([], ap seen same ∙ sym (append-nil (seen p)))
-rises_begins p (v ∷ visits) q (is, first, later, rest) =
-    subst (λ (x : Pass). BeginsWith (seen x) (seen q)) is (begins_on (seen v.before) (seen v.after) (seen q) first later)
+rises_to : (p : Pass) (visits : List Visit) (q : Pass) → Rises p visits q → GrowsTo p q
+rises_to p [] q same = subst (λ (x : Pass). GrowsTo p x) (sym same) (grows_to_itself p)
+rises_to p (v ∷ visits) q (is, first, later, rest) = subst (λ (x : Pass). GrowsTo x q) is (grows_to_on v.before v.after q first later)
 
-visit_rises : (v : Visit) (visits : List Visit) (p b q : Pass) → v.before ≡ p → v.after ≡ b → BeginsWith (seen v.before) (seen v.after) → Rises b visits q → Rises p (v ∷ visits) q
-visit_rises v visits p b q before after begins rest =
+visit_rises : (v : Visit) (visits : List Visit) (p b q : Pass) → v.before ≡ p → v.after ≡ b → GrowsTo v.before v.after → Rises b visits q → Rises p (v ∷ visits) q
+visit_rises v visits p b q before after grows rest =
     let on = subst (λ (x : Pass). Rises x visits q) (sym after) rest in
-    (before, begins, rises_begins v.after visits q on, on)
+    (before, grows, rises_to v.after visits q on, on)
 
 own_between : (n : ℕ) (p q x y : Pass) (made : List LogEntry) → x ≡ p → y ≡ q → number_of p ≡ n → entries_of (number_of x) (seen y) ≡ entries_of (number_of x) (seen x) ++ made
     → entries_of n (seen q) ≡ entries_of n (seen p) ++ made
@@ -41,8 +41,11 @@ own_on : (n : ℕ) (p b q : Pass) (made more : List LogEntry) → entries_of n (
 own_on n p b q made more own rest = rest ∙ ap (λ (l : List LogEntry). l ++ more) own ∙ append_assoc (entries_of n (seen p)) made more
 
 module _ (desk : DeskId) (attempts : ℕ) where
-  began : (v : Visit) (a b : Place) → Visits desk attempts a v b → BeginsWith (seen v.before) (seen v.after)
-  began v a b visit = makes_begins desk (wanted v.message) v.taken v.before v.after v.told v.made visit.is.makes
+  grew : (v : Visit) (a b : Place) → Visits desk attempts a v b → GrowsTo v.before v.after
+  grew v a b visit = (
+    makes_begins desk (wanted v.message) v.taken v.before v.after v.told v.made visit.is.makes,
+    mark_grows desk attempts (wanted v.message) v.taken v.before v.after v.told visit.is.comes,
+  )
 
   owns : (n : ℕ) (v : Visit) (a b : Place) → Visits desk attempts a v b → number_of a.pass ≡ n → entries_of n (seen b.pass) ≡ entries_of n (seen a.pass) ++ v.made
   owns n v a b visit number =
@@ -65,10 +68,10 @@ module _ (desk : DeskId) (attempts : ℕ) where
     rises_all : (visits last : List Visit) (a c : Place) → GoesBy desk attempts visits a c → EndsBy desk attempts c end unread last tail z → Rises a.pass (visits ++ last) z.pass
     rises_all [] [] a c same ends = ends.0 ∙ ap (λ (x : Place). x.pass) (sym same)
     rises_all [] (v ∷ []) a c same (visit, told) =
-        visit_rises v [] a.pass z.pass z.pass (visit.is.before ∙ ap (λ (x : Place). x.pass) (sym same)) visit.is.after (began v c z visit) refl
+        visit_rises v [] a.pass z.pass z.pass (visit.is.before ∙ ap (λ (x : Place). x.pass) (sym same)) visit.is.after (grew v c z visit) refl
     rises_all [] (v ∷ w ∷ more) a c same ends = absurd ends
     rises_all (v ∷ visits) last a c (b, visit, stays, told, rest) ends =
-        visit_rises v (visits ++ last) a.pass b.pass z.pass visit.is.before visit.is.after (began v a b visit) (rises_all visits last b c rest ends)
+        visit_rises v (visits ++ last) a.pass b.pass z.pass visit.is.before visit.is.after (grew v a b visit) (rises_all visits last b c rest ends)
 
     own_all : (n : ℕ) (visits last : List Visit) (a c : Place) → GoesBy desk attempts visits a c → EndsBy desk attempts c end unread last tail z → number_of a.pass ≡ n
         → entries_of n (seen z.pass) ≡ entries_of n (seen a.pass) ++ made_by (visits ++ last)
@@ -88,14 +91,15 @@ module _ (desk : DeskId) (attempts : ℕ) where
       let e = went.ended in
       let z = place e.left pass now e.rest held in
       let rises = rises_all end unread e.tail z went.visits e.last a went.c went.goes e.ends in
-      let begins = rises_begins a.pass (went.visits ++ e.last) pass rises in
+      let grows = rises_to a.pass (went.visits ++ e.last) pass rises in
       record {
         went = went;
         replies = appends_on a.held went.c.held held (replies_of went.visits) e.tail (written_all went.visits a went.c went.goes) e.written;
         answers = answered_all end unread e.tail z went.visits e.last a went.c went.goes e.ends;
         legal = legal;
         rises = rises;
-        starts = begins_on desk.begun (seen a.pass) (seen pass) starts begins;
+        starts = begins_on desk.begun (seen a.pass) (seen pass) starts grows.0;
         once = own_all end unread e.tail z (number_of a.pass) went.visits e.last a went.c went.goes e.ends refl;
-        begins = begins;
+        begins = grows.0;
+        marks = grows.1;
       }

@@ -1,21 +1,22 @@
 -- Workers that serve one connection after another, and are taken back one after another.
-use Rattle.std.proofs.Common.{inl, inr, ◌≡◌, ℕ, ◌+◌, ◌-◌, ◌^◌, ◌≤◌, min, Bool, true, false, ◌||◌, IsTrue, List, [], ◌∷◌, ◌++◌, length, take, drop, Option, Some, None, IfSome, Ok, refl, sym, ap, ◌∙◌, subst, arith}
+use Rattle.std.proofs.Common.{inl, inr, ◌≡◌, ℕ, zero, suc, ◌+◌, ◌-◌, ◌^◌, ◌<◌, ◌≤◌, min, Bool, true, false, ◌||◌, IsTrue, List, [], ◌∷◌, ◌++◌, length, take, drop, Option, Some, None, IfSome, Ok, refl, sym, ap, ◌∙◌, subst, arith}
 use Rattle.std.specs.List.{All}
 use Rattle.std.specs.Option.{option_to_list}
 use Rattle.std.proofs.lemmas.List.Elements.{All-pop}
 use Rattle.std.proofs.Math.Seq.{take-append_seam}
-use Rattle.std.proofs.lemmas.List.{append_assoc, append-nil, length_push}
-use Rattle.cat_io.specs.Causes.{raised_by}
-use Rattle.cat_io.specs.Listening.{Gives, count_given}
-use Rattle.cat_desk.specs.Pass.{DeskId, Keeps, Remembers, seen}
+use Rattle.std.proofs.lemmas.List.{append_assoc, append-nil, drop-drop, get_or_append_left, get_or_push, length_push}
+use Rattle.std.specs.Prelude.{◌⊎◌, slice_index_or}
+use Rattle.cat_io.specs.Causes.{Rose, raised_by}
+use Rattle.cat_io.specs.Listening.{Deals, Gives, count_given, first_of}
+use Rattle.cat_desk.specs.Pass.{DeskId, Keeps, Remembers, number_of}
 use Rattle.cat_desk.specs.declared.pass.Pass.{Pass}
 use Rattle.cat_work.specs.Passes.{IsReady}
 use Rattle.cat_serve.specs.declared.worker.Worker.{Worker}
-use Rattle.cat_desk.specs.Log.{BeginsWith}
-use Rattle.cat_serve.specs.Hiring.{AreBack, Counts, IsDone, IsHired, ServesOwn}
+use Rattle.cat_serve.specs.Hiring.{AreBack, AreDealt, AreDone, AreNumbered, Counts, IsDone, IsHired, ServesOwn}
+use Rattle.cat_serve.specs.Serving.{GrowsTo}
+use Rattle.cat_serve.specs.ServingLaws.{grows_to_itself, grows_to_on}
 use Rattle.cat_serve.specs.Sessions.{Readings}
-use Rattle.cat_serve.specs.Workers.{AllWorked, Ends, IsServed, ServesAll, ServesEach, Worked}
-use Rattle.cat_desk.specs.LogLaws.{begins_on}
+use Rattle.cat_serve.specs.Workers.{AllWorked, Ends, IsServed, ServesAll, ServesEach, WorkedByTwin, first_split}
 
 -- ---- what an accept gave
 
@@ -38,9 +39,91 @@ popped P xs ys r x items is all =
     let q = All-pop P xs ys r items all in
     (q.0, subst (λ (o : Option _). IfSome o P) is q.1)
 
+pub all_none : {X : Type 0} (P : X → Type 0) (xs : List X) → xs ≡ [] → All P xs
+all_none {X} P xs none = subst (λ (l : List X). All P l) (sym none) (λ k d lt. absurd (none_below k lt))
+  where
+    none_below : (k : ℕ) → k < 0 → ⊥
+    none_below k lt = omega (arith, lt)
+
+-- the number of a pass that is split off behind so many others
+pub spare_within : (count left spare number : ℕ) → (0 < count → spare ≤ 4294967296) → left + count ≡ spare → number + left ≡ 4294967296 → spare ≤ 4294967296
+spare_within zero left spare number bound is numbered = omega (arith, is, numbered)
+spare_within (suc count) left spare number bound is numbered = bound (omega arith)
+
+pub numbered_next : (count long left spare number : ℕ) → spare ≤ 4294967296 → left + count ≡ spare → number + left ≡ 4294967296 → long ≡ count → number ≡ 4294967296 - spare + long
+numbered_next count long left spare number bound is numbered same = omega (arith, bound, is, numbered, same)
+
+-- of what holds of each by its place
+pub popped_at : {X : Type 0} (P : ℕ → X → Type 0) (xs ys : List X) (r : Option X) (x : X) → xs ≡ ys ++ option_to_list r → r ≡ Some x → ((k : ℕ) (d : X) → k < length xs → P k (slice_index_or xs k d))
+    → ((k : ℕ) (d : X) → k < length ys → P k (slice_index_or ys k d)) × P (length ys) x
+popped_at {X} P xs ys r x items is all =
+    let whole : (k : ℕ) (d : X) → k < length (ys ++ x ∷ []) → P k (slice_index_or (ys ++ x ∷ []) k d) =
+    subst (λ (l : List X). (k : ℕ) (d : X) → k < length l → P k (slice_index_or l k d)) (items ∙ ap (λ (o : Option X). ys ++ option_to_list o) is) all in
+    let long : length (ys ++ x ∷ []) ≡ length ys + 1 = length_push ys x in (
+      λ k d lt. subst (λ (y : X). P k y) (get_or_append_left ys (x ∷ []) d k lt) (whole k d (omega (arith, lt, long))),
+      subst (λ (y : X). P (length ys) y) (get_or_push ys x x (length ys) refl) (whole (length ys) x (omega (arith, long))),
+    )
+
+-- where one comes behind what was dealt to the others
+module _ {L C K : Type 0} (waiting : L → List K) (told : Bool) where
+  pub dealt_none : (dealt : List (List K)) (ws : List (Worker L C)) → ws ≡ [] → AreDealt waiting told dealt ws
+  dealt_none dealt ws none = subst (λ (l : List (Worker L C)). AreDealt waiting told dealt l) (sym none) (λ k d lt. absurd (none_below k lt))
+    where
+      none_below : (k : ℕ) → k < 0 → ⊥
+      none_below k lt = omega (arith, lt)
+
+  pub dealt_push : (dealt : List (List K)) (ws : List (Worker L C)) (w : Worker L C) → AreDealt waiting told dealt ws → (IsTrue told → waiting w.listener ≡ first_of (drop (length ws) dealt))
+      → AreDealt waiting told dealt (ws ++ w ∷ [])
+  dealt_push dealt ws w all is k d lt = by_place (is_last k (length ws) (omega (arith, lt, length_push ws w)))
+    where
+      is_last : (k n : ℕ) → k < n + 1 → (k < n) ⊎ (k ≡ n)
+      is_last zero zero lt = inr refl
+      is_last zero (suc n) lt = inl (omega arith)
+      is_last (suc k) zero lt = absurd (omega (arith, lt))
+      is_last (suc k) (suc n) lt = one_on k n (is_last k n (omega (arith, lt)))
+        where
+          one_on : (k n : ℕ) → (k < n) ⊎ (k ≡ n) → (suc k < suc n) ⊎ (suc k ≡ suc n)
+          one_on k n (inl less) = inl (omega (arith, less))
+          one_on k n (inr same) = inr (omega (arith, same))
+
+      by_place : (k < length ws) ⊎ (k ≡ length ws) → IsTrue told → waiting (slice_index_or (ws ++ w ∷ []) k d).listener ≡ first_of (drop k dealt)
+      by_place (inl below) t = ap (λ (v : Worker L C). waiting v.listener) (get_or_append_left ws (w ∷ []) d k below) ∙ all k d below t
+      by_place (inr last) t = ap (λ (v : Worker L C). waiting v.listener) (get_or_push ws w d k (sym last)) ∙ is t ∙ ap (λ (n : ℕ). first_of (drop n dealt)) (sym last)
+
+-- the next of what twins are dealt, and the rest
+pub next_dealt : {L K : Type 0} (waiting : L → List K) (dealt now rest : List (List K)) (n : ℕ) (twin : L) → now ≡ drop n dealt → Deals waiting now rest twin → (waiting twin ≡ first_of (drop n dealt)) × (rest ≡ drop (n + 1) dealt)
+next_dealt {L} {K} waiting dealt now rest n twin is deals = (deals.given ∙ ap (λ (l : List (List K)). first_of l) is, deals.rest ∙ ap (λ (l : List (List K)). drop 1 l) is ∙ drop-drop 1 n dealt)
+
+-- numbers of passes, where a worker is the last, and where one comes behind the others
+module _ {L C : Type 0} where
+  pub numbered_none : (number : ℕ) (ws : List (Worker L C)) → ws ≡ [] → AreNumbered number ws
+  numbered_none number ws none = subst (λ (l : List (Worker L C)). AreNumbered number l) (sym none) (λ k d lt. absurd (none_below k lt))
+    where
+      none_below : (k : ℕ) → k < 0 → ⊥
+      none_below k lt = omega (arith, lt)
+
+  pub numbered_push : (number : ℕ) (ws : List (Worker L C)) (w : Worker L C) → AreNumbered number ws → number_of w.pass ≡ number + length ws → AreNumbered number (ws ++ w ∷ [])
+  numbered_push number [] w all is zero d lt = is
+  numbered_push number [] w all is (suc k) d lt = absurd (omega (arith, lt))
+  numbered_push number (v ∷ ws) w all is zero d lt = all 0 d (omega arith)
+  numbered_push number (v ∷ ws) w all is (suc k) d lt =
+      numbered_push (number + 1) ws w (λ j e below. all (suc j) e (omega (arith, below)) ∙ omega arith) (is ∙ omega arith) k d (omega (arith, lt)) ∙ omega arith
+
+  pub numbered_pop : (number : ℕ) (ws vs : List (Worker L C)) (r : Option (Worker L C)) (w : Worker L C) → ws ≡ vs ++ option_to_list r → r ≡ Some w → AreNumbered number ws
+      → AreNumbered number vs × (number_of w.pass ≡ number + length vs)
+  numbered_pop number ws vs r w items is all =
+      let whole : AreNumbered number (vs ++ w ∷ []) = subst (λ (l : List (Worker L C)). AreNumbered number l) (items ∙ ap (λ (o : Option (Worker L C)). vs ++ option_to_list o) is) all in
+      let long : length (vs ++ w ∷ []) ≡ length vs + 1 = length_push vs w in (
+        λ k d lt. ap (λ (v : Worker L C). number_of v.pass) (sym (get_or_append_left vs (w ∷ []) d k lt)) ∙ whole k d (omega (arith, lt, long)),
+        ap (λ (v : Worker L C). number_of v.pass) (sym (get_or_push vs w w (length vs) refl)) ∙ whole (length vs) w (omega (arith, long)),
+      )
+
 -- what a slice of all elements left of them
 pub written_back : {X : Type 0} (n : ℕ) (xs old : List X) → length xs ≡ n → take n (xs ++ drop (length xs) old) ≡ xs
 written_back n xs old long = ap (λ (k : ℕ). take k (xs ++ drop (length xs) old)) (sym long) ∙ take-append_seam xs (drop (length xs) old)
+
+not_false : true ≡ false → ⊥
+not_false e = cc
 
 -- ---- counts of faults
 
@@ -55,6 +138,12 @@ counts_on false false x y z (inl e) (inl f) = inl (f ∙ e)
 counts_on false false x y z (inl e) (inr f) = inr (omega arith)
 counts_on false false x y z (inr e) (inl f) = inr (omega arith)
 counts_on false false x y z (inr e) (inr f) = inr (omega arith)
+
+-- of two counts, one after another, of which the second had a fault
+pub rose_of : (first then_ : Bool) (x y z : ℕ) → Counts first x y → Counts then_ y z → then_ ≡ true → Rose x z
+rose_of first false x y z f g failed = absurd (not_false (sym failed))
+rose_of true true x y z f g failed = counts_on true true x y z f g
+rose_of false true x y z f g failed = counts_on false true x y z f g
 
 -- a count that is raised by that of a twin
 pub counts_up : (failed : Bool) (before more now : ℕ) → now ≡ raised_by more before → Counts failed 0 more → Counts failed before now
@@ -107,12 +196,14 @@ module _ {In Out : Type 0} (e : Ends In Out) (desk : DeskId) (attempts : ℕ) wh
 
   -- ---- one worker after another
 
-  module _ {L C : Type 0} (returned : L → List (In × Out)) (faults : L → ℕ) where
+  module _ {L C : Type 0} (waiting returned : L → List (In × Out)) (faults : L → ℕ) (ahead_of : C → Option Readings) where
     -- a worker that was hired has served
-    pub is_done : (tells : L → Bool) (told : Bool) (p : Pass) (w v : Worker L C) (waits waits_now : List (In × Out)) (ahead now : Option Readings) → IsHired tells returned faults told desk p w
-        → ServesOwn e desk attempts (tells w.listener) waits waits_now (returned w.listener) (returned v.listener) w.pass ahead v.pass now
-        → IsReady desk v.pass → Keeps desk w.pass v.pass → Counts v.failed (faults w.listener) (faults v.listener) → IsDone e desk attempts returned faults told p v
-    is_done tells told p w v waits waits_now ahead now hired own ready kept counts = record {
+    pub is_done : (tells : L → Bool) (told : Bool) (ahead : Option Readings) (p : Pass) (dealt : List (In × Out)) (w v : Worker L C) (now : Option Readings)
+        → IsHired tells returned faults ahead_of told ahead desk p w → (IsTrue told → waiting w.listener ≡ dealt)
+        → ServesOwn e desk attempts (tells w.listener) (waiting w.listener) (waiting v.listener) (returned w.listener) (returned v.listener) w.pass (ahead_of w.clock) v.pass now
+        → (v.failed ≡ false → IsTrue (tells w.listener) → waiting v.listener ≡ []) → IsReady desk v.pass → Keeps desk w.pass v.pass → Counts v.failed (faults w.listener) (faults v.listener)
+        → IsDone e desk attempts waiting returned faults told ahead p dealt v
+    is_done tells told ahead p dealt w v now hired waits own end ready kept counts = record {
       back = record {
         ready = ready;
         one = kept.held ∙ hired.back.one;
@@ -120,61 +211,122 @@ module _ {In Out : Type 0} (e : Ends In Out) (desk : DeskId) (attempts : ℕ) wh
         counts = subst (λ (n : ℕ). Counts v.failed n (faults v.listener)) hired.faultless counts;
       };
       first = w.pass;
-      ahead = ahead;
+      own = ahead_of w.clock;
       now = now;
       given = own.given;
       served = own.served;
+      same = hired.same;
+      number_is = sym kept.number;
       remembers = hired.idle.remembers;
       each = own.each;
       stands = λ t. own.stands (subst (λ (b : Bool). IsTrue b) (sym hired.tells_is) t) ∙ ap (λ (l : List (In × Out)). l ++ own.served) hired.empty;
+      front = λ t. sym (waits t) ∙ own.front (subst (λ (b : Bool). IsTrue b) (sym hired.tells_is) t);
+      none_left = λ works t. end works (subst (λ (b : Bool). IsTrue b) (sym hired.tells_is) t);
     }
 
-  worked_on : (p q r : Pass) (groups : List (List (In × Out))) → BeginsWith (seen q) (seen r) → AllWorked e desk attempts p q groups → AllWorked e desk attempts p r groups
-  worked_on p q r [] begins all = tt
-  worked_on p q r (group ∷ groups) begins all =
-      let w = all.0.1 in (
-        (
-          all.0.0,
-          record { first = w.first; last = w.last; ahead = w.ahead; now = w.now; remembers = w.remembers; each = w.each; begins = begins_on (seen w.last) (seen q) (seen r) w.begins begins },
-        ),
-        worked_on p q r groups begins all.1,
+  -- it goes on to be so for a later pass, and where fewer are well
+  worked_on : (tells : Bool) (well less : Type 0) (dealt : List (List (In × Out))) (number : ℕ) (p : Pass) (ahead : Option Readings) (q r : Pass) (groups : List (List (In × Out)))
+      → GrowsTo q r → (less → well) → AllWorked e desk attempts tells well dealt number p ahead q groups → AllWorked e desk attempts tells less dealt number p ahead r groups
+  worked_on tells well less dealt number p ahead q r [] on fewer all = tt
+  worked_on tells well less dealt number p ahead q r (group ∷ groups) on fewer (t, rest) =
+      let w = t.worked in
+      let to = grows_to_on w.last q r (w.begins, w.marks) on in (
+        record {
+          given = t.given;
+          own = t.own;
+          now = t.now;
+          same = t.same;
+          worked = record { first = w.first; last = w.last; number_is = w.number_is; remembers = w.remembers; each = w.each; begins = to.0; marks = to.1 };
+          left = t.left;
+          front = t.front;
+          none_left = λ l. t.none_left (fewer l);
+        },
+        worked_on tells well less dealt number p ahead q r groups on fewer rest,
       )
 
-  worked_more : (p q : Pass) (groups : List (List (In × Out))) (given group : List (In × Out)) → AllWorked e desk attempts p q groups → Worked e desk attempts p q given group
-      → AllWorked e desk attempts p q (groups ++ group ∷ [])
-  worked_more p q [] given group all w = ((given, w), tt)
-  worked_more p q (g ∷ groups) given group all w = (all.0, worked_more p q groups given group all.1 w)
+  -- one more, on the pass before, that was dealt what comes before
+  worked_more : (tells : Bool) (well : Type 0) (dealt : List (List (In × Out))) (number next : ℕ) (p : Pass) (ahead : Option Readings) (q : Pass) (groups : List (List (In × Out))) (group : List (In × Out))
+      → number + 1 ≡ next → AllWorked e desk attempts tells well (drop 1 dealt) next p ahead q groups → WorkedByTwin e desk attempts tells well (first_of dealt) number p ahead q group
+      → AllWorked e desk attempts tells well dealt number p ahead q (groups ++ group ∷ [])
+  worked_more tells well dealt number next p ahead q [] group before all t =
+      (subst (λ (n : ℕ). WorkedByTwin e desk attempts tells well (first_of dealt) n p ahead q group) (none_more number) t, tt)
+    where
+      none_more : (n : ℕ) → n ≡ n + 0
+      none_more n = omega arith
+  worked_more tells well dealt number next p ahead q (g ∷ groups) group before (w, rest) t =
+      let there : WorkedByTwin e desk attempts tells well (first_of (drop (length (groups ++ group ∷ [])) dealt)) (next + length groups) p ahead q g =
+      subst (λ (l : List (List (In × Out))). WorkedByTwin e desk attempts tells well (first_of l) (next + length groups) p ahead q g)
+      (drop-drop (length groups) 1 dealt ∙ ap (λ (n : ℕ). drop n dealt) (behind (length groups) (length (groups ++ group ∷ [])) (length_push groups group))) w in (
+        subst (λ (n : ℕ). WorkedByTwin e desk attempts tells well (first_of (drop (length (groups ++ group ∷ [])) dealt)) n p ahead q g)
+            (longer (length groups) (length (groups ++ group ∷ [])) (length_push groups group)) there,
+        worked_more tells well dealt number next p ahead q groups group before rest t,
+      )
+    where
+      behind : (n m : ℕ) → m ≡ n + 1 → 1 + n ≡ m
+      behind n m is = omega (arith, is)
 
-  module _ (tells : Bool) (groups : List (List (In × Out))) (p : Pass) where
-    pub back_none : (whole : ℕ) (q : Pass) → AreBack e desk attempts tells groups groups whole whole p q
+      longer : (n m : ℕ) → m ≡ n + 1 → next + n ≡ number + m
+      longer n m is = omega (arith, before, is)
+
+  module _ (tells : Bool) (groups dealt : List (List (In × Out))) (number : ℕ) (p : Pass) (ahead : Option Readings) where
+    pub back_none : (whole : ℕ) (q : Pass) → AreBack e desk attempts tells false groups groups dealt whole whole number p ahead q
     back_none whole q = record { twins = []; theirs = tt; count = omega arith; rejoined = λ t. sym (append-nil groups) }
 
-    pub back_more : {L C : Type 0} (returned : L → List (In × Out)) (faults : L → ℕ) (w : Worker L C) (mid now : List (List (In × Out))) (left rest whole : ℕ) (q r : Pass)
-        → AreBack e desk attempts tells groups mid left whole p q → IsDone e desk attempts returned faults tells p w → rest + 1 ≡ left
-        → (IsTrue tells → now ≡ mid ++ returned w.listener ∷ []) → BeginsWith (seen q) (seen r) → BeginsWith (seen w.pass) (seen r) → AreBack e desk attempts tells groups now rest whole p r
-    back_more returned faults w mid now left rest whole q r b d less taken begins its = record {
+    pub back_more : {L C : Type 0} (waiting returned : L → List (In × Out)) (faults : L → ℕ) (w : Worker L C) (first then_ : Bool) (mid now : List (List (In × Out))) (left rest whole : ℕ) (q r : Pass)
+        → AreBack e desk attempts tells first groups mid dealt left whole number p ahead q → IsDone e desk attempts waiting returned faults tells ahead p (first_of (drop rest dealt)) w → then_ ≡ w.failed
+        → number_of w.pass ≡ number + rest → rest + 1 ≡ left → (IsTrue tells → now ≡ mid ++ returned w.listener ∷ []) → GrowsTo q r → GrowsTo w.pass r
+        → AreBack e desk attempts tells (first || then_) groups now dealt rest whole number p ahead r
+    back_more waiting returned faults w first then_ mid now left rest whole q r b d failed numbered less taken on its = record {
       twins = b.twins ++ d.served ∷ [];
-      theirs = worked_more p r b.twins d.given d.served (worked_on p q r b.twins begins b.theirs)
-          (record { first = d.first; last = w.pass; ahead = d.ahead; now = d.now; remembers = d.remembers; each = d.each; begins = its });
+      theirs = worked_more tells ((first || then_) ≡ false) (drop rest dealt) (number + rest) (number + left) p ahead r b.twins d.served (omega (arith, less))
+          (worked_on tells (first ≡ false) ((first || then_) ≡ false) (drop 1 (drop rest dealt)) (number + left) p ahead q r b.twins on (λ none. (neither first then_ none).0)
+          (subst (λ (l : List (List (In × Out))). AllWorked e desk attempts tells (first ≡ false) l (number + left) p ahead q b.twins) (ap (λ (n : ℕ). drop n dealt) (sym less) ∙ sym (drop-drop 1 rest dealt)) b.theirs))
+          (record {
+            given = d.given;
+            own = d.own;
+            now = d.now;
+            same = d.same;
+            worked = record { first = d.first; last = w.pass; number_is = d.number_is ∙ numbered; remembers = d.remembers; each = d.each; begins = its.0; marks = its.1 };
+            left = waiting w.listener;
+            front = d.front;
+            none_left = λ none. d.none_left (sym failed ∙ (neither first then_ none).1);
+          });
       count = let c = b.count in let l = length_push b.twins d.served in omega arith;
       rejoined = λ t.
           taken t ∙ ap (λ (l : List (List (In × Out))). l ++ returned w.listener ∷ []) (b.rejoined t) ∙ append_assoc groups b.twins (returned w.listener ∷ [])
           ∙ ap (λ (l : List (In × Out)). groups ++ (b.twins ++ l ∷ [])) (d.stands t);
     }
+      where
+        neither : (a b : Bool) → (a || b) ≡ false → (a ≡ false) × (b ≡ false)
+        neither false false is = (refl, refl)
+        neither false true is = absurd (not_false is)
+        neither true b is = absurd (not_false is)
 
   -- all were hired, have served and are back
-  pub serves_all : (workers count : ℕ) (tells tells_m tells_n : Bool) (waits waits_m waits_n waits_q back back_m back_n back_q : List (In × Out)) (groups groups_n groups_q : List (List (In × Out)))
-      (p m n q : Pass) (ahead now : Option Readings) → Remembers p m → ServesOwn e desk attempts tells_m waits_m waits_n back_m back_n m ahead n now → BeginsWith (seen n) (seen q)
-      → AreBack e desk attempts tells_n groups_n groups_q 0 count p q → count + 1 ≡ workers → tells_m ≡ tells → tells_n ≡ tells → waits_m ≡ waits → waits_q ≡ waits_n → back_m ≡ back → back_q ≡ back_n
-      → groups_n ≡ groups → ServesAll e desk attempts workers tells waits waits_q back back_q groups groups_q p q
-  serves_all workers count tells tells_m tells_n waits waits_m waits_n waits_q back back_m back_n back_q groups groups_n groups_q p m n q ahead now remembers own begins b all at_m at_n w w' r r' g = record {
+  pub serves_all : (workers count : ℕ) (tells tells_m tells_n : Bool) (waits waits_m waits_n waits_q back back_m back_n back_q : List (In × Out)) (groups groups_n groups_q dealt dealt_q : List (List (In × Out)))
+      (failed : Bool) (faults faults_q : ℕ) (p m n q : Pass) (ahead now : Option Readings) → Remembers p m → number_of m ≡ number_of p → ServesOwn e desk attempts tells_m waits_m waits_n back_m back_n m ahead n now → GrowsTo n q
+      → AreBack e desk attempts tells_n failed groups_n groups_q dealt 0 count (first_split p) p ahead q → (failed ≡ true → Rose faults faults_q) → (IsTrue tells → dealt_q ≡ drop count dealt) → count + 1 ≡ workers → tells_m ≡ tells → tells_n ≡ tells → waits_m ≡ waits → waits_q ≡ waits_n → back_m ≡ back
+      → back_q ≡ back_n → groups_n ≡ groups → ServesAll e desk attempts workers tells waits waits_q back back_q groups groups_q dealt dealt_q faults faults_q p ahead q now
+  serves_all workers count tells tells_m tells_n waits waits_m waits_n waits_q back back_m back_n back_q groups groups_n groups_q dealt dealt_q failed faults faults_q p m n q ahead now remembers number own to b cause rest all at_m at_n w w' r r' g = record {
     given = own.given;
     own = own.served;
     twins = b.twins;
-    mine = record { first = m; last = n; ahead = ahead; now = now; remembers = remembers; each = own.each; begins = begins };
-    theirs = b.theirs;
+    mine = record { first = m; last = n; number_is = number; remembers = remembers; each = own.each; begins = to.0; marks = to.1 };
+    theirs = worked_on tells (failed ≡ false) (Rose faults faults_q → ⊥) dealt (first_split p) p ahead q q b.twins (grows_to_itself q) (well failed cause)
+        (subst (λ (x : Bool × ℕ). AllWorked e desk attempts x.0 (failed ≡ false) dealt x.1 p ahead q b.twins) (λ i. (at_n i, from_first (first_split p) i)) b.theirs);
     count = let size = b.count in omega arith;
     front = λ t. sym w ∙ own.front (subst (λ (x : Bool). IsTrue x) (sym at_m) t) ∙ ap (λ (l : List (In × Out)). own.given ++ l) (sym w');
     stands = λ t. r' ∙ own.stands (subst (λ (x : Bool). IsTrue x) (sym at_m) t) ∙ ap (λ (l : List (In × Out)). l ++ own.served) r;
     rejoined = λ t. b.rejoined (subst (λ (x : Bool). IsTrue x) (sym at_n) t) ∙ ap (λ (l : List (List (In × Out))). l ++ b.twins) g;
+    rest = λ t. rest t ∙ ap (λ (k : ℕ). drop k dealt) (none_more (length b.twins) count b.count);
   }
+    where
+      none_more : (n m : ℕ) → n + 0 ≡ m → m ≡ n
+      none_more n m is = omega (arith, is)
+
+      well : (a : Bool) → (a ≡ true → Rose faults faults_q) → (Rose faults faults_q → ⊥) → a ≡ false
+      well false cause none = refl
+      well true cause none = absurd (none (cause refl))
+
+      from_first : (n : ℕ) → n + 0 ≡ n
+      from_first n = omega arith

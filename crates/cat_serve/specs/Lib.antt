@@ -6,5 +6,6 @@ pub mod Answers
 pub mod Entries
 pub mod Passes
 pub mod Serving
+pub mod ServingLaws
 pub mod Workers
 pub mod Hiring

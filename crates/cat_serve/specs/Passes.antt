@@ -1,9 +1,10 @@
 -- What a session answers on any pass of its desk, whatever other callers do.
-use Rattle.std.specs.Prelude.{ℕ, ◌+◌, ◌==◌, ◌≤◌, ◌≡◌, ◌⊎◌, List, [], ◌∷◌, length, take, Option, Some, IfSome, true, false, ◌||◌, Result, Ok, Err}
+use Rattle.std.specs.Prelude.{ℕ, ◌+◌, ◌==◌, ◌<◌, ◌≤◌, ◌≡◌, ◌⊎◌, List, [], ◌∷◌, length, take, Option, Some, IfSome, true, false, ◌||◌, Result, Ok, Err}
 use Rattle.std.specs.Io.KnownBytes.{Appends}
 use Rattle.sha2.specs.Sha256.{sha256}
 use Rattle.cat_desk.specs.Log.{Follows}
-use Rattle.cat_desk.specs.Pass.{DeskId, known, mark_of, number_of, seen}
+use Rattle.cat_desk.specs.Marks.{Linked}
+use Rattle.cat_desk.specs.Pass.{DeskId, known, mark_of, number_of, seen, turn_of}
 use Rattle.cat_desk.specs.declared.pass.Pass.{Pass}
 use Rattle.cat_http.specs.Message.{Message}
 use Rattle.cat_http.specs.Next.{IsRequest, IsEnd, IsMalformed, IsTooLarge}
@@ -17,6 +18,7 @@ use Rattle.cat_model.specs.declared.refusal.Refused.{Refused}
 use Rattle.cat_model.specs.declared.reply.Told.{Told}
 use Rattle.cat_model.specs.Book.{Reads}
 use Rattle.cat_model.specs.Mark.{Grows}
+use Rattle.cat_model.specs.Step.{opens_draft}
 use Rattle.cat_policy.specs.declared.policy.Policy.{Policy}
 use Rattle.cat_policy.specs.Policies.{resolved}
 use Rattle.cat_collect.specs.Answers.{Answers as CollectionAnswers}
@@ -24,8 +26,8 @@ use Rattle.cat_rest.specs.declared.wanted.Wanted.{Wanted}
 use Rattle.cat_rest.specs.declared.wanted.Wanted.TheVariants.{Change, Collect, Read}
 use Rattle.cat_rest.specs.Faults.{Answers as ByBytes}
 use Rattle.cat_rest.specs.Wanted.{wanted}
-use Rattle.cat_work.specs.Answers.{Answers, Knows}
-use Rattle.cat_work.specs.Passes.{book_of}
+use Rattle.cat_work.specs.Answers.{Answers, Knows, NoDraftIsNew, sweeps_in}
+use Rattle.cat_work.specs.Passes.{IsAlone, book_of}
 use Rattle.cat_serve.specs.declared.ending.Session.{Session as End}
 use Rattle.cat_serve.specs.declared.ending.Session.TheVariants as ends
 use Rattle.cat_serve.specs.Replies.{IsRefusalOf, is_head, must_be_told}
@@ -41,6 +43,8 @@ pub record IsChange (desk : DeskId) (attempts : ℕ) (command : Command) (taken 
   pub one : taken ≡ moment ∷ []
   pub answers : Answers desk (number_of p) command moment attempts (known p) (mark_of p) (mark_of q) (seen p) (seen q) told
   pub knows : Knows p q told
+  pub undrafted : opens_draft command ≡ false → NoDraftIsNew (number_of p) (mark_of p) (mark_of q)
+  pub unswept : IsAlone p → sweeps_in (mark_of q) ≡ sweeps_in (mark_of p)
   pub grows : Grows (mark_of p) (mark_of q)
 
 -- a collection is made once, by its policy at the moment of one reading of the clock
@@ -49,15 +53,19 @@ pub record IsCollection (desk : DeskId) (policy : Policy) (taken : List ℕ) (p 
   pub one : taken ≡ moment ∷ []
   pub answers : CollectionAnswers desk (number_of p) (resolved moment policy) moment (known p) (mark_of p) (mark_of q) (seen p) (seen q) told
   pub knows : Knows p q told
+  pub undrafted : NoDraftIsNew (number_of p) (mark_of p) (mark_of q)
   pub grows : Grows (mark_of p) (mark_of q)
 
--- what is asked is read from all that the pass knows of: what it had seen, and then entries of others
+-- what is asked is read in a turn of this call, from all that the pass knows of: what it had seen, and then entries of others
 pub record IsReading (desk : DeskId) (ask : Ask) (taken : List ℕ) (p q : Pass) (told : Result Told Refused) : Type 0 where
   pub none : taken ≡ []
   pub reads : Reads sha256 (book_of desk q) ask told
   pub follows : Follows (number_of p) (seen p) (seen q)
   pub knew : known p ≤ length (seen q)
   pub knows : known q ≡ length (seen q)
+  pub turn : turn_of p < turn_of q
+  pub linked : Linked (number_of p) (mark_of p) (mark_of q)
+  pub still : IsAlone p → mark_of q ≡ mark_of p
   pub grows : Grows (mark_of p) (mark_of q)
 
 -- no call is made: the refusal is that of the bytes, or want of memory

@@ -3,9 +3,10 @@ use Rattle.std.specs.Prelude.{ℕ, ◌≡◌, List, [], ◌∷◌, ◌++◌, fla
 use Rattle.std.specs.Io.KnownBytes.{Appends}
 use Rattle.cat_checks.specs.Histories.{IsLegalFrom}
 use Rattle.cat_desk.specs.Log.{BeginsWith}
-use Rattle.cat_desk.specs.Pass.{DeskId, number_of, seen}
+use Rattle.cat_desk.specs.Pass.{DeskId, mark_of, number_of, seen}
 use Rattle.cat_desk.specs.declared.pass.Pass.{Pass}
 use Rattle.cat_model.specs.declared.log_entry.LogEntry.{LogEntry}
+use Rattle.cat_model.specs.Mark.{Grows}
 use Rattle.cat_serve.specs.declared.ending.Session.{Session as End}
 use Rattle.cat_serve.specs.Entries.{entries_of}
 use Rattle.cat_serve.specs.Passes.{IsAnswered, Place, Visit, Went}
@@ -24,10 +25,14 @@ abbrev pub AreAnswered : DeskId → ℕ → List Visit → Type 0
 AreAnswered desk attempts [] = Unit {0}
 AreAnswered desk attempts (v ∷ visits) = IsAnswered desk attempts v × AreAnswered desk attempts visits
 
--- from one pass to the last by these: what was seen after each begins with what was seen before it, and what is seen at the end with both
+-- a pass came to stand so: what it has then seen begins with what it had, and its mark grew
+abbrev pub GrowsTo : Pass → Pass → Type 0
+GrowsTo p q = BeginsWith (seen p) (seen q) × Grows (mark_of p) (mark_of q)
+
+-- from one pass to the last by these: what was seen after each begins with what was seen before it, and what is seen at the end with both; and so the mark grew
 abbrev pub Rises : Pass → List Visit → Pass → Type 0
 Rises p [] q = q ≡ p
-Rises p (v ∷ visits) q = (v.before ≡ p) × BeginsWith (seen v.before) (seen v.after) × BeginsWith (seen v.after) (seen q) × Rises v.after visits q
+Rises p (v ∷ visits) q = (v.before ≡ p) × GrowsTo v.before v.after × GrowsTo v.after q × Rises v.after visits q
 
 -- a session that begins at a ends so, and leaves the bytes of the source, the pass, the clock and the sink so
 pub record Serves (desk : DeskId) (attempts : ℕ) (a : Place) (end : End) (unread : Option (List ℕ)) (pass : Pass) (now : Option Readings) (held : Option (List ℕ)) : Type 0 where
@@ -46,3 +51,5 @@ pub record Serves (desk : DeskId) (attempts : ℕ) (a : Place) (end : End) (unre
   pub once : entries_of (number_of a.pass) (seen pass) ≡ entries_of (number_of a.pass) (seen a.pass) ++ made_by (went.visits ++ went.ended.last)
   -- and begins with all that its caller had seen
   pub begins : BeginsWith (seen a.pass) (seen pass)
+  -- the mark of the pass grew
+  pub marks : Grows (mark_of a.pass) (mark_of pass)

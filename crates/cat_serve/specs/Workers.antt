@@ -1,11 +1,14 @@
 -- What workers promise who serve a listener's connections at once, each on a pass of its own.
-use Rattle.std.specs.Prelude.{ℕ, ◌+◌, ◌≡◌, ◌≢◌, Bool, IsTrue, List, [], ◌∷◌, ◌++◌, length, Option}
+use Rattle.std.specs.Prelude.{ℕ, ◌+◌, ◌-◌, ◌≡◌, ◌≢◌, Bool, IsTrue, List, [], ◌∷◌, ◌++◌, length, drop, Option}
 use Rattle.cat_io.specs.Causes.{Rose}
-use Rattle.cat_desk.specs.Pass.{DeskId, Remembers, seen}
+use Rattle.cat_io.specs.Listening.{first_of}
+use Rattle.cat_io.specs.Clocks.{TellsSame}
+use Rattle.cat_desk.specs.Pass.{DeskId, Remembers, mark_of, number_of, seen, spare_of}
 use Rattle.cat_desk.specs.declared.pass.Pass.{Pass}
 use Rattle.cat_serve.specs.declared.ending.Session.{Session as End}
 use Rattle.cat_serve.specs.declared.ending.Session.TheVariants.{ReadFault, WriteFault}
 use Rattle.cat_desk.specs.Log.{BeginsWith}
+use Rattle.cat_model.specs.Mark.{Grows}
 use Rattle.cat_serve.specs.Passes.{place}
 use Rattle.cat_serve.specs.Serving.{Serves}
 use Rattle.cat_serve.specs.Sessions.{Readings}
@@ -19,6 +22,10 @@ pub record Ends (In Out : Type 0) : Type 0 where
 
 abbrev pub ends_of : {In Out : Type 0} → (In → Option (List ℕ)) → (In → ℕ) → (Out → Option (List ℕ)) → (Out → ℕ) → Ends In Out
 ends_of left read_faults held write_faults = record { left = left; read_faults = read_faults; held = held; write_faults = write_faults }
+
+-- the number of the next pass that a pass splits off; the one after it has the next number
+abbrev pub first_split : Pass → ℕ
+first_split p = 4294967296 - spare_of p
 
 module _ {In Out : Type 0} (e : Ends In Out) (desk : DeskId) (attempts : ℕ) where
   -- a connection was served, from one pass to another: its ends were given as x and left as y
@@ -37,29 +44,42 @@ module _ {In Out : Type 0} (e : Ends In Out) (desk : DeskId) (attempts : ℕ) wh
   ServesEach p ahead (x ∷ xs) [] q now = ⊥
   ServesEach p ahead (x ∷ xs) (y ∷ ys) q now = (mid : Pass) × (next : Option Readings) × IsServed p ahead x y mid next × ServesEach mid next xs ys q now
 
-  -- a worker served these, which were given so and left so: its pass began with all that p had seen, and what it has seen at the end is a beginning of what q has
-  pub record Worked (p q : Pass) (given served : List (In × Out)) : Type 0 where
+  -- a worker served these on a pass of this number, which were given so and left so, by a clock that told so and then so: its pass began with all that p had seen, and what it has seen at the end is a beginning of what q has, to whose mark its own grew
+  pub record Worked (number : ℕ) (p : Pass) (ahead : Option Readings) (q : Pass) (now : Option Readings) (given served : List (In × Out)) : Type 0 where
     pub first : Pass
     pub last : Pass
-    pub ahead : Option Readings
-    pub now : Option Readings
+    pub number_is : number_of first ≡ number
     pub remembers : Remembers p first
     pub each : ServesEach first ahead given served last now
     pub begins : BeginsWith (seen last) (seen q)
+    pub marks : Grows (mark_of last) (mark_of q)
 
-  -- each of these groups is what a worker served
-  abbrev pub AllWorked : Pass → Pass → List (List (In × Out)) → Type 0
-  AllWorked p q [] = Unit {0}
-  AllWorked p q (group ∷ groups) = ((given : List (In × Out)) × Worked p q given group) × AllWorked p q groups
+  -- a worker served these by a twin of a clock that told what was ahead, and by a twin of a listener, where the ones that it was dealt waited; where that tells, those that were given are the first of them, and where no listener failed they are all
+  pub record WorkedByTwin (tells : Bool) (well : Type 0) (dealt : List (In × Out)) (number : ℕ) (p : Pass) (ahead : Option Readings) (q : Pass) (served : List (In × Out)) : Type 0 where
+    pub given : List (In × Out)
+    pub own : Option Readings
+    pub now : Option Readings
+    pub same : TellsSame ahead own
+    pub worked : Worked number p own q now given served
+    pub left : List (In × Out)
+    pub front : IsTrue tells → dealt ≡ given ++ left
+    pub none_left : well → IsTrue tells → left ≡ []
 
-  -- all workers served: the caller's own, and one for each twin; where the listener tells, its own connections are the first of those that waited, they stand behind those that were back, and those of the twins behind the earlier twins'
-  pub record ServesAll (workers : ℕ) (tells : Bool) (waits waits_now back back_now : List (In × Out)) (groups groups_now : List (List (In × Out))) (p q : Pass) : Type 0 where
+  -- each of these groups is what a worker served by a twin of the clock: the last on a pass of this number, and dealt the first of what twins are dealt, and each one before on a pass of the next number, and dealt the next
+  abbrev pub AllWorked : Bool → Type 0 → List (List (In × Out)) → ℕ → Pass → Option Readings → Pass → List (List (In × Out)) → Type 0
+  AllWorked tells well dealt number p ahead q [] = Unit {0}
+  AllWorked tells well dealt number p ahead q (group ∷ groups) =
+      WorkedByTwin tells well (first_of (drop (length groups) dealt)) (number + length groups) p ahead q group × AllWorked tells well dealt number p ahead q groups
+
+  -- all workers served: the caller's own, on its pass and by its clock, and one for each twin, on the passes of the numbers that p splits off; where the listener tells, its own connections are the first of those that waited, they stand behind those that were back, and those of the twins behind the earlier twins', each twin was dealt the next of what twins are dealt, and where no count of faults rose all of it was given
+  pub record ServesAll (workers : ℕ) (tells : Bool) (waits waits_now back back_now : List (In × Out)) (groups groups_now dealt dealt_now : List (List (In × Out))) (faults faults_now : ℕ) (p : Pass) (ahead : Option Readings) (q : Pass) (now : Option Readings) : Type 0 where
     pub given : List (In × Out)
     pub own : List (In × Out)
     pub twins : List (List (In × Out))
-    pub mine : Worked p q given own
-    pub theirs : AllWorked p q twins
+    pub mine : Worked (number_of p) p ahead q now given own
+    pub theirs : AllWorked tells (Rose faults faults_now → ⊥) dealt (first_split p) p ahead q twins
     pub count : length twins + 1 ≡ workers
     pub front : IsTrue tells → waits ≡ given ++ waits_now
     pub stands : IsTrue tells → back_now ≡ back ++ own
     pub rejoined : IsTrue tells → groups_now ≡ groups ++ twins
+    pub rest : IsTrue tells → dealt_now ≡ drop (length twins) dealt

@@ -1,14 +1,15 @@
 //! Serving a listener's connections by several workers at once.
 
-ghost use Rattle.std.specs.Prelude.{All, Bool, IfSome, IsTrue, [], false, length, max, true, vec_capacity, vec_len, ℕ, ◌+◌, ◌-◌, ◌<◌, ◌^◌, ◌||◌, ◌≡◌, ◌≢◌, ◌≤◌};
+ghost use Rattle.std.specs.Prelude.{All, Bool, IfSome, IsTrue, List, Option, [], drop, false, length, max, true, vec_capacity, vec_len, ℕ, ◌+◌, ◌-◌, ◌<◌, ◌^◌, ◌||◌, ◌≡◌, ◌≢◌, ◌≤◌};
 ghost use Rattle.std.specs.Option.{option_to_list};
-ghost use Rattle.cat_desk.specs.Pass.{Keeps, Remembers, number_of, seen, spare_of, stands_for};
+ghost use Rattle.cat_desk.specs.Pass.{Keeps, Remembers, number_of, spare_of, stands_for};
 ghost use Rattle.cat_io.specs.Causes.{Rose};
-ghost use Rattle.cat_io.specs.Listening.{OwnStay, Stands, TakesBack, TwinsStay};
+ghost use Rattle.cat_io.specs.Listening.{Deals, OwnStay, Stands, TakesBack, TwinsStay};
 ghost use Rattle.cat_work.specs.Passes.{IsReady};
-ghost use Rattle.cat_desk.specs.Log.{BeginsWith};
-ghost use Rattle.cat_serve.specs.Hiring.{AreBack, Counts, IsBack, IsDone, IsHired, IsIdle, ServesOwn};
-ghost use Rattle.cat_serve.specs.Workers.{ServesAll, ends_of};
+ghost use Rattle.cat_serve.specs.Hiring.{AreBack, AreDealt, AreDone, AreNumbered, Counts, IsBack, IsHired, IsIdle, ServesOwn};
+ghost use Rattle.cat_serve.specs.Serving.{GrowsTo};
+ghost use Rattle.cat_serve.specs.Sessions.{Readings};
+ghost use Rattle.cat_serve.specs.Workers.{ServesAll, ends_of, first_split};
 
 use crate::settings::Settings;
 use crate::worker::{Worker, serve, serve_workers};
@@ -54,7 +55,9 @@ pub fn serve_all<R: Threads + Wait + Sync, K0: Keeper, L: Listener, C: Clock + D
         → ServesAll (ends_of L.In.left L.In.faults L.Out.held L.Out.faults) desk.now
         settings.attempts workers (L.tells listener.old) (L.waiting listener.old)
         (L.waiting listener.new) (L.returned listener.old) (L.returned listener.new)
-        (L.rejoined listener.old) (L.rejoined listener.new) pass.old pass.new }
+        (L.rejoined listener.old) (L.rejoined listener.new) (L.dealt listener.old)
+        (L.dealt listener.new) (L.faults listener.old) (L.faults listener.new) pass.old
+        (C.ahead clock.old) pass.new (C.ahead clock.new) }
     ensures end { result ≡ Served.End
         → IsTrue (L.tells listener.old)
         → L.waiting listener.new ≡ [] }
@@ -126,8 +129,9 @@ fn hire_all<K0: Keeper, L: Listener, C: Clock>(
     ensures ready { IsReady desk.now pass.new }
     ensures remembers { Remembers pass.old pass.new }
     ensures hired { All
-        (IsHired L.tells L.returned L.faults (L.tells listener.old) desk.now pass.old)
-        others.new.items }
+        (IsHired L.tells L.returned L.faults C.ahead (L.tells listener.old) (C.ahead clock.now)
+        desk.now pass.old) others.new.items }
+    ensures numbered { AreNumbered (first_split pass.old) others.new.items }
     ensures all { result ≡ true → vec_len others.new ≡ count }
     ensures kept { (number_of pass.new ≡ number_of pass.old)
         × (stands_for pass.new ≡ stands_for pass.old)
@@ -138,6 +142,11 @@ fn hire_all<K0: Keeper, L: Listener, C: Clock>(
     ensures rejoined { L.rejoined listener.new ≡ L.rejoined listener.old }
     ensures twins { IsTrue (L.tells listener.old)
         → L.twins listener.new ≡ L.twins listener.old + vec_len others.new }
+    ensures dealt { AreDealt L.waiting (L.tells listener.old) (L.dealt listener.old)
+        others.new.items }
+    ensures rest { result ≡ true
+        → IsTrue (L.tells listener.old)
+        → L.dealt listener.new ≡ drop (vec_len others.new) (L.dealt listener.old) }
 {
     'hiring: while others.len() < count {
         let Some(worker) = hire(desk, pass, listener, clock) else {
@@ -160,7 +169,10 @@ fn hire<K0: Keeper, L: Listener, C: Clock>(
     ensures ready { IsReady desk.now pass.new }
     ensures remembers { Remembers pass.old pass.new }
     ensures hired { IfSome result
-        (IsHired L.tells L.returned L.faults (L.tells listener.old) desk.now pass.old) }
+        (IsHired L.tells L.returned L.faults C.ahead (L.tells listener.old) (C.ahead clock.now)
+        desk.now pass.old) }
+    ensures number { IfSome result
+        (λ worker. number_of worker.pass + spare_of pass.old ≡ 4294967296) }
     ensures kept { (number_of pass.new ≡ number_of pass.old)
         × (stands_for pass.new ≡ stands_for pass.old)
         × (spare_of pass.new + length (option_to_list result) ≡ spare_of pass.old) }
@@ -170,6 +182,9 @@ fn hire<K0: Keeper, L: Listener, C: Clock>(
     ensures rejoined { L.rejoined listener.new ≡ L.rejoined listener.old }
     ensures twins { IsTrue (L.tells listener.old)
         → L.twins listener.new ≡ L.twins listener.old + length (option_to_list result) }
+    ensures deals { IfSome result
+        (λ worker. IsTrue (L.tells listener.old)
+        → Deals L.waiting (L.dealt listener.old) (L.dealt listener.new) worker.listener) }
 {
     let Ok(twin) = listener.twin() else {
         return None;
@@ -212,13 +227,16 @@ fn work<R: Threads + Wait + Sync, K0: Keeper, L: Listener, C: Clock>(
     ensures counts { Counts result (L.faults listener.old) (L.faults listener.new) }
     ensures stands { Stands L.tells L.listens listener.old listener.new }
     ensures out { IsTrue (L.tells listener.old) → L.out listener.new ≡ L.out listener.old }
-    ensures others { TwinsStay L.rejoined L.twins listener.old listener.new }
+    ensures others { TwinsStay L.rejoined L.twins L.dealt listener.old listener.new }
     ensures len { vec_len others.new ≡ vec_len others.old }
-    ensures done { (told : Bool) (p : Pass)
-        → All (IsHired L.tells L.returned L.faults told desk.now p) others.old.items
-        → All
-        (IsDone (ends_of L.In.left L.In.faults L.Out.held L.Out.faults) desk.now settings.attempts
-        L.returned L.faults told p) others.new.items }
+    ensures done { (told : Bool) (ahead : Option Readings) (p : Pass)
+        (dealt : List (List (L.In × L.Out)))
+        → All (IsHired L.tells L.returned L.faults C.ahead told ahead desk.now p) others.old.items
+        → AreDealt L.waiting told dealt others.old.items
+        → AreDone (ends_of L.In.left L.In.faults L.Out.held L.Out.faults) desk.now
+        settings.attempts L.waiting L.returned L.faults told ahead p dealt others.new.items }
+    ensures numbered { (number : ℕ) → AreNumbered number others.old.items
+        → AreNumbered number others.new.items }
 {
     let rest = others.as_mut_slice();
     let (failed, ()) = join_mut(
@@ -244,7 +262,7 @@ fn work<R: Threads + Wait + Sync, K0: Keeper, L: Listener, C: Clock>(
             ensures stands { Stands L.tells L.listens listener.entry.now listener.exit.now }
             ensures out { IsTrue (L.tells listener.entry.now)
                 → L.out listener.exit.now ≡ L.out listener.entry.now }
-            ensures others { TwinsStay L.rejoined L.twins listener.entry.now listener.exit.now }
+            ensures others { TwinsStay L.rejoined L.twins L.dealt listener.entry.now listener.exit.now }
         { serve(rt, alloc, desk, pass, listener, clock, settings) },
         &mut ||
             requires { All (IsBack L.faults desk.now) rest.now
@@ -253,11 +271,15 @@ fn work<R: Threads + Wait + Sync, K0: Keeper, L: Listener, C: Clock>(
                 × (1 ≤ settings.markers)
                 × (settings.markers ≤ 64) }
             ensures len { length rest.exit.now ≡ length rest.entry.now }
-            ensures done { (told : Bool) (p : Pass)
-                → All (IsHired L.tells L.returned L.faults told desk.entry.now p) rest.entry.now
-                → All
-                (IsDone (ends_of L.In.left L.In.faults L.Out.held L.Out.faults) desk.entry.now
-                settings.attempts L.returned L.faults told p) rest.exit.now }
+            ensures done { (told : Bool) (ahead : Option Readings) (p : Pass)
+                (dealt : List (List (L.In × L.Out)))
+                → All (IsHired L.tells L.returned L.faults C.ahead told ahead desk.entry.now p)
+                rest.entry.now
+                → AreDealt L.waiting told dealt rest.entry.now
+                → AreDone (ends_of L.In.left L.In.faults L.Out.held L.Out.faults) desk.entry.now
+                settings.attempts L.waiting L.returned L.faults told ahead p dealt rest.exit.now }
+            ensures numbered { (number : ℕ) → AreNumbered number rest.entry.now
+                → AreNumbered number rest.exit.now }
         { serve_workers(rt, alloc, desk, rest, settings) },
     );
     failed
@@ -277,22 +299,24 @@ fn dismiss<K0: Keeper, L: Listener, C: Drop>(
     ensures kept { (number_of pass.new ≡ number_of pass.old)
         × (stands_for pass.new ≡ stands_for pass.old + vec_len others)
         × (spare_of pass.new ≡ spare_of pass.old) }
-    ensures begins { BeginsWith (seen pass.old) (seen pass.new) }
+    ensures grows { GrowsTo pass.old pass.new }
     ensures idle { (p : Pass) → Remembers p pass.old
         → All (IsIdle p) others.items
         → Remembers p pass.new × (result ≡ false) }
-    ensures back { (attempts : ℕ) (p : Pass)
-        → All
-        (IsDone (ends_of L.In.left L.In.faults L.Out.held L.Out.faults) desk.now attempts
-        L.returned L.faults (L.tells listener.old) p) others.items
+    ensures back { (attempts number : ℕ) (ahead : Option Readings) (p : Pass)
+        (dealt : List (List (L.In × L.Out)))
+        → AreDone (ends_of L.In.left L.In.faults L.Out.held L.Out.faults) desk.now attempts
+        L.waiting L.returned L.faults (L.tells listener.old) ahead p dealt others.items
+        → AreNumbered number others.items
         → AreBack (ends_of L.In.left L.In.faults L.Out.held L.Out.faults) desk.now attempts
-        (L.tells listener.old) (L.rejoined listener.old) (L.rejoined listener.new) 0
-        (vec_len others) p pass.new }
+        (L.tells listener.old) result (L.rejoined listener.old) (L.rejoined listener.new) dealt 0
+        (vec_len others) number p ahead pass.new }
     ensures counts { Counts result (L.faults listener.old) (L.faults listener.new) }
     ensures stands { Stands L.tells L.listens listener.old listener.new }
     ensures own { OwnStay L.waiting L.returned L.out listener.old listener.new }
     ensures twins { IsTrue (L.tells listener.old)
         → L.twins listener.new + vec_len others ≡ L.twins listener.old }
+    ensures dealt { L.dealt listener.new ≡ L.dealt listener.old }
 {
     let mut failed = false;
     while let Some(worker) = others.pop() {
@@ -314,8 +338,7 @@ fn take_back<K0: Keeper, L: Listener, C: Drop>(
     ensures kept { (number_of pass.new ≡ number_of pass.old)
         × (stands_for pass.new ≡ stands_for pass.old + stands_for worker.pass)
         × (spare_of pass.new ≡ max (spare_of pass.old) (spare_of worker.pass)) }
-    ensures begins { BeginsWith (seen pass.old) (seen pass.new)
-        × BeginsWith (seen worker.pass) (seen pass.new) }
+    ensures grows { GrowsTo pass.old pass.new × GrowsTo worker.pass pass.new }
     ensures remembers { (p : Pass) → Remembers p pass.old
         → Remembers p worker.pass
         → Remembers p pass.new }
@@ -328,6 +351,7 @@ fn take_back<K0: Keeper, L: Listener, C: Drop>(
         (L.rejoined listener.old) (L.rejoined listener.new) (L.returned worker.listener) }
     ensures twins { IsTrue (L.tells listener.old)
         → L.twins listener.new ≡ L.twins listener.old - 1 }
+    ensures dealt { L.dealt listener.new ≡ L.dealt listener.old }
 {
     let Worker {
         listener: twin,

@@ -1,10 +1,11 @@
 //! Workers: each serves one connection after another.
 
-ghost use Rattle.std.specs.Prelude.{All, Bool, IsTrue, [], false, length, ◌≡◌, ◌≤◌};
-ghost use Rattle.cat_desk.specs.Pass.{Keeps};
+ghost use Rattle.std.specs.Prelude.{All, Bool, IsTrue, List, Option, [], false, length, ℕ, ◌≡◌, ◌≤◌};
+ghost use Rattle.cat_desk.specs.Pass.{Keeps, number_of};
 ghost use Rattle.cat_io.specs.Listening.{Stands, TwinsStay};
 ghost use Rattle.cat_work.specs.Passes.{IsReady};
-ghost use Rattle.cat_serve.specs.Hiring.{Counts, IsBack, IsDone, IsHired, ServesOwn};
+ghost use Rattle.cat_serve.specs.Hiring.{AreDealt, AreDone, AreNumbered, Counts, IsBack, IsDone, IsHired, ServesOwn};
+ghost use Rattle.cat_serve.specs.Sessions.{Readings};
 ghost use Rattle.cat_serve.specs.Workers.{ends_of};
 
 use crate::session::serve_connection;
@@ -51,7 +52,7 @@ pub(crate) fn serve<R: Wait + Threads + Sync, K0: Keeper, L: Listener, C: Clock>
     ensures counts { Counts result (L.faults listener.old) (L.faults listener.new) }
     ensures stands { Stands L.tells L.listens listener.old listener.new }
     ensures out { IsTrue (L.tells listener.old) → L.out listener.new ≡ L.out listener.old }
-    ensures others { TwinsStay L.rejoined L.twins listener.old listener.new }
+    ensures others { TwinsStay L.rejoined L.twins L.dealt listener.old listener.new }
 {
     'connections: for _ in rt.forever() {
         match listener.accept() {
@@ -88,11 +89,14 @@ pub(crate) fn serve_workers<R: Threads + Wait + Sync, K0: Keeper, L: Listener, C
     requires attempts { (1 ≤ settings.attempts) × (settings.attempts ≤ 64) }
     requires markers { (1 ≤ settings.markers) × (settings.markers ≤ 64) }
     ensures len { length workers.new ≡ length workers.old }
-    ensures done { (told : Bool) (p : Pass)
-        → All (IsHired L.tells L.returned L.faults told desk.now p) workers.old
-        → All
-        (IsDone (ends_of L.In.left L.In.faults L.Out.held L.Out.faults) desk.now settings.attempts
-        L.returned L.faults told p) workers.new }
+    ensures done { (told : Bool) (ahead : Option Readings) (p : Pass)
+        (dealt : List (List (L.In × L.Out)))
+        → All (IsHired L.tells L.returned L.faults C.ahead told ahead desk.now p) workers.old
+        → AreDealt L.waiting told dealt workers.old
+        → AreDone (ends_of L.In.left L.In.faults L.Out.held L.Out.faults) desk.now
+        settings.attempts L.waiting L.returned L.faults told ahead p dealt workers.new }
+    ensures numbered { (number : ℕ) → AreNumbered number workers.old
+        → AreNumbered number workers.new }
 {
     for_each_mut(
         rt,
@@ -104,10 +108,13 @@ pub(crate) fn serve_workers<R: Threads + Wait + Sync, K0: Keeper, L: Listener, C
                 × (settings.attempts ≤ 64)
                 × (1 ≤ settings.markers)
                 × (settings.markers ≤ 64) }
-            ensures { (told : Bool) (p : Pass)
-                → IsHired L.tells L.returned L.faults told desk.entry.now p worker.old
+            ensures done { (told : Bool) (ahead : Option Readings) (p : Pass)
+                (dealt : List (L.In × L.Out))
+                → IsHired L.tells L.returned L.faults C.ahead told ahead desk.entry.now p worker.old
+                → (IsTrue told → L.waiting worker.old.listener ≡ dealt)
                 → IsDone (ends_of L.In.left L.In.faults L.Out.held L.Out.faults) desk.entry.now
-                settings.attempts L.returned L.faults told p worker.new }
+                settings.attempts L.waiting L.returned L.faults told ahead p dealt worker.new }
+            ensures number { number_of worker.new.pass ≡ number_of worker.old.pass }
         {
             worker.failed = serve(
                 rt,

@@ -11,7 +11,7 @@ pub returns-in-Ok-ended-clause-served : goal.returns-in-Ok-ended-clause-served
 returns-in-Ok-ended-clause-served g c =
     let told = c.tell_end.ensures.told in
     serves_there g.O.D.Disk.told g.O.D.Disk.may_leave g.O.D.Disk.moment g.O.D.Disk.left_since (g.O.Disks.at_path c.args.disks.now c.args.path.now) _ (g.O.Disks.at_path c.back.new.self c.args.path.now) c.in-Ok.disk c.serve_on-disk.result.0 (stands_as g.O.D.Disk.told g.O.D.Disk.may_leave g.O.D.Disk.moment g.O.D.Disk.left_since g.O.Disks.handed g.met.O.Disks.handed_tells g.met.O.Disks.handed_leaves g.met.O.Disks.handed_moment (g.O.Disks.at_path c.args.disks.now c.args.path.now) c.in-Ok.disk c.in-Ok.ensures.given) c.in-Ok.ensures.taken c.back.ensures.stands
-    _ _ _ _ (DisksFell (g.O.Disks.refuses c.args.disks.now c.args.path.now) g.O.D.Disk.faults (g.O.Disks.at_path c.back.new.self c.args.path.now) (g.O.Disks.faults c.args.disks.now) (g.O.Disks.faults c.back.new.self))
+    _ _ _ _ _ _ (DisksFell (g.O.Disks.refuses c.args.disks.now c.args.path.now) g.O.D.Disk.faults (g.O.Disks.at_path c.back.new.self c.args.path.now) (g.O.Disks.faults c.args.disks.now) (g.O.Disks.faults c.back.new.self))
     (RoseBy (g.O.Disks.faults c.args.disks.now) (g.O.Disks.faults c.back.new.self)) _ _ _ _ (g.O.D.Disk.faults c.serve_on-disk.result.0) c.in-Ok-ended.end _ told.0 c.tell_end.result
     (of_ok _ _ _ _ c.in-Ok-ended.is c.serve_on-disk.ensures.comes) (λ count counted. rose_there _ _ _ _ count c.in-Ok.ensures.cause.stays c.back.ensures.faults counted)
     (search rules) (λ none. c.back.ensures.level none ∙ c.in-Ok.ensures.cause.stays) told.1 told.2

@@ -6,10 +6,10 @@ use Rattle.cat_cli.proofs.serving.serve_at.Goals as goal
 
 pub returns-in-Ok-clause-comes : goal.returns-in-Ok-clause-comes
 returns-in-Ok-clause-comes g c =
-    let a = heard_of g.L.Listener.tells g.L.Listener.listens g.L.Listener.waiting g.L.Listener.returned g.L.Listener.rejoined g.L.Listener.out g.L.Listener.twins g.L.Listener.faults c.args.listener.now in
-    let m = heard_of g.L.Listener.tells g.L.Listener.listens g.L.Listener.waiting g.L.Listener.returned g.L.Listener.rejoined g.L.Listener.out g.L.Listener.twins g.L.Listener.faults c.listen.new.self in
-    let b = heard_of g.L.Listener.tells g.L.Listener.listens g.L.Listener.waiting g.L.Listener.returned g.L.Listener.rejoined g.L.Listener.out g.L.Listener.twins g.L.Listener.faults c.serve_all.new.listener in
-    comes _ _ a m b _ _ _ c.listen.ensures.tells c.listen.ensures.own.waiting c.listen.ensures.own.returned c.listen.ensures.others.rejoined c.listen.ensures.own.out c.listen.ensures.others.twins c.in-Ok.ensures.cause.stays
+    let a = heard_of g.L.Listener.tells g.L.Listener.listens g.L.Listener.waiting g.L.Listener.returned g.L.Listener.rejoined g.L.Listener.out g.L.Listener.twins g.L.Listener.dealt g.L.Listener.faults c.args.listener.now in
+    let m = heard_of g.L.Listener.tells g.L.Listener.listens g.L.Listener.waiting g.L.Listener.returned g.L.Listener.rejoined g.L.Listener.out g.L.Listener.twins g.L.Listener.dealt g.L.Listener.faults c.listen.new.self in
+    let b = heard_of g.L.Listener.tells g.L.Listener.listens g.L.Listener.waiting g.L.Listener.returned g.L.Listener.rejoined g.L.Listener.out g.L.Listener.twins g.L.Listener.dealt g.L.Listener.faults c.serve_all.new.listener in
+    comes _ _ a m b _ _ _ _ _ c.listen.ensures.tells c.listen.ensures.own.waiting c.listen.ensures.own.returned c.listen.ensures.others.rejoined c.listen.ensures.own.out c.listen.ensures.others.twins c.listen.ensures.others.dealt c.in-Ok.ensures.cause.stays
     c.in-Ok.ensures.hears.listening c.serve_all.ensures.stands.listens c.serve_all.ensures.away _ c.serve_all.result c.serve_all.ensures.serves c.serve_all.ensures.end c.serve_all.ensures.none
     c.serve_all.ensures.cause c.serve_all.ensures.stays
 
@@ -31,5 +31,6 @@ returns-in-Err-clause-comes g c = inr (
     rejoined = c.listen.ensures.others.rejoined;
     out = c.listen.ensures.own.out;
     twins = c.listen.ensures.others.twins;
+    dealt = c.listen.ensures.others.dealt;
   },
 )

@@ -11,7 +11,7 @@ use Rattle.cat_cli.proofs.serving.serve_on.Goals as goal
 pub returns-in-Ok-hold_serving-clause-comes : goal.returns-in-Ok-hold_serving-clause-comes
 returns-in-Ok-hold_serving-clause-comes g c =
     let began = c.in-Ok.ensures.fresh.2 ∙ c.in-Ok.ensures.level ∙ c.requires.fresh in
-    comes_down {K = Journal g.row.D.Denot g.D.Disk} _ _ _ _ g.D.Disk.told g.D.Disk.may_leave g.D.Disk.moment g.D.Disk.left_since (λ j. j.down) (λ j. option_map (λ _. payload_of j.frame.items) j.down)
+    comes_down {K = Journal g.row.D.Denot g.D.Disk} _ _ _ _ _ _ g.D.Disk.told g.D.Disk.may_leave g.D.Disk.moment g.D.Disk.left_since (λ j. j.down) (λ j. option_map (λ _. payload_of j.frame.items) j.down)
     g.B.Since.since g.B.Since.least g.B.Since.before c.args.disk c.disk_of.result c.in-Ok.store c.in-Ok-hold_serving.store c.in-Ok.ensures.stored began c.in-Ok.ensures.fresh.1 c.requires.begun
     c.in-Ok-hold_serving.ensures.fallen c.in-Ok-hold_serving.ensures.flies c.disk_of.ensures.holds c.disk_of.ensures.leaves _ _ c.in-Ok-hold_serving.end
     (λ x is. counted_by _ _ _ x.count began c.disk_of.ensures.faults (c.in-Ok-hold_serving.ensures.counted x is)) c.in-Ok-hold_serving.ensures.comes

@@ -48,6 +48,9 @@ returns-in-Ok-Read-clause-comes g c =
         follows = c.read.ensures.follows;
         knew = known.0;
         knows = known.1;
+        turn = c.read.ensures.turn;
+        linked = c.read.ensures.linked;
+        still = c.read.ensures.still;
         grows = c.read.ensures.grows;
       })),
     )
@@ -63,6 +66,8 @@ returns-in-Ok-Change-clause-comes g c =
         one = refl;
         answers = answers.2;
         knows = c.call.ensures.known;
+        undrafted = answers.5;
+        unswept = answers.6;
         grows = c.call.ensures.grows;
       })),
     )
@@ -78,6 +83,7 @@ returns-in-Ok-Collect-clause-comes g c =
         one = refl;
         answers = collects.2;
         knows = c.collect.ensures.known;
+        undrafted = collects.5;
         grows = c.collect.ensures.grows;
       })),
     )

@@ -1,12 +1,11 @@
-use Rattle.std.proofs.Common.{inl, ◌≡◌, ◌+◌, ◌<◌, List, [], Bool, Some, IsTrue, vec_len, rules, arith, ◌||◌, false, ap₂, refl, sym, ◌∙◌, subst}
-use Rattle.std.proofs.lemmas.List.{append-nil}
-use Rattle.cat_desk.specs.Pass.{seen}
+use Rattle.std.proofs.Common.{inl, ◌≡◌, ℕ, ◌+◌, ◌<◌, List, drop, length, ap, Bool, Some, IsTrue, vec_len, rules, arith, ◌||◌, false, ap₂, refl, sym, ◌∙◌, subst}
 use Rattle.cat_desk.specs.declared.pass.Pass.{Pass}
+use Rattle.cat_io.specs.Listening.{first_of}
 use Rattle.cat_serve.specs.Hiring.{IsBack, IsDone, IsIdle}
 use Rattle.cat_serve.specs.Workers.{ends_of}
 use Rattle.cat_serve.specs.declared.worker.Worker.{Worker}
-use Rattle.cat_desk.specs.LogLaws.{begins_on}
-use Rattle.cat_serve.proofs.Workers.{back_more, back_none, counts_on, popped}
+use Rattle.cat_serve.specs.ServingLaws.{grows_to_itself, grows_to_on}
+use Rattle.cat_serve.proofs.Workers.{back_more, back_none, counts_on, numbered_pop, popped, popped_at}
 use Rattle.cat_serve.proofs.serving.dismiss.Goals as goal
 
 none_failed : (a b : Bool) → a ≡ false → b ≡ false → (a || b) ≡ false
@@ -19,9 +18,9 @@ loop-worker-init g c = record {
   number = refl;
   stand = refl;
   spare = refl;
-  begins = ([], sym (append-nil (seen c.args.pass.now)));
+  grows = grows_to_itself c.args.pass.now;
   idle = λ p one all. (one, refl, all);
-  back = λ attempts p all. (back_none (ends_of g.L.In.Source.left g.L.In.Source.faults g.L.Out.Sink.held g.L.Out.Sink.faults) c.args.desk.now attempts _ _ _ _ _, all);
+  back = λ attempts number ahead p dealt all numbered. (back_none (ends_of g.L.In.Source.left g.L.In.Source.faults g.L.Out.Sink.held g.L.Out.Sink.faults) c.args.desk.now attempts _ _ dealt _ _ _ _ _, all, numbered);
   counts = inl refl;
   tells = refl;
   listens = refl;
@@ -29,6 +28,7 @@ loop-worker-init g c = record {
   returned = refl;
   out = refl;
   twins = λ t. refl;
+  dealt = refl;
 }
 
 pub take_back-failed-requires-clause-ready : goal.take_back-failed-requires-clause-ready
@@ -44,6 +44,7 @@ loop-worker-preserved g c =
     let w : Worker g.row.L.Denot g.row.C.Denot = c.in-Some.worker in
     let is : c.pop.result ≡ Some c.in-Some.worker = search rules in
     let b = popped (IsBack g.L.Listener.faults c.args.desk.now) _ _ _ w c.pop.ensures.items is i.others in
+    let long : length c.pop.new.self.items ≡ vec_len c.pop.new.self = search rules in
     let less : vec_len c.pop.new.self + 1 ≡ vec_len c.loop-worker.others = search rules in
     let here : IsTrue (g.L.Listener.tells c.args.listener.now) → IsTrue (g.L.Listener.tells c.loop-worker.listener) = λ x. subst (λ (y : Bool). IsTrue y) (sym i.tells) x in
     let some : IsTrue (g.L.Listener.tells c.args.listener.now) → 0 < g.L.Listener.twins c.loop-worker.listener = λ x. let e = i.twins x in let m = c.requires.twins x in omega arith in
@@ -53,20 +54,24 @@ loop-worker-preserved g c =
       number = t.kept.0 ∙ i.number;
       stand = let e = t.kept.1 in let one = b.1.one in let s = i.stand in omega arith;
       spare = let e = t.kept.2 in let none = b.1.none in let s = i.spare in omega arith;
-      begins = begins_on _ _ _ i.begins t.begins.0;
+      grows = grows_to_on c.args.pass.now c.loop-worker.pass c.take_back-failed.new.pass i.grows t.grows.0;
       idle = λ p one all.
           let r = i.idle p one all in
           let q = popped (IsIdle {L = g.row.L.Denot} {C = g.row.C.Denot} p) _ _ _ w c.pop.ensures.items is r.2 in
           (t.remembers p r.0 q.1.remembers, none_failed c.loop-worker.failed c.take_back-failed.result r.1 (t.failed ∙ q.1.works), q.0);
-      back = λ attempts p all.
-          let r = i.back attempts p all in
+      back = λ attempts number ahead p dealt all numbered.
+          let r = i.back attempts number ahead p dealt all numbered in
+          let n = numbered_pop number _ _ _ w c.pop.ensures.items is r.2 in
           let q =
-          popped
-          (IsDone (ends_of g.L.In.Source.left g.L.In.Source.faults g.L.Out.Sink.held g.L.Out.Sink.faults) c.args.desk.now attempts g.L.Listener.returned g.L.Listener.faults (g.L.Listener.tells c.args.listener.now) p)
+          popped_at
+          (λ (k : ℕ) (v : Worker g.row.L.Denot g.row.C.Denot). IsDone (ends_of g.L.In.Source.left g.L.In.Source.faults g.L.Out.Sink.held g.L.Out.Sink.faults) c.args.desk.now attempts
+          g.L.Listener.waiting g.L.Listener.returned g.L.Listener.faults (g.L.Listener.tells c.args.listener.now) ahead p (first_of (drop k dealt)) v)
           _ _ _ w c.pop.ensures.items is r.1 in (
-            back_more (ends_of g.L.In.Source.left g.L.In.Source.faults g.L.Out.Sink.held g.L.Out.Sink.faults) c.args.desk.now attempts _ _ p g.L.Listener.returned g.L.Listener.faults w _ _ _ _ _
-                c.loop-worker.pass _ r.0 q.1 less (λ x. t.rejoined (here x) (some x)) t.begins.0 t.begins.1,
+            back_more (ends_of g.L.In.Source.left g.L.In.Source.faults g.L.Out.Sink.held g.L.Out.Sink.faults) c.args.desk.now attempts _ _ dealt number p ahead g.L.Listener.waiting g.L.Listener.returned g.L.Listener.faults w
+                c.loop-worker.failed c.take_back-failed.result _ _ _ _ _ c.loop-worker.pass _ r.0 (subst (λ (k : ℕ). IsDone (ends_of g.L.In.Source.left g.L.In.Source.faults g.L.Out.Sink.held g.L.Out.Sink.faults) c.args.desk.now attempts g.L.Listener.waiting g.L.Listener.returned g.L.Listener.faults
+                (g.L.Listener.tells c.args.listener.now) ahead p (first_of (drop k dealt)) w) long q.1) t.failed (n.1 ∙ ap (λ (k : ℕ). number + k) long) less (λ x. t.rejoined (here x) (some x)) t.grows.0 t.grows.1,
             q.0,
+            n.0,
           );
       counts = counts_on c.loop-worker.failed _ _ _ _ i.counts (t.counts b.1.counts);
       tells = t.stands.tells ∙ i.tells;
@@ -75,7 +80,11 @@ loop-worker-preserved g c =
       returned = t.own.returned ∙ i.returned;
       out = t.own.out ∙ i.out;
       twins = λ x. let e = i.twins x in let m = some x in let n = t.twins (here x) in omega arith;
+      dealt = t.dealt ∙ i.dealt;
     }
+
+pub returns-clause-grows : goal.returns-clause-grows
+returns-clause-grows g c = c.loop-worker.invariant.grows
 
 pub returns-clause-idle : goal.returns-clause-idle
 returns-clause-idle g c p one all = let r = c.loop-worker.invariant.idle p one all in (r.0, r.1)

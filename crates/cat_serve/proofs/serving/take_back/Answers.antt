@@ -6,8 +6,8 @@ use Rattle.cat_serve.proofs.serving.take_back.Goals as goal
 pub returns-clause-ready : goal.returns-clause-ready
 returns-clause-ready g c = join_is_ready c.args.desk.now c.args.pass.now _ _ c.requires.ready.0 c.requires.ready.1 c.join.ensures.free.0 c.join.ensures.left.0 c.join.ensures.seen.0 c.join.ensures.whole.0
 
-pub returns-clause-begins : goal.returns-clause-begins
-returns-clause-begins g c = c.join.ensures.whole
+pub returns-clause-grows : goal.returns-clause-grows
+returns-clause-grows g c = let j = c.join.ensures in ((j.whole.0, j.grows.0), (j.whole.1, j.grows.1))
 
 pub returns-clause-remembers : goal.returns-clause-remembers
 returns-clause-remembers g c p one two =

@@ -16,6 +16,7 @@ connections-init g c = record {
   out = λ t. refl;
   rejoined = refl;
   twins = refl;
+  dealt = refl;
   served = own_none (ends_of g.L.In.Source.left g.L.In.Source.faults g.L.Out.Sink.held g.L.Out.Sink.faults) c.args.desk.now c.args.settings.attempts _ _ _ _ _;
 }
 
@@ -37,6 +38,7 @@ connections-preserved g c =
       out = λ t. let a = more t in let b = c.back.ensures.out (there t) in let d = i.out t in omega arith;
       rejoined = c.back.ensures.others.rejoined ∙ c.accept.ensures.others.rejoined ∙ i.rejoined;
       twins = c.back.ensures.others.twins ∙ c.accept.ensures.others.twins ∙ i.twins;
+      dealt = c.back.ensures.others.dealt ∙ c.accept.ensures.others.dealt ∙ i.dealt;
       served = own_more (ends_of g.L.In.Source.left g.L.In.Source.faults g.L.Out.Sink.held g.L.Out.Sink.faults) c.args.desk.now c.args.settings.attempts _ _ _ _ _
           (g.L.Listener.waiting c.connections.listener) _ (g.L.Listener.returned c.connections.listener) _
           (c.in-Ok-Some.input, c.in-Ok-Some.output) (c.serve_connection.new.source, c.serve_connection.new.sink) c.connections.pass (g.C.Clock.ahead c.connections.clock) _ _ i.served
@@ -61,7 +63,7 @@ returns-in-Ok-None g c =
       counts = inl (c.in-Ok-None.ensures.cause.stays ∙ i.faults);
       stands = record { tells = c.accept.ensures.stands.tells ∙ i.tells; listens = c.accept.ensures.stands.listens ∙ i.listens };
       out = λ t. counted_none Failed _ _ c.in-Ok-None.field-0 (c.in-Ok-None.ensures.out (here t)) is ∙ i.out t;
-      others = record { rejoined = c.accept.ensures.others.rejoined ∙ i.rejoined; twins = c.accept.ensures.others.twins ∙ i.twins };
+      others = record { rejoined = c.accept.ensures.others.rejoined ∙ i.rejoined; twins = c.accept.ensures.others.twins ∙ i.twins; dealt = c.accept.ensures.others.dealt ∙ i.dealt };
     }
 
 pub returns-in-Err : goal.returns-in-Err
@@ -77,7 +79,7 @@ returns-in-Err g c =
       counts = subst (λ (n : ℕ). Rose n (g.L.Listener.faults c.accept.new.self)) i.faults c.in-Err.ensures.cause.failed;
       stands = record { tells = c.accept.ensures.stands.tells ∙ i.tells; listens = c.accept.ensures.stands.listens ∙ i.listens };
       out = λ t. let a = c.in-Err.ensures.out (here t) in let d = i.out t in omega arith;
-      others = record { rejoined = c.accept.ensures.others.rejoined ∙ i.rejoined; twins = c.accept.ensures.others.twins ∙ i.twins };
+      others = record { rejoined = c.accept.ensures.others.rejoined ∙ i.rejoined; twins = c.accept.ensures.others.twins ∙ i.twins; dealt = c.accept.ensures.others.dealt ∙ i.dealt };
     }
   where
     not_failed : true ≡ false → ⊥

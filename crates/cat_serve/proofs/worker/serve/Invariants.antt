@@ -15,6 +15,7 @@ invariant-connections g l = record {
   out : IsTrue (g.L.Listener.tells l.fn.listener) → g.L.Listener.out l.listener ≡ g.L.Listener.out l.fn.listener;
   rejoined : g.L.Listener.rejoined l.listener ≡ g.L.Listener.rejoined l.fn.listener;
   twins : g.L.Listener.twins l.listener ≡ g.L.Listener.twins l.fn.listener;
+  dealt : g.L.Listener.dealt l.listener ≡ g.L.Listener.dealt l.fn.listener;
   served : ServesOwn (ends_of g.L.In.Source.left g.L.In.Source.faults g.L.Out.Sink.held g.L.Out.Sink.faults) l.fn.desk l.settings.attempts (g.L.Listener.tells l.fn.listener)
       (g.L.Listener.waiting l.fn.listener) (g.L.Listener.waiting l.listener) (g.L.Listener.returned l.fn.listener) (g.L.Listener.returned l.listener)
       l.fn.pass (g.C.Clock.ahead l.fn.clock) l.pass (g.C.Clock.ahead l.clock);
