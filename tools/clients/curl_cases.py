@@ -1,4 +1,4 @@
-"""`curl`: the tour of README (a table, a branch, a conflict, a merge, a collection), and the forms that it can send."""
+"""`curl`: a tour (a table, a branch, a conflict, a merge, a collection), and the forms that it can send."""
 import json
 import shutil
 import subprocess
