@@ -5,6 +5,7 @@ pub mod StreamLemmas
 pub mod NumberLemmas
 pub mod NextLemmas
 pub mod ReadingLemmas
+pub mod WindowLemmas
 pub mod PutLemmas
 pub mod GatherLemmas
 pub mod OneWay

@@ -125,6 +125,18 @@ answer_cut_head (Some xs) (Some ys) given b hs e stream none = record {
   not_large = λ large. none large.0 large.1 large.2;
 }
 
+-- nothing was read
+pub answer_no_room : (left : Option (List ℕ)) (b : List ℕ) (hs : List HeaderSpan) (e : ℕ) → OutcomeOf outcome.NoRoom left left (take e b) b hs e
+answer_no_room None b hs e = tt
+answer_no_room (Some m) b hs e = refl
+
+-- where there was no room, what was read is kept
+pub kept_stream : (old new : Option (List ℕ)) (given b : List ℕ) (hs : List HeaderSpan) (e : ℕ) → OutcomeOf outcome.NoRoom old new given b hs e
+    → KeepsStream old new given (take e b)
+kept_stream None new given b hs e is = tt
+kept_stream (Some xs) None given b hs e is = is
+kept_stream (Some xs) (Some ys) given b hs e is = is
+
 -- what a body behind the head comes to is what the stream comes to
 pub outcome_behind : (o : Outcome) (old mid new : Option (List ℕ)) (given seen b : List ℕ) (hs : List HeaderSpan) (e : ℕ) → KeepsStream old mid given seen
     → OutcomeOf o mid new seen b hs e → OutcomeOf o old new given b hs e

@@ -1,8 +1,6 @@
 -- From what the buffer's bytes say to what callers see.
-use Rattle.std.proofs.Common.{arith, ◌≡◌, ℕ, ◌+◌, ◌-◌, ◌≤◌, List, ◌++◌, length, take, drop, sym, ap, ◌∙◌, length-drop, subst}
+use Rattle.std.proofs.Common.{◌≡◌, ℕ, List, ◌++◌, sym, subst}
 use Rattle.std.specs.Prelude.{Option, Some, None, slice_range}
-use Rattle.std.specs.List.{copy_within}
-use Rattle.std.proofs.lemmas.List.{take_at, length-take-le}
 use Rattle.httparse.specs.declared.spans.HeaderSpan.{HeaderSpan}
 use Rattle.httparse.specs.declared.spans.RequestSpans.{RequestSpans}
 use Rattle.cat_http.specs.Message.{Buffered, message_at}
@@ -11,12 +9,6 @@ use Rattle.cat_http.specs.Outcome.{OutcomeOf}
 use Rattle.cat_http.specs.Reading.{IncomingOf}
 use Rattle.cat_http.specs.declared.next.Outcome.TheVariants as outcome
 use Rattle.cat_http.specs.declared.buffer.Incoming.TheVariants as incoming
-
--- what was moved to the front
-pub moved : (bytes new : List ℕ) (i j : ℕ) → i ≤ j → j ≤ length bytes → new ≡ copy_within bytes i j 0 → take (j - i) new ≡ slice_range bytes i j
-moved bytes new i j order within is =
-    let part : length (take (j - i) (drop i bytes)) ≡ j - i = length-take-le (j - i) (drop i bytes) (omega (arith, length-drop i bytes)) in
-    ap (take (j - i)) is ∙ take_at (take (j - i) (drop i bytes)) (drop (0 + (j - i)) bytes) (j - i) part
 
 pub incoming_request : (old new : Option (List ℕ)) (before : Buffered) (seen bytes bytes' : List ℕ) (hs hs' : List HeaderSpan) (head : RequestSpans) (stop next end : ℕ)
     → seen ≡ before.unread → OutcomeOf (outcome.Request head stop next) old new seen bytes hs end → bytes' ≡ bytes → hs' ≡ hs
@@ -53,10 +45,3 @@ pub incoming_fault : (old new : Option (List ℕ)) (before now : Buffered) (seen
 incoming_fault None new before now seen bytes hs end same is = tt
 incoming_fault (Some xs) None before now seen bytes hs end same is = is
 incoming_fault (Some xs) (Some ys) before now seen bytes hs end same is = subst (λ s. IsCut (s ++ xs) ys) same is
-
--- what a slice of a vector has moved to the front stands at the front of the vector
-pub compacted : (items first new : List ℕ) (i j len : ℕ) → i ≤ j → j ≤ length items → len ≡ length items → first ≡ items
-    → new ≡ copy_within first i j 0 → length new ≡ length first → take (j - i) (take len (new ++ drop (length new) items)) ≡ slice_range items i j
-compacted items first new i j len order within all same is kept =
-    let whole : take len (new ++ drop (length new) items) ≡ new = take_at new (drop (length new) items) len (omega (arith, ap length same)) in
-    ap (take (j - i)) whole ∙ moved items new i j order within (is ∙ ap (λ xs. copy_within xs i j 0) same)

@@ -13,4 +13,5 @@ pub mod Reading
 pub mod Reply
 pub mod Request
 pub mod Streams
+pub mod Window
 pub mod Writing

@@ -1,8 +1,23 @@
-ghost use Rattle.std.specs.Prelude.{◌≡◌, ◌≢◌, ◌-◌, ◌≤◌, [], IfOk, length, take, slice_range};
+ghost use Rattle.std.specs.Prelude.{
+  ◌≡◌,
+  ◌≢◌,
+  ◌+◌,
+  ◌-◌,
+  ◌<◌,
+  ◌≤◌,
+  [],
+  IfOk,
+  length,
+  take,
+  slice_range,
+  vec_capacity,
+};
 ghost use Rattle.std.specs.Io.KnownBytes.{IsAtEnd};
 ghost use Rattle.cat_io.specs.Causes.{Rose};
 ghost use Rattle.cat_http.specs.Next.{HoldsRequest};
+ghost use Rattle.cat_http.specs.Outcome.{OutcomeFits, OutcomeOf};
 ghost use Rattle.cat_http.specs.Reading.{IncomingOf};
+ghost use Rattle.cat_http.specs.Window.{window};
 
 use crate::next::{BUFFER_LEN, Outcome, read_next};
 use crate::request::{Request, show};
@@ -11,10 +26,20 @@ use httparse::spans::{EMPTY_HEADER_SPAN, HeaderSpan, RequestSpans, Span};
 use std::alloc::{AllocError, Global};
 use std::marker::Model;
 
+// How far behind the front of a buffer's bytes its window may begin.
+const SLACK: usize = 65536;
+
+// How many bytes a buffer shows at first. The room for more is there, and is filled with zeros
+// when a request needs it.
+const FIRST_LEN: usize = 131072;
+
 /// Room for the largest request, and for what was read past it.
+// A request is read into the window of the bytes from `base` on; the other places count from
+// there.
 #[derive(Drop)]
 pub struct Buffer {
     bytes: Vec<u8>,
+    base: usize,
     headers: Vec<HeaderSpan>,
     head: RequestSpans,
     stop: usize,
@@ -47,12 +72,13 @@ impl Buffer {
     pub fn new(alloc: Global) -> Result<Buffer, AllocError>
         ensures { IfOk result (λ b. b.unread ≡ []) }
     {
-        let mut bytes = Vec::with_capacity(alloc, BUFFER_LEN)?;
-        bytes.resize(BUFFER_LEN, 0u8)?;
+        let mut bytes = Vec::with_capacity(alloc, BUFFER_LEN + SLACK)?;
+        bytes.resize(FIRST_LEN, 0u8)?;
         let mut headers = Vec::with_capacity(alloc, 64)?;
         headers.resize(64, EMPTY_HEADER_SPAN)?;
         Ok(Buffer {
             bytes,
+            base: 0,
             headers,
             head: NO_HEAD,
             stop: 0,
@@ -66,7 +92,7 @@ impl Buffer {
         ensures { result ≡ self.now.message }
     {
         show(
-            &self.bytes.as_slice()[..self.stop],
+            &self.bytes.as_slice()[self.base..self.base + self.stop],
             self.headers.as_slice(),
             self.head,
         )
@@ -89,19 +115,117 @@ pub enum Incoming {
     ReadFault,
 }
 
-fn move_to_front(bytes: &mut Vec<u8>, start: usize, end: usize)
+// Where the next window begins, whose first bytes are the unread ones of this. They are moved only
+// where it would begin past the slack: a pass over them is made once in 65,536 bytes that are done
+// with, and not for each request.
+fn advance(bytes: &mut Vec<u8>, base: usize, start: usize, end: usize) -> usize
+    requires base { base ≤ 65536 }
     requires order { start ≤ end }
-    requires within { end ≤ length bytes.old.items }
+    requires within { base + end ≤ length bytes.old.items }
     ensures room { length bytes.new.items ≡ length bytes.old.items }
-    ensures front { take (end - start) bytes.new.items ≡ slice_range bytes.old.items start end }
+    ensures capacity { vec_capacity bytes.new ≡ vec_capacity bytes.old }
+    ensures base { result ≤ 65536 }
+    ensures within { result + (end - start) ≤ length bytes.new.items }
+    ensures front { take (end - start) (window bytes.new.items result)
+        ≡ slice_range (window bytes.old.items base) start end }
 {
-    bytes.as_mut_slice().copy_within(start..end, 0);
+    if base + start <= SLACK {
+        return base + start;
+    }
+    bytes
+        .as_mut_slice()
+        .copy_within(base + start..base + end, 0);
+    0
+}
+
+// Shows all the room that there is.
+fn widen(bytes: &mut Vec<u8>)
+    requires few { length bytes.old.items ≤ 2179074 }
+    requires capacity { 2179074 ≤ vec_capacity bytes.old }
+    ensures room { length bytes.new.items ≡ 2179074 }
+    ensures capacity { 2179074 ≤ vec_capacity bytes.new }
+    ensures front { take (length bytes.old.items) bytes.new.items ≡ bytes.old.items }
+{
+    if bytes.resize(BUFFER_LEN + SLACK, 0u8).is_err() {
+        unreachable!()
+    }
+}
+
+// Reads until the window at `base` begins with a request, or has no room for it.
+fn read_here<S: Source>(
+    source: &mut S,
+    bytes: &mut Vec<u8>,
+    base: usize,
+    headers: &mut [HeaderSpan],
+    end: &mut usize,
+) -> Outcome
+    requires room { 131072 ≤ length bytes.old.items }
+    requires base { base ≤ 65536 }
+    requires filled { base + end.old ≤ length bytes.old.items }
+    requires slots { length headers.old ≡ 64 }
+    ensures room { length bytes.new.items ≡ length bytes.old.items }
+    ensures capacity { vec_capacity bytes.new ≡ vec_capacity bytes.old }
+    ensures within { base + end.new ≤ length bytes.new.items }
+    ensures fits { OutcomeFits result (window bytes.new.items base) headers.new end.new }
+    ensures is { OutcomeOf result (S.left source.old) (S.left source.new)
+        (take end.old (window bytes.old.items base)) (window bytes.new.items base) headers.new
+        end.new }
+    ensures few { result ≡ Outcome.NoRoom → length bytes.old.items < base + 2113538 }
+    ensures still { result ≡ Outcome.NoRoom
+        → HoldsRequest (take end.old (window bytes.old.items base))
+        → take end.new (window bytes.new.items base) ≡ take end.old (window bytes.old.items base) }
+    ensures ends { result ≡ Outcome.End → IsAtEnd (S.left source.new) }
+    ensures fault { result ≡ Outcome.Fault → Rose (S.faults source.old) (S.faults source.new) }
+    ensures later { S.faults source.old ≤ S.faults source.new }
+    ensures stays { result ≢ Outcome.Fault → S.faults source.new ≡ S.faults source.old }
+    ensures waits { HoldsRequest (take end.old (window bytes.old.items base))
+        → source.new ≡ source.old }
+{
+    let len = bytes.len();
+    read_next(source, &mut bytes.as_mut_slice()[base..len], headers, end)
+}
+
+// Reads until the window at `base` begins with a request.
+fn read_window<S: Source>(
+    source: &mut S,
+    bytes: &mut Vec<u8>,
+    base: usize,
+    headers: &mut [HeaderSpan],
+    end: &mut usize,
+) -> Outcome
+    requires room { 131072 ≤ length bytes.old.items }
+    requires capacity { 2179074 ≤ vec_capacity bytes.old }
+    requires base { base ≤ 65536 }
+    requires filled { base + end.old ≤ length bytes.old.items }
+    requires slots { length headers.old ≡ 64 }
+    ensures room { 131072 ≤ length bytes.new.items }
+    ensures capacity { 2179074 ≤ vec_capacity bytes.new }
+    ensures within { base + end.new ≤ length bytes.new.items }
+    ensures fits { OutcomeFits result (window bytes.new.items base) headers.new end.new }
+    ensures is { OutcomeOf result (S.left source.old) (S.left source.new)
+        (take end.old (window bytes.old.items base)) (window bytes.new.items base) headers.new
+        end.new }
+    ensures answers { result ≢ Outcome.NoRoom }
+    ensures ends { result ≡ Outcome.End → IsAtEnd (S.left source.new) }
+    ensures fault { result ≡ Outcome.Fault → Rose (S.faults source.old) (S.faults source.new) }
+    ensures later { S.faults source.old ≤ S.faults source.new }
+    ensures stays { result ≢ Outcome.Fault → S.faults source.new ≡ S.faults source.old }
+    ensures waits { HoldsRequest (take end.old (window bytes.old.items base))
+        → source.new ≡ source.old }
+{
+    match read_here(source, bytes, base, headers, end) {
+        Outcome::NoRoom => {}
+        other => return other,
+    }
+    widen(bytes);
+    read_here(source, bytes, base, headers, end)
 }
 
 /// Reads the next request into the buffer. It takes no memory.
 pub fn read_request<S: Source>(source: &mut S, buffer: &mut Buffer) -> Incoming
-    // The answer is that of the bytes unread and the bytes left, in whatever pieces they come. A read
-    // that fails leaves only a request that was cut: as any read may fail, none follows a whole one.
+    // The answer is that of the bytes unread and the bytes left, in whatever pieces they come. A
+    // read that fails leaves only a request that was cut: as any read may fail, none follows a
+    // whole one.
     ensures is { IncomingOf result (S.left source.old) buffer.old (S.left source.new) buffer.new }
     ensures ends { result ≡ Incoming.End → IsAtEnd (S.left source.new) }
     ensures fault { result ≡ Incoming.ReadFault → Rose (S.faults source.old) (S.faults source.new) }
@@ -111,14 +235,16 @@ pub fn read_request<S: Source>(source: &mut S, buffer: &mut Buffer) -> Incoming
     ensures waits { HoldsRequest buffer.old.unread → source.new ≡ source.old }
 {
     let unread = buffer.end - buffer.start;
-    move_to_front(&mut buffer.bytes, buffer.start, buffer.end);
+    let base = advance(&mut buffer.bytes, buffer.base, buffer.start, buffer.end);
+    buffer.base = base;
     buffer.head = NO_HEAD;
     buffer.stop = 0;
     buffer.start = 0;
     let mut end = unread;
-    let outcome = read_next(
+    let outcome = read_window(
         source,
-        buffer.bytes.as_mut_slice(),
+        &mut buffer.bytes,
+        base,
         buffer.headers.as_mut_slice(),
         &mut end,
     );
@@ -133,6 +259,7 @@ pub fn read_request<S: Source>(source: &mut S, buffer: &mut Buffer) -> Incoming
         Outcome::End => Incoming::End,
         Outcome::Malformed => Incoming::BadHead,
         Outcome::TooLarge => Incoming::TooLarge,
+        Outcome::NoRoom => unreachable!(),
         Outcome::Fault => Incoming::ReadFault,
     }
 }

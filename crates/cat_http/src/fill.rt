@@ -6,6 +6,10 @@ ghost use Rattle.cat_http.specs.Lines.{has_line_feed};
 
 use cat_io::Source;
 
+// The longest read. What is read past a request may have to be moved later, so a long source is
+// not read far ahead.
+const READ_LEN: usize = 65536;
+
 /// What one read gave.
 #[derive(Clone, Copy)]
 pub enum Filled {
@@ -14,8 +18,8 @@ pub enum Filled {
     Fault,
 }
 
-/// Reads once behind the first `end` bytes.
-pub fn fill<S: Source>(source: &mut S, bytes: &mut [u8], end: &mut usize) -> Filled
+// Reads once behind the first `end` bytes.
+fn fill<S: Source>(source: &mut S, bytes: &mut [u8], end: &mut usize) -> Filled
     requires { end.old < length bytes.old }
     ensures grows { end.old ≤ end.new }
     ensures within { end.new ≤ length bytes.new }
@@ -29,7 +33,8 @@ pub fn fill<S: Source>(source: &mut S, bytes: &mut [u8], end: &mut usize) -> Fil
     ensures stream { KeepsStream (S.left source.old) (S.left source.new) (take end.old bytes.old)
         (take end.new bytes.new) }
 {
-    match source.read(&mut bytes[*end..]) {
+    let stop = *end + (bytes.len() - *end).min(READ_LEN);
+    match source.read(&mut bytes[*end..stop]) {
         Ok(0) => Filled::End,
         Ok(count) => {
             *end += count;
@@ -72,7 +77,8 @@ pub fn read_until<S: Source>(
 }
 
 /// Reads until a line feed has come, or more than `limit` bytes are there: a line that comes in
-/// small pieces isn't to be parsed at each of them.
+/// small pieces isn't to be parsed at each of them. The first bytes of a request come alone, so
+/// that what begins as no request does is known at once.
 pub fn fill_line<S: Source>(
     source: &mut S,
     bytes: &mut [u8],
@@ -102,7 +108,7 @@ pub fn fill_line<S: Source>(
             Filled::End if before > first => return Filled::More,
             other => return other,
         }
-        if *end > limit || has_line_feed(&bytes[before..*end]) {
+        if before == 0 || *end > limit || has_line_feed(&bytes[before..*end]) {
             return Filled::More;
         }
     }

@@ -1,6 +1,6 @@
 //! Requests and replies of HTTP/1.1 over any source and sink. What `read_request` answers is a
-//! relation of the whole stream of bytes, in whatever pieces it comes; one stream has one reading. A
-//! read that fails leaves no request that had come whole.
+//! relation of the whole stream of bytes, in whatever pieces it comes; one stream has one reading.
+//! A read that fails leaves no request that had come whole.
 //! Reading and writing take no memory.
 #![tactic(auto)]
 

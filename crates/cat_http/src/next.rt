@@ -6,14 +6,15 @@ ghost use Rattle.cat_http.specs.Head.{FoundHead};
 ghost use Rattle.cat_http.specs.Next.{HoldsRequest};
 ghost use Rattle.cat_http.specs.Outcome.{OutcomeFits, OutcomeOf};
 
-use crate::chunked::{ChunkedRead, read_chunks};
+use crate::chunked::{ChunkedRead, RAW_LIMIT, read_chunks};
 use crate::fields::{BodyLength, body_length};
 use crate::fill::{Filled, read_until};
 use crate::head::{HeadRead, read_head};
 use cat_io::Source;
 use httparse::spans::{HeaderSpan, RequestSpans};
 
-/// How many bytes a buffer has: those of a head and of a body in chunks, and two more.
+/// How many bytes are enough for each request: those of a head and of a body in chunks, and two
+/// more.
 pub const BUFFER_LEN: usize = 2113538;
 
 /// What reading a request gave.
@@ -24,6 +25,8 @@ pub enum Outcome {
     End,
     Malformed,
     TooLarge,
+    /// The request has a head, and needs more room than there is.
+    NoRoom,
     Fault,
 }
 
@@ -34,7 +37,7 @@ pub fn read_next<S: Source>(
     headers: &mut [HeaderSpan],
     end: &mut usize,
 ) -> Outcome
-    requires room { length bytes.old ≡ 2113538 }
+    requires room { 16384 < length bytes.old }
     requires filled { end.old ≤ length bytes.old }
     requires slots { length headers.old ≡ 64 }
     ensures within { end.new ≤ length bytes.new }
@@ -45,6 +48,9 @@ pub fn read_next<S: Source>(
     ensures fault { result ≡ Outcome.Fault → Rose (S.faults source.old) (S.faults source.new) }
     ensures later { S.faults source.old ≤ S.faults source.new }
     ensures stays { result ≢ Outcome.Fault → S.faults source.new ≡ S.faults source.old }
+    ensures room { result ≡ Outcome.NoRoom → length bytes.old < 2113538 }
+    ensures still { result ≡ Outcome.NoRoom → HoldsRequest (take end.old bytes.old)
+        → take end.new bytes.new ≡ take end.old bytes.old }
     ensures waits { HoldsRequest (take end.old bytes.old) → source.new ≡ source.old }
 {
     match read_head(source, bytes, headers, end) {
@@ -63,7 +69,6 @@ fn read_body<S: Source>(
     end: &mut usize,
     head: RequestSpans,
 ) -> Outcome
-    requires room { length bytes.old ≡ 2113538 }
     requires filled { end.old ≤ length bytes.old }
     requires slots { length headers.now ≡ 64 }
     requires short { head.len ≤ 16384 }
@@ -77,20 +82,30 @@ fn read_body<S: Source>(
     ensures fault { result ≡ Outcome.Fault → Rose (S.faults source.old) (S.faults source.new) }
     ensures later { S.faults source.old ≤ S.faults source.new }
     ensures stays { result ≢ Outcome.Fault → S.faults source.new ≡ S.faults source.old }
+    ensures room { result ≡ Outcome.NoRoom → length bytes.old < 2113538 }
+    ensures still { result ≡ Outcome.NoRoom → (end.new ≡ end.old) × (bytes.new ≡ bytes.old) }
     ensures waits { HoldsRequest (take end.old bytes.old) → source.new ≡ source.old }
 {
     let body = match body_length(&bytes[..*end], &headers[..head.headers]) {
         BodyLength::Bytes(count) => count,
-        BodyLength::Chunked => return match read_chunks(source, bytes, end, head.len) {
-            ChunkedRead::Whole(kept, at) => Outcome::Request(head, head.len + kept, at),
-            ChunkedRead::Malformed => Outcome::Malformed,
-            ChunkedRead::TooLarge => Outcome::TooLarge,
-            ChunkedRead::Fault => Outcome::Fault,
-        },
+        BodyLength::Chunked => {
+            if bytes.len() <= head.len + RAW_LIMIT {
+                return Outcome::NoRoom;
+            }
+            return match read_chunks(source, bytes, end, head.len) {
+                ChunkedRead::Whole(kept, at) => Outcome::Request(head, head.len + kept, at),
+                ChunkedRead::Malformed => Outcome::Malformed,
+                ChunkedRead::TooLarge => Outcome::TooLarge,
+                ChunkedRead::Fault => Outcome::Fault,
+            };
+        }
         BodyLength::Malformed => return Outcome::Malformed,
         BodyLength::Excess => return Outcome::TooLarge,
     };
     let stop = head.len + body;
+    if stop > bytes.len() {
+        return Outcome::NoRoom;
+    }
     match read_until(source, bytes, end, stop) {
         Filled::More => Outcome::Request(head, stop, stop),
         Filled::End => Outcome::Malformed,

@@ -119,8 +119,8 @@ impl Response {
     }
 }
 
-/// Writes the reply, or a front of it where the sink fails. It takes no memory. A small reply is one
-/// write and a large one two, where the sink takes all that it is handed.
+/// Writes the reply, or a front of it where the sink fails. It takes no memory. A small reply is
+/// one write and a large one two, where the sink takes all that it is handed.
 pub fn write_reply<K: Sink>(sink: &mut K, reply: &Response) -> Result<(), WriteFault>
     ensures { Wrote (K.held sink.old) (K.held sink.new) (K.faults sink.old) (K.faults sink.new)
         result (render reply.now) }

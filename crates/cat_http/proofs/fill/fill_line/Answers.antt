@@ -17,8 +17,8 @@ pub returns-in_default-2-clause-front : goal.returns-in_default-2-clause-front
 returns-in_default-2-clause-front g c =
     front_kept c.args.bytes.now c.reads.bytes c.fill.new.bytes c.args.end.now c.reads.end c.reads.invariant.grows c.fill.ensures.front c.reads.invariant.front
 
-pub returns-then-end-limit-clause-front : goal.returns-then-end-limit-clause-front
-returns-then-end-limit-clause-front g c =
+pub returns-then-before-eq0-clause-front : goal.returns-then-before-eq0-clause-front
+returns-then-before-eq0-clause-front g c =
     front_kept c.args.bytes.now c.reads.bytes c.fill.new.bytes c.args.end.now c.reads.end c.reads.invariant.grows c.fill.ensures.front c.reads.invariant.front
 
 pub reads-preserved : goal.reads-preserved
