@@ -405,7 +405,8 @@ class Comparison:
                 i = rng.randrange(16)
                 b[i] ^= 1 << rng.randrange(8)
                 version = int.from_bytes(b[8:12], "big")
-                wanted = {damaged(0) if i < 8 else b"nessie: version %d\n" % version if i < 12 else damaged(12)}
+                wanted = {damaged(0) if i < 8 else b"nessie: version %d\n" % version if i < 12
+                          else damaged(12) if i < 15 else self.lines[len(c.log)]}
             elif what == "more":
                 b += bytes(rng.randrange(256) for _ in range(rng.randrange(40)))
                 wanted = {self.lines[len(c.log)]}

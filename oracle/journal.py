@@ -4,7 +4,7 @@ from catalogue import (
     TAG, NORMAL, FORCE, DROP, ALL, COMMITS, SINCE, content_bytes, key_bytes, key_order, listed, meta_bytes,
     option, text, u8, u32, u64)
 
-HEADER = b"NESSIECJ" + u32(1) + u32(0)
+HEADER = b"NESSIECJ" + u32(1) + u32(1)
 KINDS = {"create": 1, "assign": 2, "delete": 3, "commit": 4, "merge": 5, "transplant": 6, "sweep": 7}
 MODES = {NORMAL: 0, FORCE: 1, DROP: 2}
 CUTOFFS = {ALL: 0, COMMITS: 1, SINCE: 2}

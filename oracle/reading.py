@@ -10,6 +10,8 @@ from replies import NoReading, is_name, is_pattern, key_of, need, need_hashes, n
 KIND_OF, TYPE_OF, MODE_OF, CUTOFF_OF = (
     {number: name for name, number in table.items()} for table in (KINDS, TYPE_BYTES, MODES, CUTOFFS))
 MOST_ENTRIES = (1 << 32) - 1
+# The byte of a header's gate in format 2, and a base's kind.
+NEWER, BASE = 1, b"\x08"
 
 
 class Unopened(Exception):
@@ -199,26 +201,43 @@ class Reader:
         return what, place, draft, moment, command, head
 
 
+def framed(file):
+    """Up to the first closed gate each open one with its payload, and the open one that has none, or None."""
+    out, at = [], len(HEADER)
+    while file[at] == 1:
+        end = at + 5 + int.from_bytes(file[at + 1:at + 5], "big")
+        if end >= len(file):
+            return out, at
+        out.append((at, file[at + 5:end]))
+        at = end
+    return out, None
+
+
+def given(frames):
+    """Those that format 2 gives: from the last base on. No base is read here: it is damage."""
+    bases = [i for i, (_, spelled) in enumerate(frames) if spelled[:1] == BASE]
+    return frames[bases[-1]:] if bases else frames
+
+
 def read(file):
     """The entries of a file, each with the bytes that spell it."""
     if not file:
         return []
     if len(file) <= len(HEADER) or file[:8] != HEADER[:8]:
         raise Unopened(b"damaged at 0")
-    version, zero = (int.from_bytes(file[at:at + 4], "big") for at in (8, 12))
+    version = int.from_bytes(file[8:12], "big")
     if version != 1:
         raise Unopened(b"version %d" % version)
-    if zero != 0:
+    if any(file[12:15]):
         raise Unopened(b"damaged at 12")
-    out, at = [], len(HEADER)
-    while file[at] == 1:
-        end = at + 5 + int.from_bytes(file[at + 1:at + 5], "big")
+    out, (frames, broken) = [], framed(file)
+    for at, spelled in given(frames) if file[15] == NEWER else frames:
         try:
-            need(end < len(file))
-            out.append((Reader(file[at + 5:end]).entry(), file[at + 5:end]))
+            out.append((Reader(spelled).entry(), spelled))
         except NoReading:
             raise Unopened(b"damaged at %d" % at)
-        at = end
+    if broken is not None:
+        raise Unopened(b"damaged at %d" % broken)
     return out
 
 

@@ -25,7 +25,7 @@ import reading
 ROOT = "2e1cfa82b035c26cbbbdae632cea070514eb8b773f616aaeaf668e2f0be8f10d"
 HEAD = "f92df14c291c55081a6374c5074b1394016591b1981cd32b3bddb20a3f86d5d4"
 FILE = bytes.fromhex(
-    "4e4553534945434a 00000001 00000000 01 000000ac 04 00000001 0000000000000001 00000000000f4240"
+    "4e4553534945434a 00000001 00000001 01 000000ac 04 00000001 0000000000000001 00000000000f4240"
     "00000004 6d61696e 01" + ROOT + "00000003 6f6e65 00000000 00000000 00000000 00"
     "00000001 01 0002 7431 01 01 0000002b"
     "01 0000000000000001 0000000000000000 00000002 6d31 0000000000000001 00000000 00000000 00000000"
@@ -50,8 +50,10 @@ def told(place, value):
         return "nessie: damaged at 0"
     if place < 12:
         return "nessie: version %d" % number(8, 4, place, value)
-    if place < 16:  # the field that is 0
+    if place < 15:  # the bytes that are 0
         return "nessie: damaged at 12"
+    if place == 15:  # the format's gate
+        return OF_ONE
     if place == 16:  # the gate, which is closed then
         return OF_NONE
     if place < 22:  # the length, and the kind: nothing shorter, longer or of another kind reads

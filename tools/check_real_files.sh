@@ -15,7 +15,7 @@ exec python3 - "$1" <<'PYTHON'
 import json, os, re, shutil, socket, subprocess, sys, tempfile
 
 FAULT = b"nessie: disk fault\n"
-NEW = b"NESSIECJ\0\0\0\x01\0\0\0\0\0"
+NEW = b"NESSIECJ\0\0\0\x01\0\0\0\x01\0"
 GET = b"GET /api/v2/config HTTP/1.1\r\n\r\n"
 IS_ROOT = os.geteuid() == 0
 NOBODY = 65534

@@ -1,11 +1,12 @@
 -- What opening a store over a keeper comes to, by the keeper's payloads as far as these are told.
-use Rattle.std.specs.Prelude.{◌≡◌, ℕ, ◌+◌, List, [], ◌∷◌, ◌++◌, length, get_or, take, reverse, Option, Some, None, Ok, Err, Bool, true, false, ◌&&◌, nat_eq, is_ok, IfSome}
+use Rattle.std.specs.Prelude.{◌≡◌, ℕ, ◌+◌, List, [], ◌∷◌, ◌++◌, length, get_or, take, reverse, Option, Some, None, Result, Ok, Err, Bool, true, false, ◌&&◌, nat_eq, is_ok, IfSome}
 use Rattle.std.specs.List.{list_any}
 use Rattle.std.specs.Str.{bytes_eq}
 use Rattle.sha2.specs.Sha256.{sha256}
 use Rattle.cat_codes.specs.Code.{whole}
 use Rattle.cat_checks.specs.Legal.{draft_is_new, has_its_draft, may_be_done, read_next, replayed}
 use Rattle.cat_frames.specs.Entries.{is_logged, log_entry_code}
+use Rattle.cat_keeper.specs.Bases.{base_of, base_place, entries_of}
 use Rattle.cat_model.specs.declared.limits.Limits.{Limits}
 use Rattle.cat_model.specs.declared.log_entry.LogEntry.{LogEntry}
 use Rattle.cat_model.specs.Book.{Book, after_call, first_book}
@@ -13,6 +14,14 @@ use Rattle.cat_model.specs.Calls.{Called}
 use Rattle.cat_state.specs.Kept.{spelling, spellings}
 
 -- ---- the whole
+
+-- the book that payloads lead to, or the place of the first that is no entry or isn't legal; no book goes on from a base yet
+abbrev pub led_from : Limits → List (List ℕ) → Option (List ℕ) → Result Book ℕ
+led_from limits payloads None = replayed sha256 (first_book sha256 limits) 0 payloads
+led_from limits payloads (Some base) = Err (base_place base)
+
+abbrev pub led_by : Limits → List (List ℕ) → Result Book ℕ
+led_by limits payloads = led_from limits payloads (base_of payloads)
 
 -- the payloads, executed again from the empty book, lead to this one, and are its log
 pub record IsLedTo (told : Option (List (List ℕ))) (kept : ℕ) (limits : Limits) (book : Book) : Type 0 where
@@ -22,11 +31,11 @@ pub record IsLedTo (told : Option (List (List ℕ))) (kept : ℕ) (limits : Limi
   pub led : replayed sha256 (first_book sha256 limits) 0 payloads ≡ Ok book
   pub spelled : payloads ≡ spellings (reverse book.log)
 
--- the payload at this place, the first from 1, is the first that is no entry or isn't legal
+-- the payload at this place, the first from 1, is the first that is no entry or isn't legal, or the base is of this place
 pub record IsIllegalAt (told : Option (List (List ℕ))) (limits : Limits) (place : ℕ) : Type 0 where
   pub payloads : List (List ℕ)
   pub are : IfSome told (λ ps. ps ≡ payloads)
-  pub refused : replayed sha256 (first_book sha256 limits) 0 payloads ≡ Err place
+  pub refused : led_by limits payloads ≡ Err place
 
 -- ---- one payload
 
@@ -85,6 +94,14 @@ AreDrafts numbers log = (draft : ℕ) → list_any (nat_eq draft) numbers ≡ li
 -- the payload at a place, from 0, where the payloads are told
 abbrev pub IsPayloadAt : Option (List (List ℕ)) → ℕ → List ℕ → Type 0
 IsPayloadAt told i payload = IfSome told (λ ps. payload ≡ get_or ps i [])
+
+-- the entry at a place behind the base, from 0
+abbrev pub IsEntryAt : Option (List (List ℕ)) → ℕ → List ℕ → Type 0
+IsEntryAt told i payload = IfSome told (λ ps. payload ≡ get_or (entries_of ps) i [])
+
+-- there is no base
+abbrev pub HasNoBase : Option (List (List ℕ)) → Type 0
+HasNoBase told = IfSome told (λ ps. base_of ps ≡ None)
 
 -- the first payloads, so many, led to the book
 pub record IsLedSoFar (told : Option (List (List ℕ))) (limits : Limits) (i : ℕ) (book : Book) : Type 0 where

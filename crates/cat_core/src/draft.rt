@@ -32,8 +32,8 @@ pub enum Settled<'a> {
     Done(Told),
     /// The call is refused, and its draft is closed.
     Refused(Refused),
-    /// The branch has another head than the one that was built on. Nothing is done, and the draft is
-    /// open still; the view is of the catalogue as it is.
+    /// The branch has another head than the one that was built on. Nothing is done, and the draft
+    /// is open still; the view is of the catalogue as it is.
     Moved(Draft<'a>, View),
 }
 

@@ -91,8 +91,8 @@ impl<K: Keeper> Store<K> {
         Ok(())
     }
 
-    /// Opens a draft for a call, with a view of the catalogue as it is. What its draft names is kept
-    /// until the draft is closed.
+    /// Opens a draft for a call, with a view of the catalogue as it is. What its draft names is
+    /// kept until the draft is closed.
     pub fn open_draft<'a>(
         &mut self,
         alloc: Global,
@@ -265,10 +265,10 @@ impl<K: Keeper> Store<K> {
         }
     }
 
-    /// Settles a draft by what was built for it, unless the branch has another head than the one that
-    /// was built on. `Done` acknowledges the entry of an accepted call; a `Fault` may have kept it or
-    /// not, and each later call is refused as `Down` at the count of faults then. `Expired` names only
-    /// keys whose content was there at no moment since the draft's opening.
+    /// Settles a draft by what was built for it, unless the branch has another head than the one
+    /// that was built on. `Done` acknowledges the entry of an accepted call; a `Fault` may have
+    /// kept it or not, and each later call is refused as `Down` at the count of faults then.
+    /// `Expired` names only keys whose content was there at no moment since the draft's opening.
     pub fn settle<'a>(
         &mut self,
         alloc: Global,

@@ -1,15 +1,15 @@
 //! The store: a ledger over any keeper of its log, which has each entry before the change of the
-//! entry is seen, and the drafts that are open. A call that opens a draft is opened in one turn; what
-//! it makes of its branch's head is built on a view, outside any turn; and a later turn settles it,
-//! if the branch has that head still, or drops it. A sweep is opened in one turn too; its caller marks
-//! what its roots keep, outside any turn, and is given more roots as entries are made; a later turn
-//! settles it, which removes the contents that nothing kept since its opening, or drops it. What an
-//! open draft names, and was there at some moment since its opening, stays until the draft is closed.
-//! Each call answers what the model's call on the book does and leaves the book that it leaves; or is
-//! refused for want of memory or for a fault of the keeper, which leave state and log as they were.
-//! From a fault on the store only reads, and closes what is open. It is opened over a keeper of any
-//! payloads: each is executed again, and the first that is no entry or may not follow is told by its
-//! place.
+//! entry is seen, and the drafts that are open. A call that opens a draft is opened in one turn;
+//! what it makes of its branch's head is built on a view, outside any turn; and a later turn
+//! settles it, if the branch has that head still, or drops it. A sweep is opened in one turn too;
+//! its caller marks what its roots keep, outside any turn, and is given more roots as entries are
+//! made; a later turn settles it, which removes the contents that nothing kept since its opening,
+//! or drops it. What an open draft names, and was there at some moment since its opening, stays
+//! until the draft is closed. Each call answers what the model's call on the book does and leaves
+//! the book that it leaves; or is refused for want of memory or for a fault of the keeper, which
+//! leave state and log as they were. From a fault on the store only reads, and closes what is open.
+//! It is opened over a keeper of any payloads: each is executed again, and the first that is no
+//! entry or may not follow is told by its place.
 #![tactic(auto)]
 
 mod closing;

@@ -40,8 +40,8 @@ pub(crate) fn mark_roots(
     mark_contents(marks, roots.hashes.as_slice())
 }
 
-/// What is live now, what is live from the references that the entries since a sweep's opening took,
-/// and what its names keep.
+/// What is live now, what is live from the references that the entries since a sweep's opening
+/// took, and what its names keep.
 pub(crate) fn marks_of(
     alloc: Global,
     catalogue: &Catalogue,

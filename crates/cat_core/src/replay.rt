@@ -47,8 +47,9 @@ const MOST_PATTERNS: usize = 1_000;
 pub(crate) struct Replay {
     pub(crate) ledger: Ledger,
     pub(crate) drafts: HashSet<u64>,
-    /// Of each entry the reference that it moved or removed, as it was before, so that a sweep finds
-    /// what was live since its opening. None for an entry that made a reference, and for a sweep.
+    /// Of each entry the reference that it moved or removed, as it was before, so that a sweep
+    /// finds what was live since its opening. None for an entry that made a reference, and for a
+    /// sweep.
     pub(crate) taken: Vec<Option<Reference>>,
 }
 
@@ -360,7 +361,8 @@ impl Replay {
         Ok(true)
     }
 
-    /// Adds the entry that a payload spells; false where it spells none, or its entry may not follow.
+    /// Adds the entry that a payload spells; false where it spells none, or its entry may not
+    /// follow.
     pub(crate) fn add(&mut self, alloc: Global, payload: &[u8]) -> Result<bool, NoMemory>
         requires followed { IsFollowed self.old.drafts.keys self.old.taken.items self.old.ledger }
         ensures adds { IfOk result (Adds self.old.ledger self.new.ledger payload.now) }

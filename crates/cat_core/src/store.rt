@@ -233,8 +233,8 @@ impl<K: Keeper> Store<K> {
         let _ = &self.fallen;
     }
 
-    /// What holds of the state: each reference points at a commit that is there, or at the hash that
-    /// has no ancestor, and each content that is visible where one points is there.
+    /// What holds of the state: each reference points at a commit that is there, or at the hash
+    /// that has no ancestor, and each content that is visible where one points is there.
     pub fn nothing_is_missing(&self)
         ensures heads { HasHeads sha256 self.now.book.state }
         ensures visible { HasVisible self.now.book.state }
@@ -254,8 +254,8 @@ impl<K: Keeper> Store<K> {
         let _ = &self.fallen;
     }
 
-    /// What holds of the drafts that are open: a content that one of them names, or that is visible at
-    /// a commit that it names, and that was there at some moment since its opening, is there.
+    /// What holds of the drafts that are open: a content that one of them names, or that is visible
+    /// at a commit that it names, and that was there at some moment since its opening, is there.
     pub fn keeps_what_drafts_name(&self)
         ensures { AreLasting self.now.book self.now.left_open.drafts }
     {
@@ -284,8 +284,8 @@ impl<K: Keeper> Store<K> {
         let _ = catalogue.references();
     }
 
-    /// What holds of the keeper: it has the entries of the log, the oldest first, and the mark tells
-    /// of its failed append.
+    /// What holds of the keeper: it has the entries of the log, the oldest first, and the mark
+    /// tells of its failed append.
     pub fn log_is_kept(&self)
         ensures payloads { IfSome (K.told self.now.keeper)
             (λ ps. ps ≡ spellings (log_of self.now)) }

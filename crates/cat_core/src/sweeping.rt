@@ -110,9 +110,9 @@ impl<K: Keeper> Store<K> {
         Ok((Sweep { ticket }, roots, view))
     }
 
-    /// Opens a sweep, under the next number of sweeps. It answers the roots of all that the sweep has
-    /// to keep as yet, and a view of the catalogue to mark it on. `SweepOpen` exactly where one is
-    /// open.
+    /// Opens a sweep, under the next number of sweeps. It answers the roots of all that the sweep
+    /// has to keep as yet, and a view of the catalogue to mark it on. `SweepOpen` exactly where one
+    /// is open.
     pub fn open_sweep(
         &mut self,
         alloc: Global,
@@ -183,9 +183,9 @@ impl<K: Keeper> Store<K> {
         }
     }
 
-    /// The roots of what the sweep has to keep beside what they were given before, and a view of the
-    /// catalogue: what entries made since, and what drafts named. Where memory runs out, nothing was
-    /// given.
+    /// The roots of what the sweep has to keep beside what they were given before, and a view of
+    /// the catalogue: what entries made since, and what drafts named. Where memory runs out,
+    /// nothing was given.
     pub fn drain(&mut self, alloc: Global, sweep: &Sweep) -> Result<(Roots, View), NoMemory>
         requires is_open { IsSweeping self.old sweep.now }
         ensures drained { IfOk result (λ t. IsDrained self.old self.new t.0 t.1) }
@@ -282,10 +282,11 @@ impl<K: Keeper> Store<K> {
         }
     }
 
-    /// Removes the contents that the sweep need not keep, given the marks of what its roots keep; it
-    /// marks what was made and named since they were given. The sweep is closed, whatever the answer,
-    /// and what open drafts name is there if it was since their opening. `Ok` acknowledges its entry; a `Fault` may have kept it or not, and each later call is refused
-    /// as `Down` at the count of faults then.
+    /// Removes the contents that the sweep need not keep, given the marks of what its roots keep;
+    /// it marks what was made and named since they were given. The sweep is closed, whatever the
+    /// answer, and what open drafts name is there if it was since their opening. `Ok` acknowledges
+    /// its entry; a `Fault` may have kept it or not, and each later call is refused as `Down` at
+    /// the count of faults then.
     pub fn sweep(
         &mut self,
         alloc: Global,

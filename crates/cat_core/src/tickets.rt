@@ -31,8 +31,8 @@ pub(crate) struct OpenSweep {
     pub(crate) policy: Resolved,
     pub(crate) commits: Vec<Hash>,
     pub(crate) contents: Vec<Hash>,
-    /// Its caller was given what so many entries of the log made, so many of the commits, and so many
-    /// of the contents.
+    /// Its caller was given what so many entries of the log made, so many of the commits, and so
+    /// many of the contents.
     pub(crate) drained: u32,
     pub(crate) given_commits: usize,
     pub(crate) given_contents: usize,

@@ -1,10 +1,17 @@
 mod Adding
 mod Appended
+mod Entries
+mod Fitting
 mod Found
 mod Gates
 mod Header
 mod Making
+mod Migrated
+mod Places
 mod ReadOnly
 mod Rows
 mod Steps
 mod Torn
+mod Unread
+mod Verdicts
+mod Walking

@@ -1,9 +1,9 @@
 -- What a crash leaves while a journal is opened.
-use Rattle.std.proofs.Common.{◌≡◌, ◌⊎◌, ◌≤◌, ℕ, List, [], ◌∷◌, length, Option, Some, None, inl, inr, sym, ◌∙◌, ap, arith}
+use Rattle.std.proofs.Common.{◌≡◌, ◌≤◌, ℕ, List, [], ◌∷◌, length, Option, Some, None, inl, inr, sym, ◌∙◌, arith}
 use Rattle.std.specs.Prelude.{IfSome}
-use Rattle.cat_io.specs.Crashes.{Among, Elapses, LeavesOnly, Only, Told, Torn}
+use Rattle.cat_io.specs.Crashes.{Among, Elapses, LeavesOnly, Told}
 use Rattle.cat_keeper.specs.Moments.{started, goes_on, followed, weaker}
-use Rattle.cat_journal.specs.Reading.{OnlyReads, OpensOnly}
+use Rattle.cat_journal.specs.Reading.{OpensOnly}
 
 -- the disk has no bytes
 pub is_empty : (t t' : Option (List ℕ)) (len : ℕ) → IfSome t (λ bytes. len ≡ length bytes) → len ≡ 0 → Told t t' (λ a b. b ≡ a) → IfSome t' (λ bytes. bytes ≡ [])
@@ -36,10 +36,3 @@ module _ {D : Type 0} (may_leave : D → List ℕ → Type 0) (moment : D → �
   makes (Some a) None old mid new run same none short = absurd same
   makes (Some a) (Some b) old mid new run same none short =
       followed moment left_since old mid new (may_leave old) (λ c. length c ≤ 17) _ run short (λ c p. inl p) (λ c few. inr (sym same ∙ none, few))
-
-  -- a write to an empty disk
-  pub short_images : (told : Option (List ℕ)) (old new : D) → IfSome told (λ bytes. bytes ≡ []) → Only told (may_leave old)
-      → LeavesOnly moment left_since old new (λ c. (d : List ℕ) × may_leave old d × Torn 0 17 d c) → IfSome told (λ _. LeavesOnly moment left_since old new (λ c. length c ≤ 17))
-  short_images None old new none only run = tt
-  short_images (Some bytes) old new none only run =
-      weaker moment left_since old new _ (λ c. length c ≤ 17) run (λ c from. omega (arith, from.2.no_longer, ap length (only from.0 from.1 ∙ none)))

@@ -1,5 +1,5 @@
 -- Calls that only read.
-use Rattle.std.proofs.Common.{◌≡◌, ℕ, List, Option, Some, None, refl, ap, ◌∙◌, subst}
+use Rattle.std.proofs.Common.{◌≡◌, ℕ, List, Option, Some, None, refl, sym, ap, ◌∙◌, subst}
 use Rattle.std.specs.Prelude.{IfSome}
 use Rattle.cat_io.specs.Crashes.{Told}
 use Rattle.cat_keeper.specs.Moments.{followed}
@@ -14,6 +14,10 @@ same_told (Some a) (Some b) same = ap (λ x. Some x) same
 -- a fact of the bytes after a read is one of those before
 pub as_before : {A : Type 0} (t t' : Option A) (P : A → Type 0) → Told t t' (λ a b. b ≡ a) → IfSome t' P → IfSome t P
 as_before t t' P same fact = subst (λ x. IfSome x P) (same_told t t' same) fact
+
+-- and one before is one after
+pub as_after : {A : Type 0} (t t' : Option A) (P : A → Type 0) → Told t t' (λ a b. b ≡ a) → IfSome t P → IfSome t' P
+as_after t t' P same fact = subst (λ x. IfSome x P) (sym (same_told t t' same)) fact
 
 pub told_then : {A : Type 0} (t t' t'' : Option A) → Told t t' (λ a b. b ≡ a) → Told t' t'' (λ a b. b ≡ a) → Told t t'' (λ a b. b ≡ a)
 told_then None None None one two = tt

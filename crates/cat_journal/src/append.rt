@@ -1,10 +1,9 @@
-//! The disk calls of an append.
-ghost use Rattle.std.specs.Prelude.{ℕ, List, [], ◌∷◌, ◌++◌, ◌≡◌, ◌<◌, ◌≤◌, ◌+◌, ◌^◌, length, IsErr, IfSome, OnOk, ⊤, true};
+//! The disk calls of an append, of a rebase, and of a migration.
+ghost use Rattle.std.specs.Prelude.{ℕ, List, [], ◌∷◌, ◌++◌, ◌≡◌, ◌<◌, ◌≤◌, ◌+◌, ◌^◌, length, IsErr, IfSome, OnOk, ⊤, None};
 ghost use Rattle.cat_io.specs.Causes.{HasCause};
 ghost use Rattle.cat_io.specs.Crashes.{put, Torn, Told, Only};
-ghost use Rattle.cat_frames.specs.Payload.{has_reading};
 ghost use Rattle.cat_io.specs.Crashes.{LeavesOnly};
-ghost use Rattle.cat_journal.specs.Frames.{payloads, frame, max_entries, IsAtRest, MayHoldOneMore};
+ghost use Rattle.cat_journal.specs.Frames.{form_gate, is_newer, payloads, frame, unread, IsAtRest, MayHoldOneMore};
 
 use cat_io::{Disk, Failed};
 
@@ -31,22 +30,25 @@ pub(crate) fn append_frame<D: Disk>(
     payload: &[u8],
     bytes: &[u8],
 ) -> Result<(), Failed>
-    requires at_rest { IfSome (D.told disk.old) (λ old. IsAtRest (payloads old) gate old) }
+    requires at_rest { IfSome (D.told disk.old)
+        (λ old. IsAtRest (form_gate old) (payloads old) gate old) }
     requires durable { Only (D.told disk.old) (D.may_leave disk.old) }
-    requires few { IfSome (D.told disk.old) (λ old. length (payloads old) < max_entries) }
+    requires reading { IfSome (D.told disk.old)
+        (λ old. unread (is_newer (form_gate old)) (payloads old ++ payload.now ∷ []) ≡ None) }
     requires fits { gate + 1 < 2 ^ 64 }
-    requires reading { has_reading payload.now ≡ true }
     requires short { length payload.now < 2 ^ 32 }
     requires spelled { bytes.now ≡ frame payload.now ++ 0 ∷ [] }
     ensures stays { Told (D.told disk.old) (D.told disk.new) (λ old new. ⊤) }
     ensures added { OnOk result
         (Told (D.told disk.old) (D.told disk.new)
         (λ old new. (payloads new ≡ payloads old ++ payload.now ∷ [])
-        × IsAtRest (payloads new) (gate + 5 + length payload.now) new)) }
+        × (form_gate new ≡ form_gate old)
+        × IsAtRest (form_gate new) (payloads new) (gate + 5 + length payload.now) new)) }
     ensures durable { OnOk result (Only (D.told disk.new) (D.may_leave disk.new)) }
     ensures fits { OnOk result (gate + 6 + length payload.now < 2 ^ 64) }
     ensures any_moment { LeavesOnly D.moment D.left_since disk.old disk.new
-        (λ c. IfSome (D.told disk.old) (λ old. MayHoldOneMore (payloads old) gate payload.now c)) }
+        (λ c. IfSome (D.told disk.old)
+        (λ old. MayHoldOneMore (form_gate old) (payloads old) gate payload.now c)) }
     ensures cause { HasCause (D.faults disk.old) (D.faults disk.new) result }
 {
     persist(disk, gate + 1, bytes)?;

@@ -2,16 +2,17 @@
 ghost use Rattle.std.specs.Prelude.{ℕ, List, [], ◌∷◌, ◌++◌, None, Some, ◌≡◌, ◌≢◌, ◌<◌, ◌≤◌, ◌+◌, ◌^◌, length, vec_capacity, Ok, IfOk, IfErr, IfSome, MatchResult};
 ghost use Rattle.std.proofs.Props.{props};
 ghost use Rattle.cat_io.specs.Causes.{Rose};
-ghost use Rattle.cat_io.specs.Crashes.{Told, Only};
+ghost use Rattle.cat_io.specs.Crashes.{put, LeavesOnly, Told, Only};
 ghost use Rattle.cat_keeper.specs.Keeping.{WithOrWithout};
-ghost use Rattle.cat_journal.specs.Frames.{max_entries, payload_of, recovered, new_journal, frame as frame_of};
-ghost use Rattle.cat_journal.specs.Held.{first_payloads, outcome, IsHeld, IsHeld-prop, IsSafe, IsSafe-prop, IsTorn, IsTorn-prop};
+ghost use Rattle.cat_journal.specs.Frames.{form_gate, format_by, max_entries, payload_of, recovered, new_journal, frame as frame_of};
+ghost use Rattle.cat_journal.specs.Held.{held_count, outcome, Holds, IsHeld-prop, IsSafe, IsSafe-prop, IsTorn, IsTorn-prop};
 ghost use Rattle.cat_journal.specs.Reading.{OnlyReads, OpensOnly, IsFaultOf};
 
-use crate::append::append_frame;
+use crate::append::{append_frame, persist};
 use crate::fault::OpenFault;
-use crate::opening::load;
-use crate::reading::{read_gate, read_into};
+use crate::opening::{format_of, load};
+use crate::points::Points;
+use crate::reading::read_payload;
 use cat_codes::bytes::Bytes;
 use cat_codes::fault::NoMemory;
 use cat_io::Disk;
@@ -19,22 +20,23 @@ use cat_keeper::{KeepFault, Keeper};
 use std::alloc::Global;
 use std::marker::Send;
 
-/// A journal of format 1.
+/// A journal.
 #[derive(Drop)]
 pub struct Journal<D: Disk> {
-    disk: D,
-    /// Where the gates of the payloads stand.
-    gates: Vec<u64>,
-    /// Where the closed gate stands.
-    end: u64,
-    /// Room for a frame; while the journal is down, the one whose append failed.
+    pub(crate) disk: D,
+    /// 1 or 2.
+    pub(crate) format: u32,
+    points: Points,
+    /// Room for a frame; while the journal is down, the one whose append or rebase failed.
     frame: Vec<u8>,
     down: Option<u64>,
-    ghost held: { IfSome (D.told disk) (λ bytes. IsHeld (first_payloads (length gates.items) bytes) gates.items end bytes) } by { Prim.hlevel (IsHeld-prop, props) },
-    ghost safe: { down ≡ None → IfSome (D.told disk) (IsSafe (length gates.items) end (D.may_leave disk)) } by { Prim.hlevel (IsSafe-prop, props) },
-    ghost torn: { (c : ℕ) → down ≡ Some c → IfSome (D.told disk) (IsTorn (length gates.items) end (payload_of frame.items) (D.may_leave disk)) } by { Prim.hlevel (IsTorn-prop, props) },
-    ghost fits: { end + 1 < 2 ^ 64 },
-    ghost few: { length gates.items ≤ max_entries },
+    ghost formed: { IfSome (D.told disk) (λ bytes. format_by (form_gate bytes) ≡ format) } by { Prim.hlevel props },
+    ghost held: { IfSome (D.told disk) (Holds points) } by { Prim.hlevel (IsHeld-prop, props) },
+    ghost safe: { down ≡ None → IfSome (D.told disk) (IsSafe (held_count points) points.end (D.may_leave disk)) } by { Prim.hlevel (IsSafe-prop, props) },
+    ghost torn: { (c : ℕ) → down ≡ Some c → IfSome (D.told disk) (IsTorn (held_count points) points.end (payload_of frame.items) (D.may_leave disk)) } by { Prim.hlevel (IsTorn-prop, props) },
+    ghost fits: { points.end + 1 < 2 ^ 64 },
+    ghost room: { held_count points ≤ points.end },
+    ghost few: { length points.gates.items ≤ max_entries },
 }
 
 /// A frame and the next gate, closed.
@@ -54,8 +56,8 @@ impl<D: Disk + Send> Journal<D> {
     ghost use Rattle.cat_journal.specs.Journals.{journal_disk};
 
     /// Opens the journal on a disk, and makes a new one where the disk is empty. Where that fails,
-    /// an empty disk may have any bytes, up to the 17 of a new journal. Nothing is written to a disk
-    /// that has bytes. Once the journal is open, a crash leaves just what its disk reads.
+    /// an empty disk may have any bytes, up to the 17 of a new journal. Nothing is written to a
+    /// disk that has bytes. Once the journal is open, a crash leaves just what its disk reads.
     pub fn open(alloc: Global, mut disk: D) -> Result<Journal<D>, (D, OpenFault)>
         ensures payloads { IfOk result
             (λ j. Told (D.told disk) (⟦<Journal<D> as Keeper>⟧.told j)
@@ -65,6 +67,9 @@ impl<D: Disk + Send> Journal<D> {
             (λ bytes ps. recovered bytes ≡ Ok ps)) }
         ensures fault { IfErr result
             (λ e. Told (D.told disk) (D.told e.0) (λ before after. IsFaultOf before e.1)) }
+        ensures format { IfOk result
+            (λ j. IfSome (D.told (journal_disk j))
+            (λ bytes. format_by (form_gate bytes) ≡ ⟦<Journal<D> as Keeper>⟧.form j)) }
         ensures up { IfOk result (λ j. ⟦<Journal<D> as Keeper>⟧.down j ≡ None) }
         ensures new { IfOk result
             (λ j. Told (D.told disk) (D.told (journal_disk j))
@@ -89,10 +94,10 @@ impl<D: Disk + Send> Journal<D> {
             (λ e. e.1 ≢ OpenFault.Fault → D.faults e.0 ≡ D.faults disk) }
     {
         match load(alloc, &mut disk) {
-            Ok((gates, end)) => Ok(Journal {
+            Ok((points, newer)) => Ok(Journal {
                 disk,
-                gates,
-                end,
+                format: format_of(newer),
+                points,
                 frame: Vec::new(alloc),
                 down: None,
             }),
@@ -100,9 +105,50 @@ impl<D: Disk + Send> Journal<D> {
         }
     }
 
-    /// The disk, which has more bytes than a header. What it reads opens again with the payloads that
-    /// are kept, and after an append that failed maybe with that one too; and so does what a crash
-    /// leaves.
+    /// The same journal, of format 2: the format's gate is opened.
+    pub(crate) fn open_format(self) -> Result<Journal<D>, (D, OpenFault)>
+        requires older { self.format ≢ 2 }
+        requires up { self.down ≡ None }
+        ensures format { IfOk result (λ j. j.format ≡ 2) }
+        ensures told { IfOk result
+            (λ j. Told (⟦<Journal<D> as Keeper>⟧.told self) (⟦<Journal<D> as Keeper>⟧.told j)
+            (λ before after. after ≡ before)) }
+        ensures bytes { IfOk result
+            (λ j. Told (D.told self.disk) (D.told j.disk)
+            (λ before after. after ≡ put 15 (1 ∷ []) before)) }
+        ensures up { IfOk result (λ j. j.down ≡ None) }
+        ensures durable { IfOk result (λ j. Only (D.told j.disk) (D.may_leave j.disk)) }
+        ensures fault { IfErr result (λ e. e.1 ≡ OpenFault.Fault) }
+        ensures stands { IfErr result
+            (λ e. Told (D.told self.disk) (D.told e.0)
+            (λ before after. recovered after ≡ recovered before)) }
+        ensures images { IfSome (D.told self.disk) (λ bytes. MatchResult result
+            (λ j. LeavesOnly D.moment D.left_since self.disk j.disk
+            (λ c. recovered c ≡ recovered bytes))
+            (λ e. LeavesOnly D.moment D.left_since self.disk e.0
+            (λ c. recovered c ≡ recovered bytes))) }
+    {
+        let Journal {
+            mut disk,
+            points,
+            frame,
+            ..
+        } = self;
+        match persist(&mut disk, 15, &[1]) {
+            Ok(()) => Ok(Journal {
+                disk,
+                format: 2,
+                points,
+                frame,
+                down: None,
+            }),
+            Err(_) => Err((disk, OpenFault::Fault)),
+        }
+    }
+
+    /// The disk, which has more bytes than a header. What it reads opens again with the payloads
+    /// that are kept, and after an append that failed maybe with that one too; and so does what a
+    /// crash leaves.
     pub fn into_disk(self) -> D
         ensures disk { result ≡ journal_disk self }
         ensures faults { D.faults result ≡ ⟦<Journal<D> as Keeper>⟧.faults self }
@@ -119,13 +165,7 @@ impl<D: Disk + Send> Journal<D> {
             → IfSome (⟦<Journal<D> as Keeper>⟧.told self)
             (λ ps. (c : List ℕ) → D.may_leave result c → WithOrWithout ps p (outcome c)) }
     {
-        let Journal {
-            disk,
-            gates: _,
-            end: _,
-            frame: _,
-            down: _,
-        } = self;
+        let Journal { disk, .. } = self;
         disk
     }
 }
@@ -134,15 +174,19 @@ impl<D: Disk + Send> Keeper for Journal<D> {
     ghost use Rattle.std.specs.Prelude.{ℕ, List, ◌≡◌, ◌-◌, length, vec_len, vec_capacity, nat_lt, if◌then◌else◌};
     ghost use Rattle.std.specs.Option.{option_map};
     ghost use Rattle.cat_journal.specs.Frames.{payload_of};
-    ghost use Rattle.cat_journal.specs.Held.{first_payloads, outcome};
+    ghost use Rattle.cat_journal.specs.Held.{first_payloads, held_count, outcome};
     ghost use Rattle.cat_keeper.specs.KeeperLaws.{none_flies, one_flies};
-    ghost use Rattle.cat_journal.specs.Laws.{safe_images, kept_image, torn_images, counted_payloads};
+    ghost use Rattle.cat_journal.specs.Laws.{safe_images, kept_image, torn_images, begun_payloads, counted_payloads};
 
-    ghost told = { λ j. option_map (first_payloads (length j.gates.items)) (D.told j.disk) };
+    ghost told = { λ j. option_map (first_payloads (held_count j.points)) (D.told j.disk) };
 
-    ghost kept = { λ j. length j.gates.items };
+    ghost kept = { λ j. length j.points.gates.items };
 
-    ghost spare = { λ j. if nat_lt (vec_len j.gates) (vec_capacity j.gates)
+    ghost start = { λ j. j.points.first };
+
+    ghost form = { λ j. j.format };
+
+    ghost spare = { λ j. if nat_lt (vec_len j.points.gates) (vec_capacity j.points.gates)
         then vec_capacity j.frame - 5
         else 0 };
 
@@ -170,34 +214,41 @@ impl<D: Disk + Send> Keeper for Journal<D> {
 
     ghost bytes_count_now = { λ j t b le now. D.counts_now j.disk t b le now };
 
-    ghost safe = { λ j ps r up told now. safe_images (D.told j.disk) (length j.gates.items) j.end
-        (D.may_leave j.disk) (j.safe up) ps told r now };
+    ghost safe = { λ j ps r up told now. safe_images (D.told j.disk) (held_count j.points)
+        j.points.end (D.may_leave j.disk) (j.safe up) ps told r now };
 
-    ghost kept_as_image = { λ j ps up told. kept_image (D.told j.disk) (length j.gates.items)
-        j.end (D.may_leave j.disk) (λ c is. D.reads_as_image j.disk c is) (j.safe up) ps told };
+    ghost kept_as_image = { λ j ps up told. kept_image (D.told j.disk) (held_count j.points)
+        j.points.end (D.may_leave j.disk) (λ c is. D.reads_as_image j.disk c is) (j.safe up) ps
+        told };
 
-    ghost unsafe_leaves = { λ j ps p r told flies now. torn_images (D.told j.disk) j.gates.items
-        j.end (payload_of j.frame.items) (D.may_leave j.disk) j.down j.held j.torn ps p told flies
+    ghost unsafe_leaves = { λ j ps p r told flies now. torn_images (D.told j.disk) j.points
+        (payload_of j.frame.items) (D.may_leave j.disk) j.down j.held j.torn ps p told flies
         r now };
 
     ghost waits = { λ j up. none_flies (payload_of j.frame.items) j.down up };
 
     ghost flies = { λ j c down. one_flies (payload_of j.frame.items) j.down c down };
 
-    ghost counted = { λ j ps told. counted_payloads (D.told j.disk) j.gates.items j.end j.held ps
-        told };
+    ghost counted = { λ j ps told. counted_payloads (D.told j.disk) j.points j.held ps told };
+
+    ghost begins = { λ j ps told. begun_payloads (D.told j.disk) j.points j.held ps told };
 
     fn count(&self) -> u32 {
-        self.gates.len() as u32
+        self.points.gates.len() as u32
+    }
+
+    fn first(&self) -> u32 {
+        self.points.first
+    }
+
+    fn format(&self) -> u32 {
+        self.format
     }
 
     fn entry(&mut self, alloc: Global, i: u32) -> Result<Bytes, KeepFault> {
-        let at = self.gates[i as usize];
-        let Ok((_, count)) = read_gate(&mut self.disk, at) else {
-            return Err(KeepFault::Fault);
-        };
+        let at = self.points.gates[i as usize];
         let mut payload = Vec::new(alloc);
-        match read_into(&mut self.disk, at.saturating_add(5), count, &mut payload) {
+        match read_payload(&mut self.disk, at, &mut payload) {
             Ok(()) => {}
             Err(fault) => return Err(fault),
         }
@@ -207,11 +258,26 @@ impl<D: Disk + Send> Keeper for Journal<D> {
         }
     }
 
+    fn base(&mut self, alloc: Global) -> Result<Option<Bytes>, KeepFault> {
+        if self.points.before == 0 {
+            return Ok(None);
+        }
+        let mut payload = Vec::new(alloc);
+        match read_payload(&mut self.disk, self.points.base, &mut payload) {
+            Ok(()) => {}
+            Err(fault) => return Err(fault),
+        }
+        match Bytes::from_vec(payload) {
+            Ok(bytes) => Ok(Some(bytes)),
+            Err(_) => Err(KeepFault::NoMemory),
+        }
+    }
+
     fn reserve(&mut self, bytes: usize) -> Result<(), NoMemory> {
         let Some(room) = bytes.checked_add(5) else {
             return Err(NoMemory);
         };
-        self.gates.reserve(1)?;
+        self.points.gates.reserve(1)?;
         self.frame.reserve(room)?;
         Ok(())
     }
@@ -221,15 +287,36 @@ impl<D: Disk + Send> Keeper for Journal<D> {
             return Err(KeepFault::Down(count));
         }
         spell(&mut self.frame, bytes);
-        match append_frame(&mut self.disk, self.end, bytes, &self.frame) {
+        match append_frame(&mut self.disk, self.points.end, bytes, &self.frame) {
             Ok(()) => {
-                self.gates.push_reserved(self.end);
-                self.end += 5 + bytes.len() as u64;
+                self.points.gates.push_reserved(self.points.end);
+                self.points.end += 5 + bytes.len() as u64;
                 self.frame.clear();
                 Ok(())
             }
             Err(_) => {
                 self.down = Some(self.disk.fault_count());
+                Err(KeepFault::Fault)
+            }
+        }
+    }
+
+    fn rebase(&mut self, place: u32, bytes: &[u8]) -> Result<(), KeepFault> {
+        if let Some(count) = self.down {
+            return Err(KeepFault::Down(count));
+        }
+        spell(&mut self.frame, bytes);
+        match append_frame(&mut self.disk, self.points.end, bytes, &self.frame) {
+            Ok(()) => {
+                self.points.rebase();
+                self.points.first = place;
+                self.points.end += 5 + bytes.len() as u64;
+                self.frame.clear();
+                Ok(())
+            }
+            Err(_) => {
+                let count = self.disk.fault_count();
+                self.down = Some(count);
                 Err(KeepFault::Fault)
             }
         }

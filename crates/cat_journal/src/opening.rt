@@ -1,26 +1,32 @@
 //! Opening a journal's file, which an empty one is made.
-ghost use Rattle.std.specs.Prelude.{ℕ, List, [], ◌++◌, ◌≡◌, ◌<◌, ◌≤◌, ◌+◌, ◌^◌, length, take, Ok, IsErr, IfOk, IfSome, OnOk, MatchResult};
+ghost use Rattle.std.specs.Prelude.{ℕ, List, [], ◌++◌, ◌≡◌, ◌<◌, ◌≤◌, ◌+◌, ◌^◌, length, Ok, IsErr, IfOk, IfSome, OnOk, MatchResult, if◌then◌else◌};
 ghost use Rattle.cat_io.specs.Crashes.{LeavesOnly, Told, Only};
-ghost use Rattle.cat_journal.specs.Frames.{header, new_journal, max_entries};
-ghost use Rattle.cat_journal.specs.Reading.{OnlyReads, OpensOnly, IsFaultOf, IsOpened, HasOpenCause};
+ghost use Rattle.cat_journal.specs.Frames.{form_gate, is_newer, new_journal, max_entries};
+ghost use Rattle.cat_journal.specs.Held.{held_count};
+ghost use Rattle.cat_journal.specs.Reading.{OnlyReads, OpensOnly, IsFaultOf, IsHead, IsHeaded, IsOpened, HasOpenCause};
 
 use crate::append::persist;
 use crate::fault::OpenFault;
+use crate::points::Points;
 use crate::reading::{number_of, read_frames};
 use cat_io::Disk;
 use std::alloc::Global;
 
 const MAGIC: [u8; 8] = *b"NESSIECJ";
 
-/// The header of format 1, and a closed gate.
-const NEW: [u8; 17] = *b"NESSIECJ\0\0\0\x01\0\0\0\0\0";
+/// What stands behind the version, in front of the format's gate.
+const ZEROS: [u8; 3] = [0; 3];
 
-/// What the first 16 bytes say, whatever stands behind them.
-fn check_head(head: &[u8]) -> Result<(), OpenFault>
+/// The header of format 2, and a closed gate.
+const NEW: [u8; 17] = *b"NESSIECJ\0\0\0\x01\0\0\0\x01\0";
+
+/// What the first 16 bytes say, whatever stands behind them: whether they are a header of format 2
+/// or of format 1.
+fn check_head(head: &[u8]) -> Result<bool, OpenFault>
     ensures cause { (count : ℕ) → HasOpenCause count count result }
     ensures found { length head.now ≡ 16
         → (rest : List ℕ) → 0 < length rest
-        → MatchResult result (λ _. head.now ≡ header) (IsFaultOf (head.now ++ rest)) }
+        → MatchResult result (λ newer. IsHead newer head.now) (IsFaultOf (head.now ++ rest)) }
 {
     if head.len() < 16 {
         return Err(OpenFault::Damaged(0));
@@ -32,17 +38,17 @@ fn check_head(head: &[u8]) -> Result<(), OpenFault>
     if version != 1 {
         return Err(OpenFault::Version(version));
     }
-    if number_of(&head[12..16]) != 0 {
+    if &head[12..15] != ZEROS.as_slice() {
         return Err(OpenFault::Damaged(12));
     }
-    Ok(())
+    Ok(head[15] == 1)
 }
 
-fn check_header<D: Disk>(disk: &mut D, len: u64) -> Result<(), OpenFault>
+fn check_header<D: Disk>(disk: &mut D, len: u64) -> Result<bool, OpenFault>
     requires some { 0 < len }
     requires len { IfSome (D.told disk.old) (λ bytes. len ≡ length bytes) }
     ensures found { IfSome (D.told disk.old)
-        (λ bytes. MatchResult result (λ _. take 16 bytes ≡ header) (IsFaultOf bytes)) }
+        (λ bytes. MatchResult result (λ newer. IsHeaded newer bytes) (IsFaultOf bytes)) }
     ensures more { OnOk result (16 < len) }
     ensures reads { OnlyReads D.told D.may_leave D.moment D.left_since disk.old disk.new }
     ensures cause { HasOpenCause (D.faults disk.old) (D.faults disk.new) result }
@@ -57,12 +63,20 @@ fn check_header<D: Disk>(disk: &mut D, len: u64) -> Result<(), OpenFault>
     }
 }
 
+/// The number of the format.
+pub(crate) fn format_of(newer: bool) -> u32
+    ensures { result ≡ (if newer then 2 else 1) }
+{
+    if newer { 2 } else { 1 }
+}
+
 /// Makes a new journal of an empty file.
-fn create<D: Disk>(alloc: Global, disk: &mut D) -> Result<(Vec<u64>, u64), OpenFault>
+fn create<D: Disk>(alloc: Global, disk: &mut D) -> Result<(Points, bool), OpenFault>
     requires empty { IfSome (D.told disk.old) (λ bytes. bytes ≡ []) }
     requires durable { Only (D.told disk.old) (D.may_leave disk.old) }
     ensures found { Told (D.told disk.old) (D.told disk.new)
-        (λ before after. MatchResult result (λ x. IsOpened before after x.0.items x.1)
+        (λ before after. MatchResult result
+        (λ x. IsOpened before after x.0 × (is_newer (form_gate after) ≡ x.1))
         (IsFaultOf before)) }
     ensures new { OnOk result
         (Told (D.told disk.old) (D.told disk.new)
@@ -73,19 +87,22 @@ fn create<D: Disk>(alloc: Global, disk: &mut D) -> Result<(Vec<u64>, u64), OpenF
     ensures images { IfSome (D.told disk.old)
         (λ _. LeavesOnly D.moment D.left_since disk.old disk.new (λ c. length c ≤ 17)) }
     ensures durable { OnOk result (Only (D.told disk.new) (D.may_leave disk.new)) }
-    ensures fits { IfOk result (λ x. (x.1 + 1 < 2 ^ 64) × (length x.0.items ≤ max_entries)) }
+    ensures fits { IfOk result (λ x. (x.0.end + 1 < 2 ^ 64)
+        × (held_count x.0 ≤ x.0.end)
+        × (length x.0.gates.items ≤ max_entries)) }
     ensures cause { HasOpenCause (D.faults disk.old) (D.faults disk.new) result }
 {
     match persist(disk, 0, &NEW) {
-        Ok(()) => Ok((Vec::new(alloc), 16)),
+        Ok(()) => Ok((Points::new(alloc), true)),
         Err(_) => Err(OpenFault::Fault),
     }
 }
 
-/// The gates of the file's payloads, and the closed gate behind them.
-pub(crate) fn load<D: Disk>(alloc: Global, disk: &mut D) -> Result<(Vec<u64>, u64), OpenFault>
+/// Where the file's payloads stand, and whether it is of format 2.
+pub(crate) fn load<D: Disk>(alloc: Global, disk: &mut D) -> Result<(Points, bool), OpenFault>
     ensures found { Told (D.told disk.old) (D.told disk.new)
-        (λ before after. MatchResult result (λ x. IsOpened before after x.0.items x.1)
+        (λ before after. MatchResult result
+        (λ x. IsOpened before after x.0 × (is_newer (form_gate after) ≡ x.1))
         (IsFaultOf before)) }
     ensures new { OnOk result
         (Told (D.told disk.old) (D.told disk.new)
@@ -99,7 +116,9 @@ pub(crate) fn load<D: Disk>(alloc: Global, disk: &mut D) -> Result<(Vec<u64>, u6
     ensures unwritten { IfSome (D.told disk.old)
         (λ bytes. 0 < length bytes
         → OnlyReads D.told D.may_leave D.moment D.left_since disk.old disk.new) }
-    ensures fits { IfOk result (λ x. (x.1 + 1 < 2 ^ 64) × (length x.0.items ≤ max_entries)) }
+    ensures fits { IfOk result (λ x. (x.0.end + 1 < 2 ^ 64)
+        × (held_count x.0 ≤ x.0.end)
+        × (length x.0.gates.items ≤ max_entries)) }
     ensures cause { HasOpenCause (D.faults disk.old) (D.faults disk.new) result }
 {
     if disk.sync().is_err() {
@@ -111,8 +130,12 @@ pub(crate) fn load<D: Disk>(alloc: Global, disk: &mut D) -> Result<(Vec<u64>, u6
     if len == 0 {
         return create(alloc, disk);
     }
-    match check_header(disk, len) {
-        Ok(()) => read_frames(alloc, disk, len),
+    let newer = match check_header(disk, len) {
+        Ok(newer) => newer,
+        Err(fault) => return Err(fault),
+    };
+    match read_frames(alloc, disk, len, newer) {
+        Ok(points) => Ok((points, newer)),
         Err(fault) => Err(fault),
     }
 }

@@ -1,3 +1,4 @@
 mod Appends
 mod Failing
+mod Kept
 mod Watching

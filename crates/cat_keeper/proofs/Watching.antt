@@ -1,5 +1,5 @@
 -- What is watched stays so through the calls of a keeper.
-use Rattle.std.proofs.Common.{◌≡◌, ◌≤◌, ◌+◌, ◌⊎◌, inl, inr, ⊎_elim, ℕ, List, [], ◌∷◌, ◌++◌, length, take, Option, Some, None, Result, Ok, Err, refl, sym, ◌∙◌, ap, ap₂, subst, arith, length-append}
+use Rattle.std.proofs.Common.{◌≡◌, ◌≤◌, ◌+◌, ◌⊎◌, inl, inr, ⊎_elim, ℕ, List, [], ◌∷◌, ◌++◌, length, Option, Some, None, Result, Ok, Err, refl, sym, ◌∙◌, ap, ap₂, subst, arith, length-append}
 use Rattle.std.specs.Prelude.{◌↔◌, IfSome, IsErrOf, OnOk, OnErr}
 use Rattle.std.proofs.lemmas.List.{take_all, take_at, take-append-le}
 use Rattle.cat_io.specs.Crashes.{LeavesOnly, Told, never_known}

@@ -2,12 +2,16 @@
 use Rattle.std.specs.Prelude.{◌≡◌, ℕ, List, length, Option, Some, None}
 use Rattle.std.proofs.Common.{ap, sym}
 use Rattle.std.specs.Option.{option_map}
+use Rattle.cat_keeper.specs.Bases.{entries_of, first_of}
 
 pub told_is : {A : Type 0} (x y : A) → Some x ≡ Some y → x ≡ y
 told_is x y e = cc
 
-pub told_count : (held ps : List (List ℕ)) → Some held ≡ Some ps → length ps ≡ length held
-told_count held ps told = ap length (sym (told_is held ps told))
+pub told_count : (held ps : List (List ℕ)) → Some held ≡ Some ps → length (entries_of ps) ≡ length (entries_of held)
+told_count held ps told = ap (λ (l : List (List ℕ)). length (entries_of l)) (sym (told_is held ps told))
+
+pub told_first : (held ps : List (List ℕ)) → Some held ≡ Some ps → first_of ps ≡ first_of held
+told_first held ps told = ap first_of (sym (told_is held ps told))
 
 -- nothing is in flight where no append failed
 pub none_flies : {A B : Type 0} (p : B) (down : Option A) → down ≡ None → option_map (λ (c : A). p) down ≡ None

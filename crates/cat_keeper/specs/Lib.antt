@@ -1,5 +1,7 @@
+pub mod Bases
 pub mod KeeperLaws
 pub mod Keeping
+pub mod Kinds
 pub mod Listed
 pub mod MemoryKeepers
 pub mod Moments

@@ -3,11 +3,23 @@ use Rattle.std.specs.Prelude.{◌≡◌, ℕ, ◌+◌, ◌-◌, ◌^◌, min, Bo
 use Rattle.std.specs.List.{list_any}
 use Rattle.std.specs.Option.{option_map}
 use Rattle.cat_keeper.specs.declared.memory_keeper.MemKeeper.{MemKeeper}
+use Rattle.cat_keeper.specs.Bases.{entries_of, first_of}
 use Rattle.cat_keeper.specs.Listed.{left_of}
 
 -- the payloads
 abbrev pub keeper_payloads : MemKeeper → List (List ℕ)
 keeper_payloads k = k.payloads.items
+
+-- how many of them are entries behind the last base
+abbrev pub keeper_kept : MemKeeper → ℕ
+keeper_kept k = length (entries_of k.payloads.items)
+
+-- the place of that base
+abbrev pub keeper_start : MemKeeper → ℕ
+keeper_start k = first_of k.payloads.items
+
+abbrev pub keeper_form : MemKeeper → ℕ
+keeper_form k = 2
 
 -- the length of a payload for which there is room
 abbrev pub keeper_spare : MemKeeper → ℕ
@@ -31,7 +43,7 @@ next_fails k = list_any (λ (n : ℕ). nat_eq n (keeper_next k)) (keeper_failing
 abbrev pub keeper_faults : MemKeeper → ℕ
 keeper_faults k = k.faults
 
--- the count of faults at which an append failed
+-- the count of faults at which an append or a rebase failed
 abbrev pub keeper_down : MemKeeper → Option ℕ
 keeper_down k = k.down
 

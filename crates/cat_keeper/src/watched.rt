@@ -82,6 +82,10 @@ impl<B: Since + Send, K: Keeper> Keeper for Watched<B, K> {
 
     ghost kept = { λ k. K.kept k };
 
+    ghost start = { λ k. K.start k };
+
+    ghost form = { λ k. K.form k };
+
     ghost spare = { λ k. K.spare k };
 
     ghost down = { λ k. K.down k };
@@ -120,12 +124,26 @@ impl<B: Since + Send, K: Keeper> Keeper for Watched<B, K> {
 
     ghost counted = { λ k ps told. K.counted k ps told };
 
+    ghost begins = { λ k ps told. K.begins k ps told };
+
     fn count(&self) -> u32 {
         self.keeper.count()
     }
 
+    fn first(&self) -> u32 {
+        self.keeper.first()
+    }
+
+    fn format(&self) -> u32 {
+        self.keeper.format()
+    }
+
     fn entry(&mut self, alloc: Global, i: u32) -> Result<Bytes, KeepFault> {
         self.keeper.entry(alloc, i)
+    }
+
+    fn base(&mut self, alloc: Global) -> Result<Option<Bytes>, KeepFault> {
+        self.keeper.base(alloc)
     }
 
     fn reserve(&mut self, bytes: usize) -> Result<(), NoMemory> {
@@ -134,6 +152,10 @@ impl<B: Since + Send, K: Keeper> Keeper for Watched<B, K> {
 
     fn append(&mut self, bytes: &[u8]) -> Result<(), KeepFault> {
         self.keeper.append(bytes)
+    }
+
+    fn rebase(&mut self, place: u32, bytes: &[u8]) -> Result<(), KeepFault> {
+        self.keeper.rebase(place, bytes)
     }
 
     fn fault_count(&self) -> u64 {

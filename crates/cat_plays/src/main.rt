@@ -1,6 +1,6 @@
-//! Plays files of rows over the program's public call, with files, streams and a clock in memory, and
-//! prints how many rows and runs each has and what differs. docs/ROWS.md says what a line means. A row
-//! is data: what it wants was never written by this program.
+//! Plays files of rows over the program's public call, with files, streams and a clock in memory,
+//! and prints how many rows and runs each has and what differs. docs/ROWS.md says what a line
+//! means. A row is data: what it wants was never written by this program.
 #![tactic(auto)]
 
 mod fault;
@@ -33,8 +33,8 @@ fn main(rt: HostRuntime) -> ExitCode {
     }
 }
 
-// Whether all that the words name was played, and nothing differed. It fails where the player itself
-// has no memory, or can't print.
+// Whether all that the words name was played, and nothing differed. It fails where the player
+// itself has no memory, or can't print.
 fn play_all<R>(rt: &R) -> io::Result<bool>
 where
     R: Runtime + Files<File = File> + AllocGlobal + Threads + Wait + Sync,

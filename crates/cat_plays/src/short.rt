@@ -25,8 +25,8 @@ pub enum Short {
     Wrong(&'static str),
 }
 
-/// Plays a session. Where it was refused memory, it is compared with a session on a twin of its world,
-/// of the requests that weren't refused.
+/// Plays a session. Where it was refused memory, it is compared with a session on a twin of its
+/// world, of the requests that weren't refused.
 pub fn play_short<R: Threads + Wait + Sync>(
     rt: &R,
     alloc: Global,
@@ -46,8 +46,8 @@ pub fn play_short<R: Threads + Wait + Sync>(
     judge(rt, alloc, &again, &requests, &ran)
 }
 
-// What a session is compared with: its world as it began, its words, and the line that `check` tells of
-// the journal that it left.
+// What a session is compared with: its world as it began, its words, and the line that `check`
+// tells of the journal that it left.
 #[derive(Drop)]
 struct Again<'a> {
     twin: World,
@@ -106,8 +106,8 @@ fn stopped(status: u8, is_kept: bool) -> Short {
     }
 }
 
-// What a session of these requests writes with all memory, and whether it leaves a journal of the same
-// line.
+// What a session of these requests writes with all memory, and whether it leaves a journal of the
+// same line.
 fn played<R: Threads + Wait + Sync>(
     rt: &R,
     alloc: Global,

@@ -57,8 +57,8 @@ pub fn bounds(text: &str) -> Result<(u64, u64), Fault> {
     Ok((number(first)?, number(last)?))
 }
 
-/// What a line says for a number: of `at A B LINE` the line behind the two, where the number is none
-/// less than A and none above B; of another line all of it.
+/// What a line says for a number: of `at A B LINE` the line behind the two, where the number is
+/// none less than A and none above B; of another line all of it.
 pub fn counting(line: &str, time: Option<u64>) -> Result<Option<&str>, Fault> {
     let (word, rest) = first_word(line);
     if word != "at" {

@@ -116,8 +116,8 @@ impl Wanted {
         }
     }
 
-    // The bytes with the digits that came in the holes, where they are digits, and the same ones for
-    // the same name.
+    // The bytes with the digits that came in the holes, where they are digits, and the same ones
+    // for the same name.
     fn filled(&self, alloc: Global, came: &[u8]) -> Result<Vec<u8>, AllocError> {
         let mut filled = Vec::new(alloc);
         for hole in &self.holes {

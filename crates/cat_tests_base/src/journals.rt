@@ -1,15 +1,18 @@
 //! A keeper in memory, and the disk calls of a journal.
 
 use cat_codes::bytes::Bytes;
-use cat_frames::has_reading;
+use cat_frames::{has_reading, is_whole_checkpoint};
 use cat_io::{Call, MemoryDisk};
-use cat_journal::Journal;
-use cat_keeper::{KeepFault, Keeper, MemKeeper};
+use cat_journal::{Journal, migrate};
+use cat_keeper::{KeepFault, Keeper, MemKeeper, base_place};
 use std::alloc::Global;
 use std::process::Abort;
 
 /// A journal without entries.
-const NEW: [u8; 17] = *b"NESSIECJ\0\0\0\x01\0\0\0\0\0";
+const NEW: [u8; 17] = *b"NESSIECJ\0\0\0\x01\0\0\0\x01\0";
+
+/// One of format 1.
+const OLD: [u8; 17] = *b"NESSIECJ\0\0\0\x01\0\0\0\0\0";
 
 /// A delete of the branch `dev`, at place 2.
 const DEV: [u8; 30] = *b"\x03\0\0\0\x02\0\0\0\0\0\0\0\0\0\0\0\0\0\x0f\x42\x40\0\0\0\x03dev\0\0";
@@ -19,6 +22,24 @@ const A: [u8; 28] = *b"\x03\0\0\0\x03\0\0\0\0\0\0\0\0\0\0\0\0\0\x0f\x42\x41\0\0\
 
 /// A delete of the branch `of/x`, at place 4.
 const OF_X: [u8; 31] = *b"\x03\0\0\0\x04\0\0\0\0\0\0\0\0\0\0\0\0\0\x0f\x42\x42\0\0\0\x04of/x\0\0";
+
+/// The commit of a table `t1`, at place 1.
+const FIRST: [u8; 172] = *b"\
+    \x04\0\0\0\x01\0\0\0\0\0\0\0\x01\0\0\0\0\0\x0fB@\0\0\0\x04main\x01.\x1c\xfa\x82\xb05\xc2l\
+    \xbb\xbd\xaec,\xea\x07\x05\x14\xeb\x8bw?aj\xae\xaff\x8e/\x0b\xe8\xf1\x0d\0\0\0\x03one\0\0\0\
+    \0\0\0\0\0\0\0\0\0\0\0\0\0\x01\x01\0\x02t1\x01\x01\0\0\0+\x01\0\0\0\0\0\0\0\x01\0\0\0\0\0\0\
+    \0\0\0\0\0\x02m1\0\0\0\0\0\0\0\x01\0\0\0\0\0\0\0\0\0\0\0\0\xf9-\xf1L)\x1cU\x08\x1act\xc5\x07\
+    K\x13\x94\x01e\x91\xb1\x98\x1c\xd3+;\xdd\xb2\x0a?\x86\xd5\xd4";
+
+/// The catalogue after it.
+const STATE: [u8; 252] = *b"\
+    \x08\0\0\0\x01\0\0\0\0\0\0\0\x01\0\0\0\0\0\0\0\x01\0\0\0\x04main\x01\xf9-\xf1L)\x1cU\x08\x1a\
+    ct\xc5\x07K\x13\x94\x01e\x91\xb1\x98\x1c\xd3+;\xdd\xb2\x0a?\x86\xd5\xd4\0\0\0\x01\0\0\0\x83N\
+    C1.\x1c\xfa\x82\xb05\xc2l\xbb\xbd\xaec,\xea\x07\x05\x14\xeb\x8bw?aj\xae\xaff\x8e/\x0b\xe8\
+    \xf1\x0d\0\0\0\0\0\0\0\0\x01\0\0\0\0\0\x0fB@\0\0\0\x03one\0\0\0\0\0\0\0\0\0\0\0\0\0\0\0\0\
+    \x01\x01\0\x02t1\x01\x01\0\0\0\0\0\0\0\x01\0\0\0\0\0\0\0\0\xfc\xbe\"\x8a\xdc}\xb2\xe1\xca\
+    \x9c\x94\xf6b\xf8lU%\x03\x8d\xe6&C\xebp\xd5\xd7)\x0d\x91\xfb\xab\x0a\0\0\0\x01\0\0\0+\x01\0\
+    \0\0\0\0\0\0\x01\0\0\0\0\0\0\0\0\0\0\0\x02m1\0\0\0\0\0\0\0\x01\0\0\0\0\0\0\0\0\0\0\0\0";
 
 /// The journal on a disk with these bytes, of which the calls with these numbers fail, and those
 /// after `last`.
@@ -125,7 +146,7 @@ fn an_append_is_two_writes_and_two_syncs(rt: HostRuntime) {
     assert!(rt; disk.calls().len() == 12 && disk.calls().ends_with(&CALLS));
 }
 
-// Three calls open the journal, and four append the first entry.
+// Four calls open the journal, and four append the first entry.
 #[test]
 fn an_entry_is_read_back_and_a_read_that_fails_is_a_fault_alone(rt: HostRuntime) {
     let alloc = rt.alloc();
@@ -169,10 +190,10 @@ fn are_out_or_in(alloc: Global, disk: &MemoryDisk, calls: u64) -> bool {
     true
 }
 
-/// Whether an append that is stopped after so many calls is told so, and leaves what it may. Six calls
-/// open the journal of one entry.
+/// Whether an append that is stopped after so many calls is told so, and leaves what it may. Seven
+/// calls open the journal of one entry.
 fn is_stopped<R: Abort>(rt: &R, alloc: Global, bytes: &[u8], calls: u64) -> bool {
-    let mut journal = journal(rt, alloc, bytes, &[], calls.saturating_add(6));
+    let mut journal = journal(rt, alloc, bytes, &[], calls.saturating_add(7));
     let added = add(alloc, &mut journal, &A);
     let disk = journal.into_disk();
     let told = if calls < 4 {
@@ -193,4 +214,87 @@ fn a_stop_leaves_an_append_out_or_in(rt: HostRuntime) {
     for calls in 1..5 {
         assert!(rt; is_stopped(&rt, alloc, kept.bytes(), calls), "{calls}");
     }
+}
+
+/// Makes room for a base and goes on from it; none where it is no checkpoint, or where memory runs
+/// out.
+fn rebase<K: Keeper>(
+    alloc: Global,
+    keeper: &mut K,
+    payload: &[u8],
+) -> Option<Result<(), KeepFault>> {
+    let Ok(whole) = is_whole_checkpoint(alloc, payload) else {
+        return None;
+    };
+    if !whole || payload.len() >= 1 << 32 || keeper.format() != 2 {
+        return None;
+    }
+    keeper.reserve(payload.len()).ok()?;
+    Some(keeper.rebase(base_place(payload), payload))
+}
+
+/// Whether this is the base, at its place, with so many entries behind it.
+fn begins<K: Keeper>(
+    alloc: Global,
+    keeper: &mut K,
+    payload: &[u8],
+    place: u32,
+    count: u32,
+) -> bool {
+    if keeper.first() != place || keeper.count() != count {
+        return false;
+    }
+    match keeper.base(alloc) {
+        Ok(Some(base)) => base.as_slice() == payload,
+        _ => false,
+    }
+}
+
+#[test]
+fn a_keeper_in_memory_goes_on_from_a_base(rt: HostRuntime) {
+    let alloc = rt.alloc();
+    let Some(mut keeper) = keeper_of(alloc, &FIRST) else {
+        panic!(rt; "there is memory");
+    };
+    assert!(rt; rebase(alloc, &mut keeper, &STATE) == Some(Ok(())));
+    assert!(rt; begins(alloc, &mut keeper, &STATE, 1, 0));
+    assert!(rt; add_all(alloc, &mut keeper, &[&DEV]));
+    assert!(rt; begins(alloc, &mut keeper, &STATE, 1, 1) && holds(alloc, &mut keeper, 0, &DEV));
+}
+
+#[test]
+fn a_base_is_written_as_an_entry_is_and_opens_again(rt: HostRuntime) {
+    let alloc = rt.alloc();
+    let mut first = journal(&rt, alloc, b"", &[], u64::MAX);
+    assert!(rt; add_all(alloc, &mut first, &[&FIRST]));
+    assert!(rt; rebase(alloc, &mut first, &STATE) == Some(Ok(())));
+    assert!(rt; first.first() == 1 && first.count() == 0);
+    let disk = first.into_disk();
+    assert!(rt;
+        disk.calls().ends_with(&[
+            Call::Write(194, 257),
+            Call::Sync,
+            Call::Write(193, 1),
+            Call::Sync,
+        ])
+    );
+    assert!(rt; disk.bytes().len() == 451 && disk.bytes()[193] == 1 && disk.bytes()[450] == 0);
+    let mut again = journal(&rt, alloc, disk.bytes(), &[], u64::MAX);
+    assert!(rt; begins(alloc, &mut again, &STATE, 1, 0));
+    assert!(rt; add_all(alloc, &mut again, &[&DEV]));
+    assert!(rt; begins(alloc, &mut again, &STATE, 1, 1) && holds(alloc, &mut again, 0, &DEV));
+}
+
+#[test]
+fn a_journal_of_format_1_is_migrated_by_one_byte(rt: HostRuntime) {
+    let alloc = rt.alloc();
+    let mut old = journal(&rt, alloc, &OLD, &[], u64::MAX);
+    assert!(rt; old.format() == 1 && rebase(alloc, &mut old, &STATE).is_none());
+    let Ok(migrated) = migrate(alloc, old.into_disk()) else {
+        panic!(rt; "the journal opens");
+    };
+    assert!(rt; migrated.format() == 2);
+    let disk = migrated.into_disk();
+    assert!(rt; disk.bytes() == NEW.as_slice());
+    assert!(rt; disk.calls().ends_with(&[Call::Write(15, 1), Call::Sync]));
 }

@@ -86,7 +86,8 @@ fn all_are_back(listener: &MemoryListener) -> bool {
         && gave_back(second, b"e")
 }
 
-/// Whether a call that is to fail tells its address, and one with a long address fails and tells none.
+/// Whether a call that is to fail tells its address, and one with a long address fails and tells
+/// none.
 fn fails_to_listen(alloc: Global) -> Result<bool, AllocError> {
     let own = ConnectionList {
         connections: Vec::new(alloc),
@@ -149,8 +150,8 @@ fn twins_over_tcp_share_their_connections(rt: HostRuntime) -> Result<(), Fail> {
     Ok(())
 }
 
-/// Whether a byte is read that came in time, none that came after a silence of a second, and again one
-/// after a write; and then a read finds none within a second.
+/// Whether a byte is read that came in time, none that came after a silence of a second, and again
+/// one after a write; and then a read finds none within a second.
 fn are_timed<R: Clock + Copy + Send>(
     rt: &R,
     input: &mut TcpSource<R>,

@@ -1,6 +1,6 @@
 //! The bytes of commits and contents, each field with a value of its own, and what is told of a
-//! commit. A value whose parts have variants is given to `drop` before the next way out: each way out
-//! has its proof.
+//! commit. A value whose parts have variants is given to `drop` before the next way out: each way
+//! out has its proof.
 
 use cat_codes::fault::{FieldFault, NoMemory};
 use cat_commit::{CommitMetaForm, MetaForm, id};

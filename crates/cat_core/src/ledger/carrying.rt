@@ -28,8 +28,8 @@ impl Ledger {
         }
     }
 
-    /// Carries out what was decided of a call in its turn: a refusal, a reply, or a change. The draft
-    /// number is taken in each case.
+    /// Carries out what was decided of a call in its turn: a refusal, a reply, or a change. The
+    /// draft number is taken in each case.
     pub(crate) fn carry_out<K: Keeper>(
         &mut self,
         alloc: Global,

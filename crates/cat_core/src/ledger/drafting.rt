@@ -48,8 +48,8 @@ impl Ledger {
         self.draft = self.draft.max(draft);
     }
 
-    /// Settles what a call built on its branch's head: its step in its own draft, which was opened at
-    /// a place.
+    /// Settles what a call built on its branch's head: its step in its own draft, which was opened
+    /// at a place.
     pub fn settle<K: Keeper>(
         &mut self,
         alloc: Global,

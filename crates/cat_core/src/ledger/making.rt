@@ -20,8 +20,8 @@ use cat_state::unmade::Unmade;
 use std::alloc::Global;
 
 impl Ledger {
-    /// Takes room for an entry in the log, makes the change whole once the keeper has the entry, and
-    /// adds the entry to the log, which takes no memory; or changes nothing.
+    /// Takes room for an entry in the log, makes the change whole once the keeper has the entry,
+    /// and adds the entry to the log, which takes no memory; or changes nothing.
     fn make<K: Keeper>(
         &mut self,
         alloc: Global,
@@ -58,8 +58,8 @@ impl Ledger {
         }
     }
 
-    /// Makes the change that a call comes to, with its entry, and tells the reply at the next place;
-    /// or changes nothing.
+    /// Makes the change that a call comes to, with its entry, and tells the reply at the next
+    /// place; or changes nothing.
     pub(crate) fn change<K: Keeper>(
         &mut self,
         alloc: Global,

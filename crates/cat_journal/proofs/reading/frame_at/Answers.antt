@@ -1,16 +1,16 @@
-use Rattle.std.proofs.Common.{◌∙◌, sym, ap, arith, rules}
-use Rattle.cat_frames.specs.Payload.{has_reading}
-use Rattle.cat_journal.proofs.Found.{is_frame, is_damage}
+use Rattle.std.proofs.Common.{arith, rules}
+use Rattle.cat_journal.proofs.Found.{is_broken, is_closed, is_whole}
 use Rattle.cat_journal.proofs.reading.frame_at.Goals as goal
 
-pub returns-then-readable-clause-found : goal.returns-then-readable-clause-found
-returns-then-readable-clause-found g c =
-    is_frame (g.D.Disk.told c.args.disk.now) (g.D.Disk.told c.read_gate.new.disk) c.args.at c.args.len c.in-Ok.count c.in-Ok.gate c.read_into.new.buffer.items
-    c.requires.len c.requires.inside c.in-Ok.ensures.gate c.in-Ok.ensures.size c.read_gate.ensures.reads.same (search rules) (omega arith) (search rules) c.in-Ok-read_into.ensures.value
-    (sym (ap has_reading c.deref.ensures.value) ∙ sym c.in-Ok-has_reading.ensures ∙ c.if-readable.true)
+pub returns-then-gate-ne1-clause-found : goal.returns-then-gate-ne1-clause-found
+returns-then-gate-ne1-clause-found g c =
+    is_closed (g.D.Disk.told c.args.disk.now) c.args.at c.args.len c.in_ok-gate.size c.in_ok-gate.gate c.in_ok-gate.kind c.requires.len c.requires.inside c.in_ok-gate.ensures.gate (search rules)
 
-pub returns-else-readable-clause-found : goal.returns-else-readable-clause-found
-returns-else-readable-clause-found g c =
-    is_damage (g.D.Disk.told c.args.disk.now) (g.D.Disk.told c.read_gate.new.disk) c.args.at c.args.len c.in-Ok.count c.in-Ok.gate c.read_into.new.buffer.items
-    c.requires.len c.requires.inside c.in-Ok.ensures.gate c.in-Ok.ensures.size c.read_gate.ensures.reads.same (search rules) (omega arith) (search rules) c.in-Ok-read_into.ensures.value
-    (sym (ap has_reading c.deref.ensures.value) ∙ sym c.in-Ok-has_reading.ensures ∙ c.if-readable.false)
+pub returns-then-len-at-clause-found : goal.returns-then-len-at-clause-found
+returns-then-len-at-clause-found g c =
+    is_broken (g.D.Disk.told c.args.disk.now) c.args.at c.args.len c.in_ok-gate.size c.in_ok-gate.gate c.in_ok-gate.kind c.requires.len c.requires.inside c.in_ok-gate.ensures.gate (search rules) c.in_ok-gate.ensures.size (search rules) (omega arith)
+
+pub returns-clause-found : goal.returns-clause-found
+returns-clause-found g c =
+    rw c.is_base.ensures
+    (is_whole (g.D.Disk.told c.args.disk.now) c.args.at c.args.len c.in_ok-gate.size c.in_ok-gate.gate c.in_ok-gate.kind c.requires.len c.requires.inside c.in_ok-gate.ensures.gate (search rules) c.in_ok-gate.ensures.size (search rules) (omega arith) c.in_ok-gate.ensures.kind)
