@@ -10,8 +10,8 @@ use cat_mark::{Marks, Roots};
 use std::alloc::Global;
 use std::thread::Threads;
 
-/// Marks what roots keep, by so many workers, where what was walked before was walked on a catalogue
-/// with these commits or fewer. The view is given up as soon as it isn't needed.
+/// Marks what roots keep, by so many workers, where what was walked before was walked on a
+/// catalogue with these commits or fewer. The view is given up as soon as it isn't needed.
 pub(crate) fn mark<R: Threads + Sync>(
     rt: &R,
     alloc: Global,

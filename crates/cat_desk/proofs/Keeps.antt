@@ -1,5 +1,5 @@
 -- Each step on the desk's table keeps its rule.
-use Rattle.std.proofs.Common.{◌≡◌, ◌≢◌, ℕ, suc, ◌+◌, ◌-◌, ◌%◌, ◌^◌, ◌<◌, ◌≤◌, List, [], ◌∷◌, length, get_or, set, eqb, eq-eqb, ne_eqb, cond, sym, refl, ap, ◌∙◌, subst, arith, Option, Some, None, le_refl, length-set}
+use Rattle.std.proofs.Common.{◌≡◌, ◌≢◌, ℕ, suc, ◌+◌, ◌-◌, ◌%◌, ◌^◌, ◌<◌, ◌≤◌, List, [], ◌∷◌, length, get_or, set, eqb, eq-eqb, ne_eqb, cond, sym, refl, ap, ◌∙◌, subst, inl, arith, Option, Some, None, le_refl, length-set}
 use mathlib.Core.Option.{some, none}
 use native.Mathlib.Nat.{mod-eq_of_lt}
 use mathlib.Core.Option.{Option as Maybe}
@@ -14,11 +14,11 @@ use Rattle.cat_model.specs.Drafts.{Open, open_of, StaysOpen, LeavesOthers}
 use Rattle.cat_model.specs.Mark.{Mark, Grows, Later}
 use Rattle.cat_model.specs.Turns.{Opened, Adds}
 use Rattle.cat_model.specs.TurnLaws.{grows_self, grows_on, stays_self, stays_on}
-use Rattle.cat_desk.specs.Sight.{Origin, Stage, Idle, Making, Waiting, Called, Holding, Leaving, View}
-use Rattle.cat_desk.specs.Log.{Follows, Missed, Since}
+use Rattle.cat_desk.specs.Sight.{Origin, Stage, Idle, Making, Waiting, Called, Holding, Leaving, Part, no_part, View}
+use Rattle.cat_desk.specs.Log.{IsAmong, WasGiven, Follows, Missed, Since}
 use Rattle.cat_desk.specs.Marks.{Linked, IsGiven, AreGiven}
-use Rattle.cat_desk.specs.Rule.{Place, home, out, IsLive, IsBusy, IsServed, IsAlone, IsMaking, IsUnborn, tickets_of, total, queue, weight, Fits, Turned, SomeoneSaw, Stands, Kept, at_stage, waiting, knowing, drew, called, served, met, still, unnumbered, finding, leaving, Begins, Found, TookAt, took, gave}
-use Rattle.cat_desk.proofs.Logs.{both_itself, both_on, missed_none, missed_follows, missed_more, adds_longer, since_more, since_next}
+use Rattle.cat_desk.specs.Rule.{Place, home, out, IsLive, IsBusy, IsServed, IsAlone, IsMaking, IsUnborn, tickets_of, total, queue, weight, numbers_of, IsPart, Fits, Turned, SomeoneSaw, Stands, Kept, at_stage, waiting, knowing, drew, called, served, met, still, unnumbered, finding, leaving, Begins, Found, TookAt, took, gave}
+use Rattle.cat_desk.proofs.Logs.{missed_none, missed_follows, missed_more, adds_longer, since_more, since_next}
 use Rattle.cat_desk.proofs.Marks.{linked_self, linked_more, given_more, are_given_more}
 use Rattle.cat_desk.proofs.Totals.{total_set, total_le, two_of}
 use Rattle.cat_desk.proofs.Standing.{stands_stay, stands_at, home_at, unborn_at}
@@ -66,7 +66,7 @@ module _ {V : Type 0} (log : V → List LogEntry) (opened : V → Opened) (legal
 
   -- a step by which the seat id comes to the view w
   step_to : (s : St) (r : Rule s) (id : ℕ) (v w : View) (ws : List ℕ) (hs : List (Maybe (Option V))) (all : List LogEntry) (tickets : ℕ) (owner : ℕ → ℕ) (place : Place V) (last : ℕ) (marks : ℕ → Mark) (opens : Open)
-      → ((a b : ℕ) → a ≤ b → b ≤ last → Grows (marks a) (marks b)) → (marks 0 ≡ mark key) → IsGiven r.next (mark key) (marks last) → AreGiven r.next opens → get_elem? s.views id ≡ some v → IsLive w.stage → weight w ≡ weight v
+      → ((a b : ℕ) → a ≤ b → b ≤ last → Grows (marks a) (marks b)) → (marks 0 ≡ mark key) → ((j : ℕ) → j ≤ last → IsGiven r.next (mark key) (marks j)) → AreGiven r.next opens → get_elem? s.views id ≡ some v → IsLive w.stage → weight w ≡ weight v
       → length ws ≡ 67 → get_or ws 0 0 ≡ length all → length all < 4294967296 → get_or ws 1 0 ≡ tickets % 18446744073709551616 → (total queue (set s.views id w) + get_or ws 2 0 ≡ tickets) → legal (opened key) all → Since r.next (log key) all
       → Fits (opened key, log key) all tickets (get_or ws 2 0) r.next r.keeper owner r.named (IsUnborn place) last marks opens id w
       → ((j : ℕ) (d : View) → j ≢ id → get_elem? s.views j ≡ some d → IsLive d.stage → Fits (opened key, log key) all tickets (get_or ws 2 0) r.next r.keeper owner r.named (IsUnborn place) last marks opens j d)
@@ -163,10 +163,11 @@ module _ {V : Type 0} (log : V → List LogEntry) (opened : V → Opened) (legal
         tt,
         rebuilt s r 1 new s.homes (set s.views id w) (step_to s r id v w (word_at s 0 ∷ new ∷ word_at s 2 ∷ behind s.words) s.homes r.all (t + 1) o r.place r.last r.marks r.opens r.grows r.first_mark r.mark_given r.opens_given here tt refl (as_wide s r) r.count r.small (omega arith) (omega arith) r.is_legal r.since
             record {
-              saw = record { based = f.saw.based; since = f.saw.since; missed = f.saw.missed; least = f.saw.least; most = f.saw.most; parts = f.saw.parts };
-              numbered = record { own_number = f.numbered.own_number; given = f.numbered.given; stands_for = f.numbered.stands_for; may_give = f.numbered.may_give };
+              saw = record { based = f.saw.based; since = f.saw.since; missed = f.saw.missed; least = f.saw.least; most = f.saw.most };
+              numbered = record { own_numbers = f.numbered.own_numbers; stands_for = f.numbered.stands_for; may_give = f.numbered.may_give };
               in_line = record { has_ticket = λ _. (omega arith, omega arith, mine_at); served = λ x. absurd x; alone = λ x. absurd x; making = λ x. absurd x };
-              marked = record { turn = f.marked.turn; mark = f.marked.mark; linked = f.marked.linked; own = f.marked.own; whole = f.marked.whole; current = λ x. absurd x; parts = f.marked.parts };
+              marked = record { turn = f.marked.turn; mark = f.marked.mark; linked = f.marked.linked; own = f.marked.own; whole = f.marked.whole; current = λ x. absurd x };
+              parts = f.parts;
             }
             (λ j d other at alive. let g = r.each j d at alive in record {
               saw = g.saw;
@@ -178,6 +179,7 @@ module _ {V : Type 0} (log : V → List LogEntry) (opened : V → Opened) (legal
                 making = g.in_line.making;
               };
               marked = g.marked;
+              parts = g.parts;
             })
             (someone_stays s r id v w here tt refl refl)
             (stands_stay log opened mark left_open key r.all (r.marks r.last) r.opens (o (word_at s 2)) s.homes s.views id v w r.place here n
@@ -199,10 +201,11 @@ module _ {V : Type 0} (log : V → List LogEntry) (opened : V → Opened) (legal
         keeps,
         tt,
         unmoved s r 2 id me.1 v (at_stage v Called) here tt refl (sym (ap tickets_of waits)) refl refl n record {
-          saw = record { based = f.saw.based; since = f.saw.since; missed = f.saw.missed; least = f.saw.least; most = f.saw.most; parts = f.saw.parts };
-          numbered = record { own_number = f.numbered.own_number; given = f.numbered.given; stands_for = f.numbered.stands_for; may_give = f.numbered.may_give };
+          saw = record { based = f.saw.based; since = f.saw.since; missed = f.saw.missed; least = f.saw.least; most = f.saw.most };
+          numbered = record { own_numbers = f.numbered.own_numbers; stands_for = f.numbered.stands_for; may_give = f.numbered.may_give };
           in_line = record { has_ticket = λ _. l; served = λ _. sym turn; alone = λ x. absurd x; making = λ x. absurd x };
-          marked = record { turn = f.marked.turn; mark = f.marked.mark; linked = f.marked.linked; own = f.marked.own; whole = f.marked.whole; current = λ x. absurd x; parts = f.marked.parts };
+          marked = record { turn = f.marked.turn; mark = f.marked.mark; linked = f.marked.linked; own = f.marked.own; whole = f.marked.whole; current = λ x. absurd x };
+          parts = f.parts;
         },
         (refl, (λ _. (refl, sym turn)), λ miss. absurd (miss same)),
       ))
@@ -215,10 +218,11 @@ module _ {V : Type 0} (log : V → List LogEntry) (opened : V → Opened) (legal
         keeps,
         tt,
         unmoved s r 0 id me.1 v w here live refl refl refl refl (λ a. subst IsAlone idle a) record {
-          saw = record { based = f.saw.based; since = f.saw.since; missed = f.saw.missed; least = omega arith; most = omega arith; parts = f.saw.parts };
-          numbered = record { own_number = f.numbered.own_number; given = f.numbered.given; stands_for = f.numbered.stands_for; may_give = f.numbered.may_give };
+          saw = record { based = f.saw.based; since = f.saw.since; missed = f.saw.missed; least = omega arith; most = omega arith };
+          numbered = record { own_numbers = f.numbered.own_numbers; stands_for = f.numbered.stands_for; may_give = f.numbered.may_give };
           in_line = record { has_ticket = f.in_line.has_ticket; served = f.in_line.served; alone = f.in_line.alone; making = f.in_line.making };
-          marked = record { turn = f.marked.turn; mark = f.marked.mark; linked = f.marked.linked; own = f.marked.own; whole = f.marked.whole; current = f.marked.current; parts = f.marked.parts };
+          marked = record { turn = f.marked.turn; mark = f.marked.mark; linked = f.marked.linked; own = f.marked.own; whole = f.marked.whole; current = f.marked.current };
+          parts = f.parts;
         },
         (refl, refl, omega arith, omega arith),
       )
@@ -235,32 +239,33 @@ module _ {V : Type 0} (log : V → List LogEntry) (opened : V → Opened) (legal
       )
 
   -- the slot is taken by the seat whose turn it is
-  taken : (s : St) (r : Rule s) (id : ℕ) (cs : List (ℕ × Option V)) (v : View) (x : Option V) (seen : List LogEntry) (k : ℕ) (m : Mark) (op : Open) (t : ℕ) (ms : Mark × Mark) → get_elem? s.views id ≡ some v → IsServed v.stage → seen ≡ r.all → length seen ≤ k → k ≤ length r.all → m ≡ r.marks r.last → op ≡ r.opens → t ≡ r.last → Grows ms.0 m × Grows ms.1 m
-      → Rule (stepped s 0 (word_at s 0) id cs (record v { seen = seen; known = k; mark = m; found = op; turn = t; stage = Holding; part_marks = ms }) (takes 0 x))
-  taken s r id cs v x seen k m op t ms here sv all least most marks opens last both = let w : View = record v { seen = seen; known = k; mark = m; found = op; turn = t; stage = Holding; part_marks = ms } in
+  taken : (s : St) (r : Rule s) (id : ℕ) (cs : List (ℕ × Option V)) (v : View) (x : Option V) (seen : List LogEntry) (k : ℕ) (m : Mark) (op : Open) (t : ℕ) (ps : Part × Part) → get_elem? s.views id ≡ some v → IsServed v.stage → seen ≡ r.all → length seen ≤ k → k ≤ length r.all → m ≡ r.marks r.last → op ≡ r.opens → t ≡ r.last → IsPart ps.0 seen m × IsPart ps.1 seen m
+      → Rule (stepped s 0 (word_at s 0) id cs (record v { seen = seen; known = k; mark = m; found = op; turn = t; stage = Holding; parts = ps }) (takes 0 x))
+  taken s r id cs v x seen k m op t ps here sv all least most marks opens last both = let w : View = record v { seen = seen; known = k; mark = m; found = op; turn = t; stage = Holding; parts = ps } in
       let f = r.each id v here (busy_live v.stage (served_busy v.stage sv)) in let turn = my_turn s r id v f sv in
-      let on : Follows v.number v.seen seen = subst (Follows v.number v.seen) (sym all) (missed_follows v.number r.next v.seen r.all f.saw.missed) in
       rebuilt s r 0 (word_at s 0) (set s.homes 0 none) (set s.views id w) (step_to s r id v w (word_at s 0 ∷ word_at s 1 ∷ word_at s 2 ∷ behind s.words) (set s.homes 0 none) r.all r.tickets r.owner out r.last r.marks r.opens r.grows r.first_mark r.mark_given r.opens_given here tt refl
       (as_wide s r) r.count r.small r.drawn (queue_stays s r id v w here (sym (served_ticket v.stage sv))) r.is_legal r.since
       record {
-        saw = record { based = f.saw.based; since = subst (Since r.next (log key)) (sym all) r.since; missed = subst (λ l. Missed v.number r.next l r.all) (sym all) (missed_none v.number r.next r.all); least = least; most = most; parts = both_on v.number v.parts.0 v.parts.1 v.seen seen f.saw.parts on };
-        numbered = record { own_number = f.numbered.own_number; given = f.numbered.given; stands_for = f.numbered.stands_for; may_give = f.numbered.may_give };
+        saw = record { based = f.saw.based; since = subst (Since r.next (log key)) (sym all) r.since; missed = λ n is. subst (λ l. Missed n r.next l r.all) (sym all) (missed_none n r.next r.all); least = least; most = most };
+        numbered = record { own_numbers = f.numbered.own_numbers; stands_for = f.numbered.stands_for; may_give = f.numbered.may_give };
         in_line = record { has_ticket = λ _. f.in_line.has_ticket (served_busy v.stage sv); served = λ _. f.in_line.served sv; alone = λ _. all; making = λ y. absurd y };
         marked = record {
           turn = let now : t ≡ r.last = last in omega arith;
           mark = marks ∙ ap r.marks (sym last);
-          linked = subst (λ (z : Mark). Linked v.number z (r.marks r.last)) (sym marks) (linked_self v.number (r.marks r.last));
+          linked = λ n is j low high. let from : t ≤ j = low in let to : j ≤ r.last = high in let now : t ≡ r.last = last in let same : j ≡ r.last = omega arith in
+              subst (λ (z : Mark × Mark). Linked n z.0 z.1) (λ i. (sym marks i, ap r.marks (sym same) i)) (linked_self n (r.marks r.last));
           own = f.marked.own;
           whole = λ _. opens;
           current = λ _. last;
-          parts = both;
         };
+        parts = both;
       }
       (λ j d other at alive. let g = r.each j d at alive in record {
         saw = g.saw;
         numbered = g.numbered;
         in_line = record { has_ticket = g.in_line.has_ticket; served = g.in_line.served; alone = g.in_line.alone; making = λ m. other_turn s r j id d other turn g (making_served d.stage m) };
         marked = g.marked;
+        parts = g.parts;
       })
       (id, w, set_there s.views id w v here, tt, all, last)
       (w, subst (λ (o : ℕ). get_elem? (set s.views id w) o ≡ some w) (sym turn) (set_there s.views id w v here), refl))
@@ -285,18 +290,18 @@ module _ {V : Type 0} (log : V → List LogEntry) (opened : V → Opened) (legal
         finding v (log x) (mark x) (left_open x) r.last,
         takes 0 (Some x),
         h.1,
-        taken s r id me.1 v (Some x) (log x) (length (log x)) (mark x) (left_open x) r.last (mark x, mark x) here sv h.2 (le_refl (length (log x))) most h.4 h.5 refl (grows_self (mark x), grows_self (mark x)),
+        taken s r id me.1 v (Some x) (log x) (length (log x)) (mark x) (left_open x) r.last (no_part, no_part) here sv h.2 (le_refl (length (log x))) most h.4 h.5 refl (λ n is. absurd is, λ n is. absurd is),
         subst (TookAt log opened legal mark left_open me (finding v (log x) (mark x) (left_open x) r.last, (0, Some x) ∷ me.1)) (sym is) (
           x,
           (
             ap (λ l. (0, Some x) ∷ l) none_held,
             refl,
-            subst (Follows v.number v.seen) (sym h.2) (missed_follows v.number r.next v.seen r.all f.saw.missed),
+            subst (Follows v.number v.seen) (sym h.2) (missed_follows v.number r.next v.seen r.all (f.saw.missed v.number (inl refl))),
             subst (λ l. v.known ≤ length l) (sym h.2) f.saw.most,
             begins_at v.origin x f.saw.based h.3 (subst (legal (opened key)) (sym h.2) r.is_legal),
             f.marked.turn,
             (λ same. (h.4 ∙ (ap r.marks same ∙ sym f.marked.mark), h.5 ∙ sym (f.marked.whole (sym same)))),
-            subst (Linked v.number v.mark) (sym h.4) f.marked.linked,
+            subst (Linked v.number v.mark) (sym h.4) (f.marked.linked v.number (inl refl) r.last f.marked.turn (le_refl r.last)),
             subst (λ (o : Open). StaysOpen v.own (open_of v.number o)) (sym h.5) f.marked.own,
             λ all_of. let whole = saw_all s r id v here (subst IsLive (sym is) tt) all_of in (h.2 ∙ sym whole.0, h.4 ∙ sym whole.1, h.5 ∙ sym whole.2),
           ),
@@ -313,7 +318,7 @@ module _ {V : Type 0} (log : V → List LogEntry) (opened : V → Opened) (legal
         at_stage v Holding,
         takes 0 None,
         unborn_at log opened mark left_open key r.all (r.marks r.last) r.opens (r.owner (word_at s 2)) s.homes s.views r.place (f.in_line.making (subst IsMaking (sym is) tt)) r.stands,
-        taken s r id me.1 v None v.seen v.known v.mark v.found v.turn v.part_marks here sv (f.in_line.alone a) f.saw.least f.saw.most (f.marked.mark ∙ ap r.marks (f.marked.current a)) (f.marked.whole (f.marked.current a)) (f.marked.current a) f.marked.parts,
+        taken s r id me.1 v None v.seen v.known v.mark v.found v.turn v.parts here sv (f.in_line.alone a) f.saw.least f.saw.most (f.marked.mark ∙ ap r.marks (f.marked.current a)) (f.marked.whole (f.marked.current a)) (f.marked.current a) f.parts,
         subst (TookAt log opened legal mark left_open me (at_stage v Holding, (0, None) ∷ me.1)) (sym is) (ap (λ l. (0, None) ∷ l) none_held, refl),
       )
 
@@ -322,8 +327,9 @@ module _ {V : Type 0} (log : V → List LogEntry) (opened : V → Opened) (legal
   given s r id v n x some_slot here is adds ok from later others_open count small = let w : View = leaving v (log x) (mark x) (left_open x) in let sv : IsServed v.stage = subst IsServed (sym is) tt in
       let a : IsAlone v.stage = subst IsAlone (sym is) tt in
       let f = r.each id v here (subst IsLive (sym is) tt) in let turn = my_turn s r id v f sv in
+      let own = f.numbered.own_numbers v.number (inl refl) in let was : WasGiven r.next v.number = own.1 in
       let more : Adds v.number r.all (log x) = subst (λ l. Adds v.number l (log x)) (f.in_line.alone a) adds in
-      let more_since : Since r.next (log key) (log x) = since_more v.number r.next (log key) r.all (log x) f.numbered.given r.since more in
+      let more_since : Since r.next (log key) (log x) = since_more v.number r.next (log key) r.all (log x) was r.since more in
       let longer : length r.all ≤ length (log x) = adds_longer v.number r.all (log x) more in
       let last : v.turn ≡ r.last = f.marked.current a in let t : ℕ = v.turn + 1 in let marks : ℕ → Mark = λ k. cond (eqb k t) (mark x) (r.marks k) in
       let new_at : marks t ≡ mark x = ap (λ b. cond b (mark x) (r.marks t)) (eq-eqb t t refl) in
@@ -337,25 +343,28 @@ module _ {V : Type 0} (log : V → List LogEntry) (opened : V → Opened) (legal
       (λ nd. let low : i ≤ r.last = below i (omega arith) nd in subst (λ z. Grows z (mark x)) (sym (old_at i nd)) (grows_on (r.marks i) (r.marks r.last) (mark x) (r.grows i r.last low (le_refl r.last)) moved.grows)))))
       (λ ne. let low : j ≤ r.last = below j under ne in let not_i : i ≢ t = λ e. omega arith in
       subst (λ (z : Mark × Mark). Grows z.0 z.1) (λ q. (sym (old_at i not_i) q, sym (old_at j ne) q)) (r.grows i j le low)) in
+      let given_at : (j : ℕ) → j ≤ t → IsGiven r.next (mark key) (marks j) = λ j under. dite (ℕ_discrete j t)
+      (λ e. subst (λ (z : ℕ). IsGiven r.next (mark key) (marks z)) (sym e) (subst (IsGiven r.next (mark key)) (sym new_at) (given_more v.number r.next (mark key) (r.marks r.last) (mark x) was (r.mark_given r.last (le_refl r.last)) moved)))
+      (λ ne. subst (IsGiven r.next (mark key)) (sym (old_at j ne)) (r.mark_given j (below j under ne))) in
       rebuilt s r 0 n (set s.homes 0 (some (Some x))) (set s.views id w) (step_to s r id v w (n ∷ word_at s 1 ∷ word_at s 2 ∷ behind s.words) (set s.homes 0 (some (Some x))) (log x) r.tickets r.owner (home x) t marks (left_open x)
-      grows (old_at 0 (λ e. omega arith) ∙ r.first_mark) (subst (IsGiven r.next (mark key)) (sym new_at) (given_more v.number r.next (mark key) (r.marks r.last) (mark x) f.numbered.given r.mark_given moved))
-      (are_given_more v.number r.next r.opens (left_open x) f.numbered.given r.opens_given moved_open) here tt refl
+      grows (old_at 0 (λ e. omega arith) ∙ r.first_mark) given_at
+      (are_given_more v.number r.next r.opens (left_open x) was.1 r.opens_given moved_open) here tt refl
       (as_wide s r) count (omega arith) r.drawn (queue_stays s r id v w here (sym (ap tickets_of is))) ok more_since
       record {
-        saw = record { based = f.saw.based; since = more_since; missed = missed_none v.number r.next (log x); least = le_refl (length (log x)); most = le_refl (length (log x)); parts = both_itself v.number (log x) };
-        numbered = record { own_number = f.numbered.own_number; given = f.numbered.given; stands_for = f.numbered.stands_for; may_give = f.numbered.may_give };
+        saw = record { based = f.saw.based; since = more_since; missed = λ n is. missed_none n r.next (log x); least = le_refl (length (log x)); most = le_refl (length (log x)) };
+        numbered = record { own_numbers = f.numbered.own_numbers; stands_for = f.numbered.stands_for; may_give = f.numbered.may_give };
         in_line = record { has_ticket = λ _. f.in_line.has_ticket (served_busy v.stage sv); served = λ _. f.in_line.served sv; alone = λ y. absurd y; making = λ y. absurd y };
-        marked = record { turn = le_refl t; mark = sym new_at; linked = subst (Linked v.number (mark x)) (sym new_at) (linked_self v.number (mark x)); own = stays_self (open_of v.number (left_open x)); whole = λ _. refl; current = λ y. absurd y; parts = (grows_self (mark x), grows_self (mark x)) };
+        marked = record { turn = le_refl t; mark = sym new_at; linked = λ n is j low high. let from : t ≤ j = low in let to : j ≤ t = high in let same : j ≡ t = omega arith in subst (Linked n (mark x)) (sym new_at ∙ ap marks (sym same)) (linked_self n (mark x)); own = stays_self (open_of v.number (left_open x)); whole = λ _. refl; current = λ y. absurd y };
+        parts = (λ n is. absurd is, λ n is. absurd is);
       }
       (λ j d other at alive. let g = r.each j d at alive in let most : d.known ≤ length r.all = g.saw.most in
-      let apart : d.number ≢ v.number = λ e. other (sym g.numbered.own_number ∙ (ap r.named e ∙ f.numbered.own_number)) in let before : d.turn ≤ r.last = g.marked.turn in record {
+      let apart : (m : ℕ) → IsAmong m (numbers_of d) → m ≢ v.number = λ m is e. other (sym (g.numbered.own_numbers m is).0 ∙ (ap r.named e ∙ own.0)) in let before : d.turn ≤ r.last = g.marked.turn in record {
         saw = record {
           based = g.saw.based;
           since = g.saw.since;
-          missed = missed_more v.number d.number r.next d.seen r.all (log x) apart f.numbered.given g.saw.missed more;
+          missed = λ m is. missed_more v.number m r.next d.seen r.all (log x) (apart m is) was (g.saw.missed m is) more;
           least = g.saw.least;
           most = omega arith;
-          parts = g.saw.parts;
         };
         numbered = g.numbered;
         in_line = record {
@@ -367,12 +376,14 @@ module _ {V : Type 0} (log : V → List LogEntry) (opened : V → Opened) (legal
         marked = record {
           turn = omega arith;
           mark = g.marked.mark ∙ sym (old_at d.turn (λ e. omega arith));
-          linked = subst (Linked d.number d.mark) (sym new_at) (linked_more v.number d.number d.mark (r.marks r.last) (mark x) apart g.marked.linked moved);
-          own = stays_on d.own (open_of d.number r.opens) (open_of d.number (left_open x)) g.marked.own (moved_open d.number apart);
+          linked = λ m is j low high. dite (ℕ_discrete j t)
+              (λ e. subst (λ (z : ℕ). Linked m d.mark (marks z)) (sym e) (subst (Linked m d.mark) (sym new_at) (linked_more v.number m d.mark (r.marks r.last) (mark x) (apart m is) (g.marked.linked m is r.last before (le_refl r.last)) moved)))
+              (λ ne. subst (Linked m d.mark) (sym (old_at j ne)) (g.marked.linked m is j low (below j high ne)));
+          own = stays_on d.own (open_of d.number r.opens) (open_of d.number (left_open x)) g.marked.own (moved_open d.number (apart d.number (inl refl)));
           whole = λ e. absurd (omega arith);
           current = λ y. absurd (other_turn s r j id d other turn g (alone_served d.stage y));
-          parts = g.marked.parts;
         };
+        parts = g.parts;
       })
       (id, w, set_there s.views id w v here, tt, refl, refl)
       (set_here s.homes 0 (some (Some x)) some_slot, refl, from, sym new_at, refl))
@@ -407,10 +418,11 @@ module _ {V : Type 0} (log : V → List LogEntry) (opened : V → Opened) (legal
         rebuilt s r 2 n s.homes (set s.views id w) (step_to s r id v w (word_at s 0 ∷ word_at s 1 ∷ n ∷ behind s.words) s.homes r.all r.tickets r.owner (home h.0) r.last r.marks r.opens r.grows r.first_mark r.mark_given r.opens_given here tt refl
             (as_wide s r) r.count r.small r.drawn (omega arith) r.is_legal r.since
             record {
-              saw = record { based = f.saw.based; since = f.saw.since; missed = f.saw.missed; least = f.saw.least; most = f.saw.most; parts = f.saw.parts };
-              numbered = record { own_number = f.numbered.own_number; given = f.numbered.given; stands_for = f.numbered.stands_for; may_give = f.numbered.may_give };
+              saw = record { based = f.saw.based; since = f.saw.since; missed = f.saw.missed; least = f.saw.least; most = f.saw.most };
+              numbered = record { own_numbers = f.numbered.own_numbers; stands_for = f.numbered.stands_for; may_give = f.numbered.may_give };
               in_line = record { has_ticket = λ y. absurd y; served = λ y. absurd y; alone = λ y. absurd y; making = λ y. absurd y };
-              marked = record { turn = f.marked.turn; mark = f.marked.mark; linked = f.marked.linked; own = f.marked.own; whole = f.marked.whole; current = λ y. absurd y; parts = f.marked.parts };
+              marked = record { turn = f.marked.turn; mark = f.marked.mark; linked = f.marked.linked; own = f.marked.own; whole = f.marked.whole; current = λ y. absurd y };
+              parts = f.parts;
             }
             (λ j d other at alive. let g = r.each j d at alive in record {
               saw = g.saw;
@@ -422,6 +434,7 @@ module _ {V : Type 0} (log : V → List LogEntry) (opened : V → Opened) (legal
                 making = λ m. other_turn s r j id d other turn g (making_served d.stage m);
               };
               marked = g.marked;
+              parts = g.parts;
             })
             (someone_stays s r id v w here tt refl refl)
             (h.1, h.2, h.3, h.4, h.5)),

@@ -1,31 +1,31 @@
 -- Logs that go on.
-use Rattle.std.proofs.Common.{◌≡◌, ◌≢◌, ℕ, ◌+◌, ◌<◌, ◌≤◌, List, [], ◌∷◌, ◌++◌, length, refl, sym, ap, ap₂, ◌∙◌, subst, arith, length-append, max}
+use Rattle.std.proofs.Common.{◌≡◌, ◌≢◌, ℕ, ◌+◌, ◌<◌, ◌≤◌, ◌⊎◌, inl, inr, ⊎_elim, List, [], ◌∷◌, ◌++◌, length, refl, sym, ap, ap₂, ◌∙◌, subst, arith, length-append, max}
 use Rattle.std.proofs.lemmas.List.{append_assoc, append-nil}
 use Rattle.cat_model.specs.declared.log_entry.LogEntry.{LogEntry}
 use Rattle.cat_model.specs.Turns.{Own, Adds}
-use Rattle.cat_desk.specs.Log.{BeginsWith, Others, Below, Follows, Missed, Since, longer}
-use Rattle.cat_desk.specs.LogLaws.{begins_itself, begins_on, follows_itself, follows_on, longer_cases, others_more}
+use Rattle.cat_desk.specs.Log.{IsAmong, Others, WasGiven, OfGiven, Follows, Missed, Since, longer}
+use Rattle.cat_desk.specs.LogLaws.{follows_itself, longer_cases, others_more}
 
-below_more : (n : ℕ) (xs ys : List LogEntry) → Below n xs → Below n ys → Below n (xs ++ ys)
-below_more n [] ys a b = b
-below_more n (x ∷ xs) ys a b = (a.0, below_more n xs ys a.1 b)
+given_more : (n : ℕ) (xs ys : List LogEntry) → OfGiven n xs → OfGiven n ys → OfGiven n (xs ++ ys)
+given_more n [] ys a b = b
+given_more n (x ∷ xs) ys a b = (a.0, given_more n xs ys a.1 b)
 
 own_others : (n m : ℕ) (xs : List LogEntry) → m ≢ n → Own n xs → Others m xs
 own_others n m [] ne a = tt
 own_others n m (x ∷ xs) ne a = ((λ e. ne (sym e ∙ a.0)), own_others n m xs ne a.1)
 
-own_below : (n next : ℕ) (xs : List LogEntry) → n < next → Own n xs → Below next xs
-own_below n next [] lt a = tt
-own_below n next (x ∷ xs) lt a = (let e : x.caller ≡ n = a.0 in omega arith, own_below n next xs lt a.1)
+own_given : (n next : ℕ) (xs : List LogEntry) → WasGiven next n → Own n xs → OfGiven next xs
+own_given n next [] was a = tt
+own_given n next (x ∷ xs) was a = (subst (WasGiven next) (sym a.0) was, own_given n next xs was a.1)
 
-below_later : (n m : ℕ) (xs : List LogEntry) → n ≤ m → Below n xs → Below m xs
-below_later n m [] le a = tt
-below_later n m (x ∷ xs) le a = (let b : x.caller < n = a.0 in omega arith, below_later n m xs le a.1)
+given_later : (n m : ℕ) (xs : List LogEntry) → n ≤ m → OfGiven n xs → OfGiven m xs
+given_later n m [] le a = tt
+given_later n m (x ∷ xs) le a = ((a.0.0, let b : x.caller < n = a.0.1 in omega arith), given_later n m xs le a.1)
 
 -- a number that was not given has no entry
-below_others : (n : ℕ) (xs : List LogEntry) → Below n xs → Others n xs
-below_others n [] a = tt
-below_others n (x ∷ xs) a = (let b : x.caller < n = a.0 in (λ (e : x.caller ≡ n). omega arith), below_others n xs a.1)
+given_others : (n : ℕ) (xs : List LogEntry) → OfGiven n xs → Others n xs
+given_others n [] a = tt
+given_others n (x ∷ xs) a = (let b : x.caller < n = a.0.1 in (λ (e : x.caller ≡ n). omega arith), given_others n xs a.1)
 
 pub missed_none : (n next : ℕ) (xs : List LogEntry) → Missed n next xs xs
 missed_none n next xs = ([], sym (append-nil xs), tt, tt)
@@ -34,33 +34,33 @@ pub missed_follows : (n next : ℕ) (seen log : List LogEntry) → Missed n next
 missed_follows n next seen log m = (m.0, m.1, m.2)
 
 -- what another caller adds keeps what a pass has seen a beginning
-pub missed_more : (n m next : ℕ) (seen found log : List LogEntry) → m ≢ n → n < next → Missed m next seen found → Adds n found log → Missed m next seen log
-missed_more n m next seen found log ne lt f a = (
+pub missed_more : (n m next : ℕ) (seen found log : List LogEntry) → m ≢ n → WasGiven next n → Missed m next seen found → Adds n found log → Missed m next seen log
+missed_more n m next seen found log ne was f a = (
   f.0 ++ a.0,
   a.1 ∙ (ap (λ l. l ++ a.0) f.1 ∙ append_assoc seen f.0 a.0),
   others_more m f.0 a.0 f.2 (own_others n m a.0 ne a.2),
-  below_more next f.0 a.0 f.3 (own_below n next a.0 lt a.2),
+  given_more next f.0 a.0 f.3 (own_given n next a.0 was a.2),
 )
 
 pub missed_later : (n next later : ℕ) (seen log : List LogEntry) → next ≤ later → Missed n next seen log → Missed n later seen log
-missed_later n next later seen log le m = (m.0, m.1, m.2, below_later next later m.0 le m.3)
+missed_later n next later seen log le m = (m.0, m.1, m.2, given_later next later m.0 le m.3)
 
 -- the next number to be given has no entry in what a pass has missed
 pub missed_next : (n next : ℕ) (seen log : List LogEntry) → Missed n next seen log → Missed next (next + 1) seen log
-missed_next n next seen log m = (m.0, m.1, below_others next m.0 m.3, below_later next (next + 1) m.0 (omega arith) m.3)
+missed_next n next seen log m = (m.0, m.1, given_others next m.0 m.3, given_later next (next + 1) m.0 (omega arith) m.3)
 
 pub since_none : (next : ℕ) (xs : List LogEntry) → Since next xs xs
 since_none next xs = ([], sym (append-nil xs), tt)
 
 pub since_later : (next later : ℕ) (first log : List LogEntry) → next ≤ later → Since next first log → Since later first log
-since_later next later first log le s = (s.0, s.1, below_later next later s.0 le s.2)
+since_later next later first log le s = (s.0, s.1, given_later next later s.0 le s.2)
 
-pub since_more : (n next : ℕ) (first found log : List LogEntry) → n < next → Since next first found → Adds n found log → Since next first log
-since_more n next first found log lt s a = (s.0 ++ a.0, a.1 ∙ (ap (λ l. l ++ a.0) s.1 ∙ append_assoc first s.0 a.0), below_more next s.0 a.0 s.2 (own_below n next a.0 lt a.2))
+pub since_more : (n next : ℕ) (first found log : List LogEntry) → WasGiven next n → Since next first found → Adds n found log → Since next first log
+since_more n next first found log was s a = (s.0 ++ a.0, a.1 ∙ (ap (λ l. l ++ a.0) s.1 ∙ append_assoc first s.0 a.0), given_more next s.0 a.0 s.2 (own_given n next a.0 was a.2))
 
 -- the next number to be given has no entry since the first
 pub since_next : (next : ℕ) (first log : List LogEntry) → Since next first log → Follows next first log
-since_next next first log s = (s.0, s.1, below_others next s.0 s.2)
+since_next next first log s = (s.0, s.1, given_others next s.0 s.2)
 
 pub adds_longer : (n : ℕ) (found log : List LogEntry) → Adds n found log → length found ≤ length log
 adds_longer n found log a = let e : length log ≡ length found + length a.0 = ap length a.1 ∙ length-append found a.0 in omega arith
@@ -98,23 +98,47 @@ longer_first xs ys = longer_cases xs ys (λ l. length xs ≤ length l) (λ lt. o
 pub longer_second : (xs ys : List LogEntry) → length ys ≤ length (longer xs ys)
 longer_second xs ys = longer_cases xs ys (λ l. length ys ≤ length l) (λ lt. omega arith) (λ le. omega arith)
 
+-- of two beginnings of one log the longer has missed no more of either's caller
 pub missed_longer : (n m next : ℕ) (xs ys log : List LogEntry) → Missed n next xs log → Missed m next ys log → Missed n next (longer xs ys) log
 missed_longer n m next xs ys log a b = longer_cases xs ys (λ l. Missed n next l log)
     (λ lt. let o = overlap xs ys a.0 b.0 (sym a.1 ∙ b.1) (omega arith) in (b.0, b.1, others_tail n o.0 b.0 (subst (Others n) o.1 a.2), b.3))
     (λ _. a)
 
--- the longer of two beginnings of one list begins with both, and has no entry more of the first's caller
-pub longer_both : (n m next : ℕ) (xs ys log : List LogEntry) → Missed n next xs log → Missed m next ys log → Follows n xs (longer xs ys) × BeginsWith ys (longer xs ys)
-longer_both n m next xs ys log a b = longer_cases xs ys (λ l. Follows n xs l × BeginsWith ys l)
-    (λ lt. let o = overlap xs ys a.0 b.0 (sym a.1 ∙ b.1) (omega arith) in ((o.0, o.2, others_first n o.0 b.0 (subst (Others n) o.1 a.2)), begins_itself ys))
-    (λ le. let o = overlap ys xs b.0 a.0 (sym b.1 ∙ a.1) le in (follows_itself n xs, (o.0, o.2)))
+pub longer_missed : (n m next : ℕ) (xs ys log : List LogEntry) → Missed n next xs log → Missed m next ys log → Missed m next (longer xs ys) log
+longer_missed n m next xs ys log a b = longer_cases xs ys (λ l. Missed m next l log)
+    (λ _. b)
+    (λ le. let o = overlap ys xs b.0 a.0 (sym b.1 ∙ a.1) le in (a.0, a.1, others_tail m o.0 a.0 (subst (Others m) o.1 b.2), a.3))
 
--- a log that goes on without an entry of this caller
-pub both_on : (n : ℕ) (xs ys seen log : List LogEntry) → Follows n xs seen × BeginsWith ys seen → Follows n seen log → Follows n xs log × BeginsWith ys log
-both_on n xs ys seen log both f = (follows_on n xs seen log both.0 f, begins_on ys seen log both.1 (f.0, f.1))
+-- it goes on from both, with no entry more of either's caller
+pub longer_first_on : (n m next : ℕ) (xs ys log : List LogEntry) → Missed n next xs log → Missed m next ys log → Follows n xs (longer xs ys)
+longer_first_on n m next xs ys log a b = longer_cases xs ys (λ l. Follows n xs l)
+    (λ lt. let o = overlap xs ys a.0 b.0 (sym a.1 ∙ b.1) (omega arith) in (o.0, o.2, others_first n o.0 b.0 (subst (Others n) o.1 a.2)))
+    (λ _. follows_itself n xs)
 
-pub both_itself : (n : ℕ) (log : List LogEntry) → Follows n log log × BeginsWith [] log
-both_itself n log = (follows_itself n log, (log, refl))
+pub longer_second_on : (n m next : ℕ) (xs ys log : List LogEntry) → Missed n next xs log → Missed m next ys log → Follows m ys (longer xs ys)
+longer_second_on n m next xs ys log a b = longer_cases xs ys (λ l. Follows m ys l)
+    (λ _. follows_itself m ys)
+    (λ le. let o = overlap ys xs b.0 a.0 (sym b.1 ∙ a.1) le in (o.0, o.2, others_first m o.0 a.0 (subst (Others m) o.1 b.2)))
+
+-- ---- numbers of passes
+
+pub among_first : (n : ℕ) (ms ks : List ℕ) → IsAmong n ms → IsAmong n (ms ++ ks)
+among_first n [] ks is = absurd is
+among_first n (m ∷ ms) ks (inl same) = inl same
+among_first n (m ∷ ms) ks (inr is) = inr (among_first n ms ks is)
+
+pub among_second : (n : ℕ) (ms ks : List ℕ) → IsAmong n ks → IsAmong n (ms ++ ks)
+among_second n [] ks is = is
+among_second n (m ∷ ms) ks is = inr (among_second n ms ks is)
+
+among_either : (n : ℕ) (ms ks : List ℕ) → IsAmong n (ms ++ ks) → IsAmong n ms ⊎ IsAmong n ks
+among_either n [] ks is = inr is
+among_either n (m ∷ ms) ks (inl same) = inl (inl same)
+among_either n (m ∷ ms) ks (inr is) = ⊎_elim (λ (a : IsAmong n ms). inl (inr a)) (λ (b : IsAmong n ks). inr b) (among_either n ms ks is)
+
+-- what holds of the numbers of each of two lists, holds of both
+pub of_both : (P : ℕ → Type 0) (ms ks : List ℕ) → ((n : ℕ) → IsAmong n ms → P n) → ((n : ℕ) → IsAmong n ks → P n) → (n : ℕ) → IsAmong n (ms ++ ks) → P n
+of_both P ms ks one two n is = ⊎_elim (λ (a : IsAmong n ms). one n a) (λ (b : IsAmong n ks). two n b) (among_either n ms ks is)
 
 none_left : (seen rest log : List LogEntry) → log ≡ seen ++ rest → length log ≤ length seen → seen ≡ log
 none_left seen [] log e le = sym (e ∙ append-nil seen)

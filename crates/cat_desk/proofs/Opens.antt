@@ -1,5 +1,5 @@
 -- The rule holds of a desk that is made.
-use Rattle.std.proofs.Common.{◌≡◌, ℕ, zero, suc, ◌<◌, List, [], ◌∷◌, length, replicate, sym, refl, subst, arith, None, le_refl}
+use Rattle.std.proofs.Common.{◌≡◌, ℕ, zero, suc, ◌<◌, List, [], ◌∷◌, length, replicate, sym, refl, subst, inl, inr, arith, None, le_refl}
 use mathlib.Core.Option.{some, some-injective, some-ne-none}
 use lib.ListN.{get_elem?}
 use Rattle.atomic_table.specs.Table.{opening}
@@ -9,9 +9,10 @@ use Rattle.cat_model.specs.Mark.{Mark}
 use Rattle.cat_model.specs.Turns.{Opened}
 use Rattle.cat_model.specs.TurnLaws.{grows_self, stays_self}
 use Rattle.cat_desk.specs.Sight.{View}
+use Rattle.cat_desk.specs.Log.{IsAmong, WasGiven}
 use Rattle.cat_desk.specs.Marks.{AreGiven}
 use Rattle.cat_desk.specs.Rule.{unborn, IsLive, tickets_of, Fits, Kept, newcomer}
-use Rattle.cat_desk.proofs.Logs.{both_itself, missed_none, since_none}
+use Rattle.cat_desk.proofs.Logs.{missed_none, since_none}
 use Rattle.cat_desk.proofs.Marks.{linked_self, given_self}
 
 module _ {V : Type 0} (log : V → List LogEntry) (opened : V → Opened) (legal : Opened → List LogEntry → Type 0) (mark : V → Mark) (left_open : V → Open) (key : V) where
@@ -39,17 +40,22 @@ module _ {V : Type 0} (log : V → List LogEntry) (opened : V → Opened) (legal
     spent = first_spent;
     grows = λ i j _ _. grows_self (mark key);
     first_mark = refl;
-    mark_given = given_self 2 (mark key);
+    mark_given = λ j le. given_self 2 (mark key);
     opens_given = subst (AreGiven 2) (sym none_open) (λ m le. refl);
     longest = (0, newcomer log opened mark left_open key, refl, tt, refl, refl);
     stands = (refl, (newcomer log opened mark left_open key, refl, refl));
   } where
+    first_given : (n : ℕ) → IsAmong n (1 ∷ []) → WasGiven 2 n
+    first_given n (inl same) = (omega (arith, same), omega (arith, same))
+    first_given n (inr none) = absurd none
+
     first : (j : ℕ) (d : View) → get_elem? (newcomer log opened mark left_open key ∷ []) j ≡ some d → IsLive d.stage → Fits (opened key, log key) (log key) 1 0 2 0 (λ _. 0) (λ _. 0) (Unit {0}) 0 (λ _. mark key) (left_open key) j d
     first zero d e _ = subst (λ (x : View). Fits (opened key, log key) (log key) 1 0 2 0 (λ _. 0) (λ _. 0) (Unit {0}) 0 (λ _. mark key) (left_open key) 0 x) (some-injective (newcomer log opened mark left_open key) d e) record {
-      saw = record { based = refl; since = since_none 2 (log key); missed = missed_none 1 2 (log key); least = le_refl (length (log key)); most = le_refl (length (log key)); parts = both_itself 1 (log key) };
-      numbered = record { own_number = refl; given = omega arith; stands_for = omega arith; may_give = λ _. (refl, refl) };
+      saw = record { based = refl; since = since_none 2 (log key); missed = λ n is. missed_none n 2 (log key); least = le_refl (length (log key)); most = le_refl (length (log key)) };
+      numbered = record { own_numbers = λ n is. (refl, first_given n is); stands_for = omega arith; may_give = λ _. (refl, refl) };
       in_line = record { has_ticket = λ _. (omega arith, omega arith, refl); served = λ _. refl; alone = λ _. refl; making = λ _. tt };
-      marked = record { turn = le_refl 0; mark = refl; linked = linked_self 1 (mark key); own = stays_self (open_of 1 (left_open key)); whole = λ _. refl; current = λ _. refl; parts = (grows_self (mark key), grows_self (mark key)) };
+      marked = record { turn = le_refl 0; mark = refl; linked = λ n is j low high. linked_self n (mark key); own = stays_self (open_of 1 (left_open key)); whole = λ _. refl; current = λ _. refl };
+      parts = (λ n is. absurd is, λ n is. absurd is);
     }
     first (suc j) d e _ = absurd (some-ne-none d (sym e))
 

@@ -1,7 +1,8 @@
 -- How the mark that a pass holds stands to the present one.
-use Rattle.std.specs.Prelude.{◌≡◌, ◌<◌, ◌≤◌, ℕ, ◌⊎◌, Some, cond, nat_lt}
+use Rattle.std.specs.Prelude.{◌≡◌, ◌≤◌, ℕ, ◌⊎◌, Some, cond, nat_lt}
 use Rattle.cat_model.specs.Drafts.{Open, open_of, nothing_open}
 use Rattle.cat_model.specs.Mark.{FailedAppend, ClosedSweep, Mark, Grows, last_sweep}
+use Rattle.cat_desk.specs.Log.{WasGiven}
 
 -- the present mark grew from the one that is held, which has each fault and last draft number of the caller, and knew of each sweep that the caller closed
 pub record Linked (caller : ℕ) (a b : Mark) : Type 0 where
@@ -12,9 +13,9 @@ pub record Linked (caller : ℕ) (a b : Mark) : Type 0 where
 
 -- a fault, a last draft number or a closed sweep that wasn't in the first mark is of a caller whose number was given
 pub record IsGiven (next : ℕ) (first now : Mark) : Type 0 where
-  pub fault : (x : FailedAppend) → now.fault ≡ Some x → (x.caller < next) ⊎ (first.fault ≡ Some x)
-  pub draft : (now.drafter < next) ⊎ (first.draft ≡ now.draft)
-  pub closed : (x : ClosedSweep) → now.closed ≡ Some x → (x.opening.caller < next) ⊎ (first.closed ≡ Some x)
+  pub fault : (x : FailedAppend) → now.fault ≡ Some x → WasGiven next x.caller ⊎ (first.fault ≡ Some x)
+  pub draft : WasGiven next now.drafter ⊎ (first.draft ≡ now.draft)
+  pub closed : (x : ClosedSweep) → now.closed ≡ Some x → WasGiven next x.opening.caller ⊎ (first.closed ≡ Some x)
 
 -- nothing is open of a number that wasn't given
 abbrev pub AreGiven : ℕ → Open → Type 0

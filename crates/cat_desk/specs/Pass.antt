@@ -5,15 +5,18 @@ use Rattle.cat_model.specs.declared.log_entry.LogEntry.{LogEntry}
 use Rattle.cat_model.specs.Drafts.{Open, nothing_open}
 use Rattle.cat_model.specs.Mark.{Mark, no_mark}
 use Rattle.cat_model.specs.Turns.{Opened, Snapshot}
+use Rattle.cat_desk.specs.Log.{IsAmong, Follows}
+use Rattle.cat_desk.specs.Marks.{Linked}
 use Rattle.cat_desk.specs.Sight.{View, Idle, Holding}
 use Rattle.cat_desk.specs.declared.pass.Held.{Held}
 use Rattle.cat_desk.specs.declared.pass.Pass.{Pass}
 
--- which desk it is, what its log starts from, and the log with which it was made
+-- which desk it is, what its log starts from, and the log and the mark with which it was made
 pub record DeskId : Type 0 where
   pub table : TableId
   pub opened : Opened
   pub begun : List LogEntry
+  pub marked : Mark
 
 abbrev pub seen_in : List View → List LogEntry
 seen_in [] = []
@@ -22,6 +25,10 @@ seen_in (v ∷ vs) = v.seen
 abbrev pub known_in : List View → ℕ
 known_in [] = 0
 known_in (v ∷ vs) = v.known
+
+abbrev pub gone_in : List View → List ℕ
+gone_in [] = []
+gone_in (v ∷ vs) = v.gone
 
 abbrev pub held_in : List View → ℕ
 held_in [] = 0
@@ -70,6 +77,10 @@ mark_of p = mark_in p.badge.views
 abbrev pub turn_of : Pass → ℕ
 turn_of p = turn_in p.badge.views
 
+-- it has this number, or took in a pass that had it
+abbrev pub HasNumber : ℕ → Pass → Type 0
+HasNumber n p = IsAmong n (number_of p ∷ gone_in p.badge.views)
+
 -- what its last turn left open of its caller
 abbrev pub left_by : Pass → Open
 left_by p = own_in p.badge.views
@@ -97,6 +108,10 @@ pub record Remembers (p q : Pass) : Type 0 where
   pub mark : mark_of q ≡ mark_of p
   pub turn : turn_of q ≡ turn_of p
   pub all_left : all_left_by q ≡ all_left_by p
+
+-- one pass goes on from another, as far as the callers of its numbers go: it has these numbers, what it has seen more is of others, and in its mark no fault, last draft number or closed sweep of theirs is new
+abbrev pub CarriesOn : Pass → Pass → Type 0
+CarriesOn p q = (n : ℕ) → HasNumber n p → HasNumber n q × Follows n (seen p) (seen q) × Linked n (mark_of p) (mark_of q)
 
 -- the value as it was found
 abbrev pub found : {V : Type 0} → DeskId → Held V → Snapshot

@@ -1,6 +1,6 @@
 -- The rule of the desk, and what each step tells.
 -- Word 0 is the count, the length of the log; word 1 the next ticket, less as many times 2 ^ 64 as it passed; word 2 the ticket that is served; the 64 words behind them are bells, which callers sleep at, and nothing is said of what they hold. Slot 0 is where the value is at home.
-use Rattle.std.specs.Prelude.{◌≡◌, ◌≢◌, ℕ, ◌+◌, ◌-◌, ◌%◌, ◌<◌, ◌≤◌, List, [], ◌∷◌, length, slice_index, max, Option, Some, None}
+use Rattle.std.specs.Prelude.{◌≡◌, ◌≢◌, ℕ, ◌+◌, ◌-◌, ◌%◌, ◌<◌, ◌≤◌, List, [], ◌∷◌, ◌++◌, length, slice_index, max, Option, Some, None}
 use mathlib.Core.Option.{some}
 use mathlib.Core.Option.{Option as Maybe}
 use lib.ListN.{get_elem?}
@@ -9,8 +9,8 @@ use Rattle.cat_model.specs.declared.log_entry.LogEntry.{LogEntry}
 use Rattle.cat_model.specs.Drafts.{Open, nothing_open, open_of, StaysOpen}
 use Rattle.cat_model.specs.Mark.{Mark, Grows}
 use Rattle.cat_model.specs.Turns.{Opened}
-use Rattle.cat_desk.specs.Sight.{Origin, Stage, Idle, Making, Waiting, Called, Holding, Leaving, Spent, View, blank}
-use Rattle.cat_desk.specs.Log.{BeginsWith, Follows, Missed, Since, longer}
+use Rattle.cat_desk.specs.Sight.{Origin, Stage, Idle, Making, Waiting, Called, Holding, Leaving, Spent, Part, no_part, View, blank}
+use Rattle.cat_desk.specs.Log.{IsAmong, WasGiven, Follows, Missed, Since, longer}
 use Rattle.cat_desk.specs.Marks.{Linked, IsGiven, AreGiven, later_mark, later_open}
 
 -- where the value is: at home, not yet there, or out with the seat whose turn it is
@@ -69,27 +69,33 @@ queue v = tickets_of v.stage
 abbrev pub weight : View → ℕ
 weight v = v.held + v.spare
 
--- it has seen what its two parts had, and besides that of the first none of its own entries
-abbrev pub HasParts : View → Type 0
-HasParts d = Follows d.number d.parts.0 d.seen × BeginsWith d.parts.1 d.seen
+-- its number, and those of the passes that it took in
+abbrev pub numbers_of : View → List ℕ
+numbers_of d = d.number ∷ d.gone
 
--- its mark grew from those of its two parts
-abbrev pub HasMarks : View → Type 0
-HasMarks d = Grows d.part_marks.0 d.mark × Grows d.part_marks.1 d.mark
+-- what it is for one that is made of it
+abbrev pub part_of : View → Part
+part_of d = record { numbers = numbers_of d; seen = d.seen; mark = d.mark }
+
+-- as far as a part's numbers go, this log goes on from what it had seen, and this mark from its own
+abbrev pub IsPart : Part → List LogEntry → Mark → Type 0
+IsPart a log mark = (n : ℕ) → IsAmong n a.numbers → Follows n a.seen log × Linked n a.mark mark
+
+-- it goes on from its two parts
+abbrev pub HasParts : View → Type 0
+HasParts d = IsPart d.parts.0 d.seen d.mark × IsPart d.parts.1 d.seen d.mark
 
 -- what a pass has seen of the log
 pub record Saw (base : Origin) (all : List LogEntry) (next : ℕ) (d : View) : Type 0 where
   pub based : d.origin ≡ Some base
   pub since : Since next base.1 d.seen
-  pub missed : Missed d.number next d.seen all
+  pub missed : (n : ℕ) → IsAmong n (numbers_of d) → Missed n next d.seen all
   pub least : length d.seen ≤ d.known
   pub most : d.known ≤ length all
-  pub parts : HasParts d
 
--- its number, and the numbers that it may still give
+-- its numbers, which are no other seat's, and those that it may still give
 pub record Numbered (named : ℕ → ℕ) (next keeper seat : ℕ) (d : View) : Type 0 where
-  pub own_number : named d.number ≡ seat
-  pub given : d.number < next
+  pub own_numbers : (n : ℕ) → IsAmong n (numbers_of d) → (named n ≡ seat) × WasGiven next n
   pub stands_for : 1 ≤ d.held
   pub may_give : 0 < d.spare → (keeper ≡ seat) × (next + d.spare ≡ 4294967296)
 
@@ -104,11 +110,10 @@ pub record InLine (all : List LogEntry) (tickets serving : ℕ) (owner : ℕ →
 pub record Marked (last : ℕ) (marks : ℕ → Mark) (opens : Open) (d : View) : Type 0 where
   pub turn : d.turn ≤ last
   pub mark : d.mark ≡ marks d.turn
-  pub linked : Linked d.number d.mark (marks last)
+  pub linked : (n : ℕ) → IsAmong n (numbers_of d) → (j : ℕ) → d.turn ≤ j → j ≤ last → Linked n d.mark (marks j)
   pub own : StaysOpen d.own (open_of d.number opens)
   pub whole : d.turn ≡ last → d.found ≡ opens
   pub current : IsAlone d.stage → d.turn ≡ last
-  pub parts : HasMarks d
 
 -- what the rule says of one pass
 pub record Fits (base : Origin) (all : List LogEntry) (tickets serving next keeper : ℕ) (owner named : ℕ → ℕ) (fresh : Type 0) (last : ℕ) (marks : ℕ → Mark) (opens : Open) (seat : ℕ) (d : View) : Type 0 where
@@ -116,6 +121,7 @@ pub record Fits (base : Origin) (all : List LogEntry) (tickets serving next keep
   pub numbered : Numbered named next keeper seat d
   pub in_line : InLine all tickets serving owner fresh seat d
   pub marked : Marked last marks opens d
+  pub parts : HasParts d
 
 -- the seat whose turn it is, is at this stage
 abbrev pub Turned : List View → ℕ → Stage → Type 0
@@ -155,7 +161,7 @@ module _ {V : Type 0} (log : V → List LogEntry) (opened : V → Opened) (legal
     pub spent : (j : ℕ) (d : View) → get_elem? s.views j ≡ some d → ¬ IsLive d.stage → tickets_of d.stage ≡ 0
     pub grows : (a b : ℕ) → a ≤ b → b ≤ last → Grows (marks a) (marks b)
     pub first_mark : marks 0 ≡ mark key
-    pub mark_given : IsGiven next (mark key) (marks last)
+    pub mark_given : (j : ℕ) → j ≤ last → IsGiven next (mark key) (marks j)
     pub opens_given : AreGiven next opens
     pub longest : SomeoneSaw s.views all last
     pub stands : Stands log opened mark left_open (opened key) all (marks last) opens (owner (slice_index s.words 2)) s.homes s.views place
@@ -167,6 +173,7 @@ newcomer log opened mark left_open v = record {
   seen = log v;
   known = length (log v);
   number = 1;
+  gone = [];
   spare = 4294967294;
   held = 1;
   mark = mark v;
@@ -175,8 +182,7 @@ newcomer log opened mark left_open v = record {
   found = left_open v;
   stage = Making;
   ticket = 0;
-  parts = (log v, []);
-  part_marks = (mark v, mark v);
+  parts = (no_part, no_part);
 }
 
 abbrev pub at_stage : View → Stage → View
@@ -187,11 +193,11 @@ waiting v t = record v { stage = Waiting; ticket = t }
 
 -- the pass has found a value with this log, this mark and this left open, which the turn t left
 abbrev pub finding : View → List LogEntry → Mark → Open → ℕ → View
-finding v all mark opens t = record v { seen = all; known = length all; mark = mark; found = opens; turn = t; stage = Holding; part_marks = (mark, mark) }
+finding v all mark opens t = record v { seen = all; known = length all; mark = mark; found = opens; turn = t; stage = Holding; parts = (no_part, no_part) }
 
 -- the pass has left it so
 abbrev pub leaving : View → List LogEntry → Mark → Open → View
-leaving v all mark opens = record v { seen = all; known = length all; mark = mark; own = open_of v.number opens; found = opens; turn = v.turn + 1; stage = Leaving; parts = (all, []); part_marks = (mark, mark) }
+leaving v all mark opens = record v { seen = all; known = length all; mark = mark; own = open_of v.number opens; found = opens; turn = v.turn + 1; stage = Leaving; parts = (no_part, no_part) }
 
 -- it knows of so many entries
 abbrev pub knowing : View → ℕ → View
@@ -202,11 +208,11 @@ abbrev pub splitting : View → View
 splitting v = record v { spare = v.spare - 1 }
 
 abbrev pub split_off : View → View
-split_off v = record v { number = 4294967296 - v.spare; spare = 0; held = 1; own = nothing_open; stage = Idle; parts = (v.seen, []) }
+split_off v = record v { number = 4294967296 - v.spare; gone = []; spare = 0; held = 1; own = nothing_open; stage = Idle; parts = (no_part, no_part) }
 
 -- a pass that took in another, and what is left of that
 abbrev pub joined : View → View → View
-joined v w = record v { mark = later_mark v.turn w.turn v.mark w.mark; found = later_open v.turn w.turn v.found w.found; turn = max v.turn w.turn; seen = longer v.seen w.seen; known = max v.known w.known; spare = max v.spare w.spare; held = v.held + w.held; parts = (v.seen, w.seen); part_marks = (v.mark, w.mark) }
+joined v w = record v { gone = v.gone ++ numbers_of w; mark = later_mark v.turn w.turn v.mark w.mark; found = later_open v.turn w.turn v.found w.found; turn = max v.turn w.turn; seen = longer v.seen w.seen; known = max v.known w.known; spare = max v.spare w.spare; held = v.held + w.held; parts = (part_of v, part_of w) }
 
 abbrev pub nobody : View
 nobody = blank Spent
@@ -230,9 +236,9 @@ module _ {V : Type 0} where
   abbrev pub unnumbered : Me (Option V) View → Me (Option V) View → Type 0
   unnumbered m n = (n ≡ m) × ((o : Origin) → m.0.origin ≡ Some o → Follows (4294967296 - m.0.spare) o.1 m.0.seen)
 
-  -- nothing was moved, and it is told what a pass has seen that was made of two, and how its mark stands to theirs
+  -- nothing was moved, and it is told how a pass that was made of two goes on from them
   abbrev pub compared : Me (Option V) View → Me (Option V) View → Type 0
-  compared m n = (n ≡ m) × HasParts m.0 × HasMarks m.0
+  compared m n = (n ≡ m) × HasParts m.0
 
   -- the count was read
   abbrev pub met : Me (Option V) View → ℕ → Me (Option V) View → Type 0

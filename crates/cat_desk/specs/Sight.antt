@@ -19,12 +19,22 @@ pub data Stage : Type 0 where
   Leaving : Stage
   Spent : Stage
 
--- the log that was seen, how many entries are known of, the caller's number, how many passes may still be split off and how many it stands for; the mark and the number of the turn that left it; what the last turn left open of the caller, and what that turn left open in all, or what was open in all as the value was found; what the two passes had seen of which it was last made, and their marks
+-- what a pass was that was joined with another: its numbers, the log that it had seen, and its mark
+pub record Part : Type 0 where
+  pub numbers : List ℕ
+  pub seen : List LogEntry
+  pub mark : Mark
+
+abbrev pub no_part : Part
+no_part = record { numbers = []; seen = []; mark = no_mark }
+
+-- the log that was seen, how many entries are known of, the caller's number and those of the passes that it took in, how many passes may still be split off and how many it stands for; the mark and the number of the turn that left it; what the last turn left open of the caller, and what that turn left open in all, or what was open in all as the value was found; the two passes of which it was made, where it had no turn since
 pub record View : Type 0 where
   pub origin : Option Origin
   pub seen : List LogEntry
   pub known : ℕ
   pub number : ℕ
+  pub gone : List ℕ
   pub spare : ℕ
   pub held : ℕ
   pub mark : Mark
@@ -33,8 +43,7 @@ pub record View : Type 0 where
   pub found : Open
   pub stage : Stage
   pub ticket : ℕ
-  pub parts : List LogEntry × List LogEntry
-  pub part_marks : Mark × Mark
+  pub parts : Part × Part
 
 -- the view of a seat at a stage that knows nothing
 abbrev pub blank : Stage → View
@@ -43,6 +52,7 @@ blank stage = record {
   seen = [];
   known = 0;
   number = 0;
+  gone = [];
   spare = 0;
   held = 0;
   mark = no_mark;
@@ -51,6 +61,5 @@ blank stage = record {
   found = nothing_open;
   stage = stage;
   ticket = 0;
-  parts = ([], []);
-  part_marks = (no_mark, no_mark);
+  parts = (no_part, no_part);
 }

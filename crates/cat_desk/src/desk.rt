@@ -4,16 +4,17 @@ ghost use Rattle.cat_model.specs.Drafts.{nothing_open, open_of, StaysOpen};
 ghost use Rattle.cat_model.specs.Mark.{Grows};
 ghost use Rattle.cat_model.specs.Turns.{Acts, snapshot};
 ghost use Rattle.cat_desk.specs.Sight.{Waiting, Called};
-ghost use Rattle.cat_desk.specs.Log.{BeginsWith, Follows, longer};
-ghost use Rattle.cat_desk.specs.Marks.{Linked, later_mark, later_open};
+ghost use Rattle.cat_desk.specs.Log.{BeginsWith, Follows, Since, longer};
+ghost use Rattle.cat_desk.specs.Marks.{IsGiven, Linked, later_mark, later_open};
 ghost use Rattle.cat_desk.specs.Rule.{at_stage, finding, Found};
-ghost use Rattle.cat_desk.specs.Pass.{IsFree, IsTurn, Keeps, seen, known, number_of, spare_of, stands_for, mark_of, turn_of, left_by, all_left_by, Remembers, found, held_for, found_turn};
+ghost use Rattle.cat_desk.specs.Pass.{CarriesOn, IsFree, IsTurn, Keeps, seen, known, number_of, spare_of, stands_for, mark_of, turn_of, left_by, all_left_by, Remembers, found, held_for, found_turn};
 
 use crate::pass::{Held, Pass};
 use crate::plays::{
     Apart, Bell, Call, Compare, Draw, Give, Look, Meet, Serve, Take, Together, Turns,
 };
 use crate::view::View;
+use crate::words::{COUNT, SERVING, TICKET, bell_of, words_of};
 use atomic_table::{Badge, Seat, Table};
 use cat_codes::fault::NoMemory;
 use cat_model::logged::Logged;
@@ -21,36 +22,6 @@ use std::alloc::Global;
 use std::marker::Model;
 use std::mem;
 use std::sync::Wait;
-
-/// The word with the length of the value's log.
-const COUNT: usize = 0;
-
-/// The word with the next ticket.
-const TICKET: usize = 1;
-
-/// The word with the ticket that is served.
-const SERVING: usize = 2;
-
-/// How many bells there are, one a word behind these. A caller waits at its ticket's, so that passing
-/// a turn on wakes whoever has the next ticket and, with no more callers than bells, nobody else.
-const BELLS: u64 = 64;
-
-/// The words of a desk whose log has so many entries, and whose first ticket is drawn and served.
-fn words_of(count: u64) -> [u64; 67]
-    ensures { result ≡ count ∷ 1 ∷ replicate 65 0 }
-{
-    let mut words = [0; 67];
-    words[COUNT] = count;
-    words[TICKET] = 1;
-    words
-}
-
-/// The word that is a ticket's bell.
-fn bell_of(ticket: u64) -> usize
-    ensures { (3 ≤ result) × (result < 67) }
-{
-    3 + (ticket % BELLS) as usize
-}
 
 /// It holds a value, which callers take in turns, in the order of their tickets. It must be spent:
 /// closed or given up.
@@ -68,6 +39,7 @@ impl<V: Logged> Model for Desk<V> {
       table = d.table.shared.table_id;
       opened = V.opened d.table.shared.key;
       begun = V.log d.table.shared.key;
+      marked = V.mark d.table.shared.key;
     } };
 
     ghost invariant = { λ d. (d.table.shared.table_id.words ≡ 67)
@@ -81,6 +53,7 @@ impl<V: Logged> Desk<V> {
         requires closed { V.left_open value ≡ nothing_open }
         ensures desk { IfOk result
             (λ t. (t.0.opened ≡ V.opened value) × (t.0.begun ≡ V.log value) × IsFree t.0 t.1) }
+        ensures marked { IfOk result (λ t. t.0.marked ≡ V.mark value) }
         ensures pass { IfOk result
             (λ t. (seen t.1 ≡ V.log value)
             × (known t.1 ≡ length (V.log value))
@@ -229,9 +202,10 @@ impl<V: Logged> Desk<V> {
         })
     }
 
-    /// Takes a pass in. It has then seen what either had, one of which is a beginning of the other,
-    /// and holds the mark of the later turn, which grew from the marks of both. What the other's
-    /// caller left open stays open, and is nobody's.
+    /// Takes a pass in, and has its numbers too. It has then seen what either had, one of which is
+    /// a beginning of the other, and holds the mark of the later turn, which grew from the marks of
+    /// both. Nothing of either's callers is new to it that the one with their number hadn't seen.
+    /// What the other's caller left open stays open, and is nobody's.
     pub fn join(&self, pass: &mut Pass, other: Pass)
         requires free { IsFree self.now pass.old × IsFree self.now other }
         ensures free { IsFree self.now pass.new × (number_of pass.new ≡ number_of pass.old) }
@@ -245,6 +219,7 @@ impl<V: Logged> Desk<V> {
             × (turn_of pass.new ≡ max (turn_of pass.old) (turn_of other)) }
         ensures grows { Grows (mark_of pass.old) (mark_of pass.new)
             × Grows (mark_of other) (mark_of pass.new) }
+        ensures carries { CarriesOn pass.old pass.new × CarriesOn other pass.new }
         ensures left { (left_by pass.new ≡ left_by pass.old)
             × (all_left_by pass.new
             ≡ later_open (turn_of pass.old) (turn_of other) (all_left_by pass.old)
@@ -267,8 +242,9 @@ impl<V: Logged> Desk<V> {
         pass.spare = pass.spare.max(spare);
     }
 
-    /// Ends the desk, once all passes are one, and gives the value back with the whole log. It takes
-    /// no memory, and is never refused.
+    /// Ends the desk, once all passes are one, and gives the value back with the whole log. While
+    /// numbers are left, what was added is of callers with numbers that were given, and so is a
+    /// fault that is new in the mark. It takes no memory, and is never refused.
     pub fn close(self, pass: Pass) -> Result<V, (Desk<V>, Pass, NoMemory)>
         requires free { IsFree self pass }
         requires all { stands_for pass + spare_of pass ≡ 4294967295 }
@@ -280,6 +256,10 @@ impl<V: Logged> Desk<V> {
         ensures own { IfOk result
             (λ value. StaysOpen (left_by pass) (open_of (number_of pass) (V.left_open value))
             × (V.left_open value ≡ all_left_by pass)) }
+        ensures given { IfOk result
+            (λ _. 0 < spare_of pass
+            → Since (4294967296 - spare_of pass) self.begun (seen pass)
+            × IsGiven (4294967296 - spare_of pass) self.marked (mark_of pass)) }
         ensures refused { IfErr result (λ e. (e.0 ≡ self) × (e.1 ≡ pass)) }
     {
         let Desk { table } = self;

@@ -9,6 +9,7 @@ mod hold;
 mod pass;
 mod plays;
 mod view;
+mod words;
 
 pub use desk::Desk;
 pub use gate::{Gate, NoGate};

@@ -3,8 +3,8 @@ use crate::view::View;
 use atomic_table::{Join, Play, Split, TableRule};
 use cat_model::logged::Logged;
 
-/// The rule of the desk's table: word 0 is the count, 1 the next ticket, 2 the ticket that is served,
-/// the others are bells, and the one slot is where the value is at home.
+/// The rule of the desk's table: word 0 is the count, 1 the next ticket, 2 the ticket that is
+/// served, the others are bells, and the one slot is where the value is at home.
 pub struct Turns;
 
 impl<V: Logged> TableRule<Option<V>, View, V> for Turns {

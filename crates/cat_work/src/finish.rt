@@ -28,7 +28,8 @@ use cat_names::hash::Hash;
 use std::alloc::Global;
 use std::sync::Wait;
 
-/// The refusal of a call whose branch had moved at each attempt, by the places and heads that these met.
+/// The refusal of a call whose branch had moved at each attempt, by the places and heads that these
+/// met.
 fn retries_spent(mut pairs: Vec<(u32, Hash)>, place: u32, head: Hash) -> Refused
     requires room { vec_len pairs < vec_capacity pairs }
     requires few { vec_len pairs ≤ 64 }

@@ -5,7 +5,8 @@ use cat_model::refusal::Refused;
 use cat_model::reply::Told;
 use cat_names::hash::Hash;
 
-/// Its draft, the view to build it on, and the places and heads that were built on. It must be spent.
+/// Its draft, the view to build it on, and the places and heads that were built on. It must be
+/// spent.
 pub(crate) struct Trying<'a> {
     pub(crate) draft: Draft<'a>,
     pub(crate) view: View,

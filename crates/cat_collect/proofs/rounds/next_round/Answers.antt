@@ -1,6 +1,10 @@
 use Rattle.std.proofs.Common.{sym, ◌∙◌}
-use Rattle.cat_collect.proofs.Stages.{drained_on_marks, drained_own, drained_spent, drained_still, drained_walked, left_spent}
+use Rattle.cat_collect.proofs.Stages.{drained_on_marks, drained_own, drained_spent, drained_still, drained_walked, left_own, left_spent}
 use Rattle.cat_collect.proofs.rounds.next_round.Goals as goal
+
+pub give_up-requires-clause-own : goal.give_up-requires-clause-own
+give_up-requires-clause-own g c κs within =
+    left_own g.row.K.Denot c.args.desk.now c.args.pass.now c.drain.new.pass c.args.marking.sweep c.args.marking.marks c.requires.holds c.drain.ensures.kept c.in_default.ensures.stays
 
 pub returns-in_default-clause-goes : goal.returns-in_default-clause-goes
 returns-in_default-clause-goes g c = left_spent g.row.K.Denot c.args.desk.now c.args.pass.now c.drain.new.pass c.give_up.new.pass c.drain.ensures.kept c.drain.ensures.legal c.in_default.ensures.stays c.give_up.ensures.legal c.give_up.ensures.dropped

@@ -5,7 +5,7 @@ use Rattle.cat_desk.proofs.Passes.{free_view, found_is}
 use Rattle.cat_desk.proofs.desk.Desk.enter.Goals as goal
 
 pub fetch_add-ticket-requires : goal.fetch_add-ticket-requires
-fetch_add-ticket-requires g c = let f = free_view _ c.args.pass.now c.into_seat-seat.result.me.0 c.requires (search rules) in (search rules, search rules, draws _ _ _ _ _ _ _ _ _ f.idle)
+fetch_add-ticket-requires g c = let f = free_view c.args.self.now c.args.pass.now c.into_seat-seat.result.me.0 c.requires (search rules) in (search rules, search rules, draws _ _ _ _ _ _ _ _ _ f.idle)
 
 pub returns-clause-legal : goal.returns-clause-legal
 returns-clause-legal g c = c.take.ensures.found.4 (c.args.self.now.opened, c.args.self.now.begun) (search rules)

@@ -1,7 +1,7 @@
 use Rattle.std.proofs.Common.{rules, ◌≡◌, ℕ, ◌+◌, ap, sym, ◌∙◌, subst, Some, ◌∷◌, []}
 use Rattle.atomic_table.specs.Table.{rest}
 use Rattle.cat_desk.specs.Sight.{View}
-use Rattle.cat_desk.specs.Pass.{DeskId}
+use Rattle.cat_desk.specs.Pass.{DeskId, mark_in, turn_in}
 use Rattle.cat_model.specs.Turns.{Adds}
 use Rattle.cat_model.specs.Mark.{Later}
 use Rattle.cat_model.specs.Drafts.{LeavesOthers}
@@ -32,3 +32,11 @@ store-requires-2 g c = let turn = c.requires.turn in let now = c.exchange.ensure
 
 pub store-requires-3 : goal.store-requires-3
 store-requires-3 g c = (search rules, search rules, rings _ _ _ _ _ _ _ _ _ _ _ (ap (λ (v : View). v.stage) c.store-2.ensures.2.1) c.bell_of-bell.ensures.0)
+
+pub returns-clause-mark : goal.returns-clause-mark
+returns-clause-mark g c = let turn = c.requires.turn in let now = c.exchange.ensures.3 in let same = ap (λ m. m.0) now in
+    let held : c.exchange.new.seat.me.1 ≡ (0, Some c.args.held.value) ∷ [] = ap (λ m. m.1) now ∙ ap (λ l. (0, Some c.args.held.value) ∷ rest l) turn.2 in
+    let gave = (c.store.ensures.2 c.args.held.value held).0 in let served = c.store-2.ensures.2.1 in let rung = ap (λ m. m.0) c.store-3.ensures.2 in let at = c.into_badge.ensures.2 in (
+      ap mark_in at ∙ (ap (λ (v : View). v.mark) rung ∙ (ap (λ (v : View). v.mark) served ∙ ap (λ (v : View). v.mark) gave)),
+      ap turn_in at ∙ (ap (λ (v : View). v.turn) rung ∙ (ap (λ (v : View). v.turn) served ∙ (ap (λ (v : View). v.turn) gave ∙ ap (λ (v : View). v.turn + 1) same))),
+    )

@@ -4,4 +4,4 @@ use Rattle.cat_desk.proofs.Passes.{free_view}
 use Rattle.cat_desk.proofs.pass.Pass.meet.Goals as goal
 
 pub load-count-requires : goal.load-count-requires
-load-count-requires g c = let f = free_view _ c.args.self.now c.into_seat-seat.result.me.0 c.requires (search rules) in (search rules, search rules, meets _ _ _ _ _ _ _ _ _ f.idle)
+load-count-requires g c = let f = free_view c.args.desk.now c.args.self.now c.into_seat-seat.result.me.0 c.requires (search rules) in (search rules, search rules, meets _ _ _ _ _ _ _ _ _ f.idle)
