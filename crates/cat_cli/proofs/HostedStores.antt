@@ -1,5 +1,5 @@
 -- Workers on a desk: from what its passes have seen to the store, and to the journal that the store was opened from.
-use Rattle.std.proofs.Common.{◌≡◌, ◌≢◌, ℕ, ◌+◌, ◌<◌, ◌^◌, List, [], ◌∷◌, ◌++◌, reverse, Option, Some, None, IfSome, Result, Ok, Err, Bool, true, false, if◌then◌else◌, refl, sym, ◌∙◌, ap, subst, inl, inr, arith}
+use Rattle.std.proofs.Common.{◌≡◌, ◌≢◌, ℕ, ◌+◌, ◌-◌, ◌<◌, ◌≤◌, ◌^◌, List, [], ◌∷◌, ◌++◌, reverse, Option, Some, None, IfSome, Result, Ok, Err, Bool, true, false, if◌then◌else◌, refl, sym, ◌∙◌, ap, subst, inl, inr, arith}
 use Rattle.std.specs.Prelude.{◌⊎◌, IsTrue}
 use Rattle.std.specs.Option.{option_map}
 use Rattle.std.proofs.lemmas.List.{reverse-reverse, map-append}
@@ -9,6 +9,8 @@ use Rattle.cat_checks.specs.LeadingLaws.{replayed_limits}
 use Rattle.cat_checks.specs.Legal.{is_legal, next_book, or_at, read_next, replayed, replayed_call}
 use Rattle.cat_codes.specs.declared.fault.FieldFault.{FieldFault}
 use Rattle.cat_core.specs.Stored.{Stored, opened_of}
+use Rattle.cat_desk.specs.Log.{Since, WasGiven}
+use Rattle.cat_desk.specs.Marks.{IsGiven}
 use Rattle.cat_desk.specs.Pass.{DeskId, Remembers, mark_of, number_of, seen, spare_of}
 use Rattle.cat_desk.specs.declared.pass.Pass.{Pass}
 use Rattle.cat_model.specs.declared.limits.Limits.{Limits}
@@ -32,7 +34,10 @@ use Rattle.cat_cli.specs.Runs.{CountedBy}
 use Rattle.cat_cli.specs.Serving.{Hosted, OpenedOnly, flying_at}
 use Rattle.cat_cli.specs.Surviving.{IsBegun, KeepsThrough, LeavesLog, images_of}
 use Rattle.cat_cli.proofs.Counted.{opens}
+use Rattle.cat_cli.specs.Shares.{CallerWasTold, all_shares}
+use Rattle.cat_cli.proofs.Shares.{all_among, all_made, all_of}
 use Rattle.cat_cli.proofs.Surviving.{survives}
+use Rattle.cat_cli.proofs.ToldFaults.{all_told}
 
 -- ---- by how serving ended
 
@@ -108,11 +113,19 @@ same_standing : (desk : DeskId) (p q : Pass) → Remembers p q → book_of desk 
 same_standing desk p q r = λ i. record { state = state_of desk (r.seen i); draft = (r.mark i).draft; log = reverse (r.seen i); base = desk.opened.state }
 
 pub hosts : {In Out K : Type 0} (ends : BothEnds In Out) (service : Service) (a b : Heard (In × Out)) (desk : DeskId) (p : Pass) (ahead : Option Readings) (q : Pass) (now : Option Readings) (old new : Stored K) (paused : Type 0) (end : Served)
-    → number_of p ≡ 1 → spare_of p ≡ 4294967294 → desk.opened ≡ opened_of old → (desk.begun ≡ reverse old.book.log) × (seen p ≡ desk.begun) → book_of desk p ≡ old.book → mark_of p ≡ old.mark → IsReady desk q → new.book ≡ book_of desk q → new.mark ≡ mark_of q
+    → service.workers ≤ 64 → number_of p ≡ 1 → spare_of p ≡ 4294967294 → desk.opened ≡ opened_of old → desk.marked ≡ old.mark → (desk.begun ≡ reverse old.book.log) × (seen p ≡ desk.begun) → book_of desk p ≡ old.book → mark_of p ≡ old.mark → IsReady desk q → new.book ≡ book_of desk q → new.mark ≡ mark_of q
+    → (0 < spare_of q → Since (4294967296 - spare_of q) desk.begun (seen q) × IsGiven (4294967296 - spare_of q) desk.marked (mark_of q))
     → Comes (WorksOn ends service a b desk p ahead q now) (Remembers p q × paused) service a b end → Comes (Hosts ends service a b ahead now old new) (IsAsBefore old new × paused) service a b end
-hosts {In} {Out} {K} ends service a b desk p ahead q now old new paused end number spare opened begun book mark ready left_book left_mark c =
+hosts {In} {Out} {K} ends service a b desk p ahead q now old new paused end few number spare opened marked begun book mark ready left_book left_mark given c =
     comes_on (WorksOn ends service a b desk p ahead q now) (Hosts ends service a b ahead now old new) (Remembers p q × paused) (IsAsBefore old new × paused) service a b end served spared c
   where
+    some_left : WorksOn ends service a b desk p ahead q now → 0 < spare_of q
+    some_left works = let s = works.serves.numbers in let count = works.serves.count in omega (arith, few, spare, s, count)
+
+    -- the number that would be given next
+    next : WorksOn ends service a b desk p ahead q now → 4294967296 - spare_of q ≡ service.workers + 1
+    next works = let s = works.serves.numbers in let count = works.serves.count in omega (arith, few, spare, s, count)
+
     served : WorksOn ends service a b desk p ahead q now → Hosts ends service a b ahead now old new
     served works = record {
       desk = desk;
@@ -127,6 +140,8 @@ hosts {In} {Out} {K} ends service a b desk p ahead q now old new paused end numb
       works = works;
       legal = ready.legal;
       starts = ready.starts;
+      given = subst (λ (n : ℕ). Since n desk.begun (seen q)) (next works) (given (some_left works)).0;
+      marked = subst (λ (z : ℕ × Mark). IsGiven z.0 z.1 (mark_of q)) (λ i. (next works i, marked i)) (given (some_left works)).1;
       log_is = ap (λ (x : Book). x.log) left_book;
       fault_is = ap (λ (x : Mark). x.fault) left_mark;
     }
@@ -170,16 +185,22 @@ module _ {In Out D K : Type 0} (ends : BothEnds In Out) (service : Service) (a b
     (flies : in_flight new.keeper ≡ option_map (λ (x : FailedAppend). x.payload) new.mark.fault)
     (holds : HoldsLog in_flight new.keeper new.book (told again))
     (leaves : KeepsThrough since least early (may_leave again) (left_since again) in_flight new.keeper new.book (told again)) where
+  -- a fault is new
+  is_new : (x : FailedAppend) → WasGiven (service.workers + 1) x.caller ⊎ (old.mark.fault ≡ Some x) → WasGiven (service.workers + 1) x.caller
+  is_new x (inl was) = was
+  is_new x (inr old_one) = absurd (let wrong : None ≡ Some x = sym up ∙ old_one in cc)
+
   hosted : (to : ℕ → Type 0) → ((x : FailedAppend) → new.mark.fault ≡ Some x → to x.count) → Hosts ends service a b ahead now old new → Hosted ends to service a b ahead now (told disk) (told again) (images_of may_leave moment left_since disk again)
   hosted to counted h =
-      let added = h.starts.0 in
-      let grows : seen h.last ≡ reverse old.book.log ++ added = h.starts.1 ∙ ap (λ (l : List LogEntry). l ++ added) h.begun in
+      let added = h.given.0 in
+      let grows : seen h.last ≡ reverse old.book.log ++ added = h.given.1 ∙ ap (λ (l : List LogEntry). l ++ added) h.begun in
       let log : spellings (reverse new.book.log) ≡ stored.payloads ++ spellings added =
       ap (λ (l : List LogEntry). spellings (reverse l)) h.log_is
       ∙ ap spellings (reverse-reverse (seen h.last) ∙ grows)
       ∙ map-append spelling (reverse old.book.log) added
       ∙ ap (λ (l : List (List ℕ)). l ++ spellings added) (sym stored.spelled) in
       let flying : in_flight new.keeper ≡ flying_at h.last = flies ∙ ap (option_map (λ (x : FailedAppend). x.payload)) h.fault_is in
+      let clean : (mark_of h.first).fault ≡ None = ap (λ (m : Mark). m.fault) h.mark_is ∙ up in
       let limits : old.book.state.limits ≡ program_limits = limits_of (first_book sha256 program_limits) old.book 0 stored.payloads stored.begins.led in
       record {
         payloads = stored.payloads;
@@ -191,7 +212,7 @@ module _ {In Out D K : Type 0} (ends : BothEnds In Out) (service : Service) (a b
         opened = h.opened ∙ (λ i. record { state = first_state sha256 (limits i); draft = 0; faults = began i });
         begun = h.begun;
         saw = h.saw;
-        clean = ap (λ (m : Mark). m.fault) h.mark_is ∙ up;
+        clean = clean;
         number_is = h.number_is;
         splits = h.splits;
         works = h.works;
@@ -199,6 +220,8 @@ module _ {In Out D K : Type 0} (ends : BothEnds In Out) (service : Service) (a b
         legal = h.legal;
         added = added;
         grows = grows;
+        theirs = all_of ends h.desk service.attempts h.works.serves h.number_is h.splits added h.given.2;
+        made = all_made ends h.desk service.attempts h.works.serves added (h.given.1 ∙ ap (λ (l : List LogEntry). l ++ added) (sym h.saw));
         keeps =
             subst (λ (l : List (List ℕ)). IfSome (told again) (Holds l (flying_at h.last))) log
             (subst (λ (f : Option (List ℕ)). IfSome (told again) (Holds (spellings (reverse new.book.log)) f)) flying holds);
@@ -206,6 +229,8 @@ module _ {In Out D K : Type 0} (ends : BothEnds In Out) (service : Service) (a b
             survives since least early (told disk) (told again) (moment disk) (may_leave disk) (may_leave again) (left_since again) stored.payloads (spellings added) (spellings (reverse new.book.log)) (flying_at h.last)
             begun stored.begins.recovers log (subst (λ (f : Option (List ℕ)). IfSome (told again) (LeavesLog since least early (may_leave again) (left_since again) (spellings (reverse new.book.log)) f)) flying leaves);
         cause = if_fault (mark_of h.last).fault (λ f. to f.count) (λ x is. counted x (h.fault_is ∙ is));
+        told = if_fault (mark_of h.last).fault (λ f. CallerWasTold f (all_shares ends h.desk service.attempts h.works.serves)) (λ x is.
+            all_told ends h.desk service.attempts h.works.serves x clean is (all_among ends h.desk service.attempts h.works.serves h.number_is h.splits x.caller (is_new x (h.marked.fault x is))));
       }
 
   opened_only : (paused : Type 0) → IsAsBefore old new × paused → OpenedOnly paused (told disk) (told again) (images_of may_leave moment left_since disk again)

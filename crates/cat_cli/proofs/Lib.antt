@@ -5,6 +5,8 @@ pub mod Surviving
 pub mod Refused
 pub mod Ran
 pub mod Counted
+pub mod Shares
+pub mod ToldFaults
 pub mod HostedStores
 pub mod ServedRuns
 pub mod Gathered

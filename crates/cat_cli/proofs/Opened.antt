@@ -9,7 +9,7 @@ use Rattle.cat_checks.specs.Legal.{replayed}
 use Rattle.cat_core.specs.declared.opening.StoreFault.{StoreFault}
 use Rattle.cat_core.specs.declared.opening.StoreFault.TheVariants as store_faults
 use Rattle.cat_state.specs.Kept.{spellings}
-use Rattle.cat_core.specs.Opening.{IsIllegalAt, IsLedTo}
+use Rattle.cat_core.specs.Opening.{IsIllegalAt, IsLedTo, led_by}
 use Rattle.cat_journal.specs.declared.fault.OpenFault.{OpenFault}
 use Rattle.cat_journal.specs.declared.fault.OpenFault.TheVariants as faults
 use Rattle.cat_journal.specs.Frames.{new_journal, recovered}
@@ -109,7 +109,7 @@ reason_of_entries told ps limits (store_faults.Illegal place) program t illegal 
     record {
       payloads = i.payloads;
       recovers = recovers told ps i.payloads t i.are;
-      refused = subst (λ (l : Limits). replayed sha256 (first_book sha256 l) 0 i.payloads ≡ Err place) program i.refused;
+      refused = subst (λ (l : Limits). led_by l i.payloads ≡ Err place) program i.refused;
     }
 
 -- less is told

@@ -180,6 +180,8 @@ module _ {D : Type 0} (told : D → Option (List ℕ)) (may_leave : D → List �
       legal = h.legal;
       added = h.added;
       grows = h.grows;
+      theirs = h.theirs;
+      made = h.made;
       keeps =
           subst (λ (q : Option (Option D)). IfSome (told_at told q) (Holds (h.payloads ++ spellings h.added) (flying_at h.last))) (sym there)
           (left_at told place again (Holds (h.payloads ++ spellings h.added) (flying_at h.last)) h.keeps);
@@ -187,6 +189,7 @@ module _ {D : Type 0} (told : D → Option (List ℕ)) (may_leave : D → List �
           subst (λ (q : Option (Option D)). Survives (told_at told place) (told_at told q) (images_at may_leave moment left_since place q) h.payloads (spellings h.added) (flying_at h.last)) (sym there)
           (survives_at told may_leave moment left_since place disk again h.payloads (spellings h.added) (flying_at h.last) is h.crash);
       cause = caused to to' (mark_of h.last).fault on h.cause;
+      told = h.told;
     }
 
     -- by the status

@@ -1,9 +1,10 @@
 -- Workers on the passes of a desk that holds a store meanwhile, and what a listener tells of them.
-use Rattle.std.specs.Prelude.{ℕ, ◌^◌, ◌<◌, ◌≤◌, ◌≡◌, ◌⊎◌, List, [], length, reverse, Option, Some, Bool, IsTrue}
+use Rattle.std.specs.Prelude.{ℕ, ◌+◌, ◌^◌, ◌<◌, ◌≤◌, ◌≡◌, ◌⊎◌, List, [], length, reverse, Option, Some, Bool, IsTrue}
 use Rattle.cat_io.specs.Causes.{Rose}
 use Rattle.cat_checks.specs.Histories.{IsLegalFrom}
 use Rattle.cat_core.specs.Stored.{Stored, opened_of}
-use Rattle.cat_desk.specs.Log.{BeginsWith}
+use Rattle.cat_desk.specs.Log.{BeginsWith, Since}
+use Rattle.cat_desk.specs.Marks.{IsGiven}
 use Rattle.cat_desk.specs.Pass.{DeskId, mark_of, number_of, seen}
 use Rattle.cat_desk.specs.declared.pass.Pass.{Pass}
 use Rattle.cat_serve.specs.declared.serving.Served.{Served}
@@ -88,7 +89,7 @@ pub record WorksOn {In Out : Type 0} (ends : BothEnds In Out) (service : Service
   pub listening : IsListening service a b
   pub serves : ServesAll ends desk service.attempts service.workers a.tells a.waiting b.waiting a.returned b.returned a.rejoined b.rejoined a.dealt b.dealt a.faults b.faults p ahead q now
 
--- they did so on a desk that was made of a store, which has then the log that the last pass has seen; the first pass has the number 1, and splits off those of the numbers from 2 on
+-- they did so on a desk that was made of a store, which has then the log that the last pass has seen; the first pass has the number 1, and splits off those of the numbers from 2 on; what was added is of so many numbers as there are workers, and so is what is new in the mark
 pub record Hosts {In Out K : Type 0} (ends : BothEnds In Out) (service : Service) (a b : Heard (In × Out)) (ahead now : Option Readings) (old new : Stored K) : Type 0 where
   pub desk : DeskId
   pub first : Pass
@@ -102,6 +103,8 @@ pub record Hosts {In Out K : Type 0} (ends : BothEnds In Out) (service : Service
   pub works : WorksOn ends service a b desk first ahead last now
   pub legal : IsLegalFrom desk.opened (seen last)
   pub starts : BeginsWith desk.begun (seen last)
+  pub given : Since (service.workers + 1) desk.begun (seen last)
+  pub marked : IsGiven (service.workers + 1) old.mark (mark_of last)
   pub log_is : new.book.log ≡ reverse (seen last)
   pub fault_is : new.mark.fault ≡ (mark_of last).fault
 

@@ -3,6 +3,7 @@ use Rattle.std.specs.Prelude.{ℕ, ◌<◌, ◌≤◌, ◌≡◌, ◌⊎◌, Lis
 use Rattle.sha2.specs.Sha256.{sha256}
 use Rattle.cat_io.specs.Causes.{Rose, raised_by}
 use Rattle.cat_checks.specs.Legal.{replayed}
+use Rattle.cat_core.specs.Opening.{led_by}
 use Rattle.cat_journal.specs.declared.fault.OpenFault.TheVariants as faults
 use Rattle.cat_journal.specs.Frames.{new_journal, recovered}
 use Rattle.cat_model.specs.Book.{Book, first_book}
@@ -55,11 +56,11 @@ pub record Begins (told : Option (List ℕ)) (payloads : List (List ℕ)) (book 
   pub recovers : IfSome told (λ bytes. recovered bytes ≡ Ok payloads)
   pub led : replayed sha256 (first_book sha256 program_limits) 0 payloads ≡ Ok book
 
--- the payload at this place is the first that is no entry or isn't legal
+-- the payload at this place is the first that is no entry or isn't legal, or the base is of this place
 pub record IsIllegal (told : Option (List ℕ)) (place : ℕ) : Type 0 where
   pub payloads : List (List ℕ)
   pub recovers : IfSome told (λ bytes. recovered bytes ≡ Ok payloads)
-  pub refused : replayed sha256 (first_book sha256 program_limits) 0 payloads ≡ Err place
+  pub refused : led_by program_limits payloads ≡ Err place
 
 -- why no catalogue can be made of a journal, by its bytes
 abbrev pub unopened_of : Option (List ℕ) → Unopened → Type 0

@@ -6,5 +6,6 @@ pub mod Opening
 pub mod Stores
 pub mod Hosting
 pub mod HostingLaws
+pub mod Shares
 pub mod Serving
 pub mod Collecting

@@ -25,6 +25,7 @@ use Rattle.cat_cli.specs.Hosting.{Comes, Heard, Service, WorksOn}
 use Rattle.cat_cli.specs.HostingLaws.{AllBegin}
 use Rattle.cat_cli.specs.Journals.{Begins, Holds, StandsFor, unopened_of}
 use Rattle.cat_cli.specs.Lines.{listener_fault_line, no_memory_line}
+use Rattle.cat_cli.specs.Shares.{AreMade, AreOf, CallerWasTold, all_shares}
 use Rattle.cat_cli.specs.Runs.{Opens, Refuses, TellsKnown}
 use Rattle.cat_cli.specs.Surviving.{Images, Spared, Survives}
 
@@ -38,7 +39,7 @@ opened_by_program = record { state = first_state sha256 program_limits; draft = 
 abbrev pub flying_at : Pass → Option (List ℕ)
 flying_at p = option_map (λ (f : FailedAppend). f.payload) (mark_of p).fault
 
--- A desk was made of the catalogue of the journal, workers served on its passes, whose numbers are 1 and those from 2 on, and the journal has the entries of all that they changed: the log at the end begins with the one that was opened, each of its entries is legal where it stands, and what each session's pass had seen is a beginning of it. No append had failed before, and the mark of each session's pass grew to that of the last one. Where an append failed, to is so of the count of faults that is told of it.
+-- A desk was made of the catalogue of the journal, workers served on its passes, whose numbers are 1 and those from 2 on, and the journal has the entries of all that they changed: the log at the end begins with the one that was opened, each of its entries is legal where it stands, and what each session's pass had seen is a beginning of it. What was added is of the workers, and of each of them just the entries that its requests made, in their order. No append had failed before, and the mark of each session's pass grew to that of the last one. Where an append failed, a request of the worker whose it was was told so, and to is so of the count of faults that is told of it.
 pub record Hosted {In Out : Type 0} (ends : BothEnds In Out) (to : ℕ → Type 0) (service : Service) (a b : Heard (In × Out)) (ahead now : Option Readings) (journal left : Option (List ℕ)) (images : Images) : Type 0 where
   pub payloads : List (List ℕ)
   pub book : Book
@@ -57,9 +58,12 @@ pub record Hosted {In Out : Type 0} (ends : BothEnds In Out) (to : ℕ → Type 
   pub legal : IsLegalFrom desk.opened (seen last)
   pub added : List LogEntry
   pub grows : seen last ≡ reverse book.log ++ added
+  pub theirs : AreOf (all_shares ends desk service.attempts works.serves) added
+  pub made : AreMade added (all_shares ends desk service.attempts works.serves)
   pub keeps : IfSome left (Holds (payloads ++ spellings added) (flying_at last))
   pub crash : Survives journal left images payloads (spellings added) (flying_at last)
   pub cause : IfSome (mark_of last).fault (λ f. to f.count)
+  pub told : IfSome (mark_of last).fault (λ f. CallerWasTold f (all_shares ends desk service.attempts works.serves))
 
 -- and no append failed, so no call was told of one
 abbrev pub HostedWell : {In Out : Type 0} → BothEnds In Out → (ℕ → Type 0) → Service → Heard (In × Out) → Heard (In × Out) → Option Readings → Option Readings → Option (List ℕ) → Option (List ℕ) → Images → Type 0

@@ -47,8 +47,8 @@ pub(crate) enum Collected {
     NoMemory,
 }
 
-// What an answer says that a collection came to: nobody else has a sweep open, and no append had failed
-// before.
+// What an answer says that a collection came to: nobody else has a sweep open, and no append had
+// failed before.
 fn meaning(answer: &Result<Told, Refused>) -> Collected
     requires { IsAnswer answer.now }
     ensures { Means answer.now result }
@@ -71,8 +71,8 @@ fn meaning(answer: &Result<Told, Refused>) -> Collected
     }
 }
 
-// A collection on a store, through a desk with one pass, after which the store comes back. Where memory
-// runs out before it begins, it comes back as it was.
+// A collection on a store, through a desk with one pass, after which the store comes back. Where
+// memory runs out before it begins, it comes back as it was.
 fn hold_collection<R: Threads + Wait + Sync, K0: Keeper, C: Clock>(
     rt: &R,
     alloc: Global,
@@ -106,8 +106,8 @@ fn hold_collection<R: Threads + Wait + Sync, K0: Keeper, C: Clock>(
     }
 }
 
-// A collection on the catalogue of the journal of a disk; or why none was made. The disk comes back. It
-// is watched what a crash might have left of it since it was given here.
+// A collection on the catalogue of the journal of a disk; or why none was made. The disk comes
+// back. It is watched what a crash might have left of it since it was given here.
 fn collection_on<B: Since + Send, R: Threads + Wait + Sync, D: Disk + Send, C: Clock>(
     rt: &R,
     alloc: Global,
@@ -270,9 +270,9 @@ fn collect_at<R: Threads + Wait + Sync, O: Disks, K: Sink, C: Clock>(
     }
 }
 
-/// One collection on the catalogue of the journal, under the policy of a default cutoff and any number
-/// of `PATTERN=CUTOFF`; where they aren't one, no disk is opened. The line tells how many contents are
-/// kept, how many are removed, and the place of the entry.
+/// One collection on the catalogue of the journal, under the policy of a default cutoff and any
+/// number of `PATTERN=CUTOFF`; where they aren't one, no disk is opened. The line tells how many
+/// contents are kept, how many are removed, and the place of the entry.
 #[allow(clippy::too_many_arguments)]
 pub(crate) fn gc<R: Threads + Wait + Sync, O: Disks, K: Sink, C: Clock>(
     rt: &R,

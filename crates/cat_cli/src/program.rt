@@ -33,14 +33,14 @@ use std::thread::Threads;
 /// Runs the command that the words name, the first word being the program's own name. `script`
 /// answers the requests of the source, one after another, on the catalogue of the journal, which
 /// keeps each change before it is told: the replies alone go to the sink. `check` opens the journal
-/// and writes one line on what it holds. An empty file becomes a journal. `drill` makes commits from
-/// a seed in memory, without disks, source or clock, and writes one line. `serve` opens the journal,
-/// and then listens: so many workers answer the requests of so many connections at once, and nothing
-/// goes to the sink, unless the listener fails or memory runs out before. What goes wrong on a
-/// connection ends that one alone. `gc` opens the journal and removes the contents that nothing keeps
-/// under the policy of its words, as its cutoffs are at one reading of the clock: the journal has one
-/// entry more, and one line tells how many contents were kept and removed. No disk is opened for words
-/// that aren't a policy.
+/// and writes one line on what it holds. An empty file becomes a journal. `drill` makes commits
+/// from a seed in memory, without disks, source or clock, and writes one line. `serve` opens the
+/// journal, and then listens: so many workers answer the requests of so many connections at once,
+/// and nothing goes to the sink, unless the listener fails or memory runs out before. What goes
+/// wrong on a connection ends that one alone. `gc` opens the journal and removes the contents that
+/// nothing keeps under the policy of its words, as its cutoffs are at one reading of the clock: the
+/// journal has one entry more, and one line tells how many contents were kept and removed. No disk
+/// is opened for words that aren't a policy.
 #[allow(clippy::too_many_arguments)]
 pub fn run<R: Threads + Wait + Sync, O: Disks, S: Source, K: Sink, C: Clock + Drop, L: Listener>(
     rt: &R,
@@ -63,7 +63,11 @@ pub fn run<R: Threads + Wait + Sync, O: Disks, S: Source, K: Sink, C: Clock + Dr
         → result ≡ Status.NoMemory
         → TellsKnown no_memory_line (K.held sink.old) (K.held sink.new) (K.faults sink.old)
         (K.faults sink.new) }
-    // What a script writes are the replies to the requests in the bytes of the source, the journal has the entries of all that they changed, and the clock stands where their moments left it. Where a read failed, no whole request was read that isn't answered. A crash at any moment leaves a journal with the old entries and a front of these, or what one might have left before.
+    // What a script writes are the replies to the requests in the bytes of the source, the journal
+    // has the entries of all that they changed, and the clock stands where their moments left it.
+    // Where a read failed, no whole request was read that isn't answered. A crash at any moment
+    // leaves a journal with the old entries and a front of these, or what one might have left
+    // before.
     ensures replies { (journal : List ℕ)
         → asked (map (λ word. word.now) words.now) ≡ Some (script journal)
         → SaysKnown
@@ -87,7 +91,11 @@ pub fn run<R: Threads + Wait + Sync, O: Disks, S: Source, K: Sink, C: Clock + Dr
         (told_at O.D.told (O.at_path disks.new journal))
         (images_at O.D.may_leave O.D.moment O.D.left_since (O.at_path disks.old journal)
         (O.at_path disks.new journal)) }
-    // A collection adds the entry of one sweep to the journal, that of the catalogue as it was opened, under the policy of the words at one reading of the clock, and what it writes is the line of its reply. It is refused for a limit exactly where the rules refuse that sweep so. A crash at any moment leaves a journal with the old entries, with or without this one, or what one might have left before.
+    // A collection adds the entry of one sweep to the journal, that of the catalogue as it was
+    // opened, under the policy of the words at one reading of the clock, and what it writes is the
+    // line of its reply. It is refused for a limit exactly where the rules refuse that sweep so. A
+    // crash at any moment leaves a journal with the old entries, with or without this one, or what
+    // one might have left before.
     ensures collected { (journal default : List ℕ) (rules : List (List ℕ)) (policy : Policy)
         → asked (map (λ word. word.now) words.now) ≡ Some (gc journal default rules)
         → policy_of default rules ≡ Some policy
@@ -112,7 +120,12 @@ pub fn run<R: Threads + Wait + Sync, O: Disks, S: Source, K: Sink, C: Clock + Dr
     ensures drill_ends { (seed commits : ℕ)
         → asked (map (λ word. word.now) words.now) ≡ Some (drill seed commits)
         → IsTrue (ends_drill result) }
-    // On the catalogue of the journal so many workers serve the connections of the address: each session on a pass of one desk, and what its pass had seen is a beginning of the one legal log that the journal has at the end, which begins with the log that was opened. A crash at any moment leaves a journal with the old entries and a front of what was added, or what one might have left before. Where no call of the listener failed its own connections were all given, and stand served.
+    // On the catalogue of the journal so many workers serve the connections of the address: each
+    // session on a pass of one desk, and what its pass had seen is a beginning of the one legal log
+    // that the journal has at the end, which begins with the log that was opened. A crash at any
+    // moment leaves a journal with the old entries and a front of what was added, or what one might
+    // have left before. Where no call of the listener failed its own connections were all given,
+    // and stand served.
     ensures served { (journal address : List ℕ) (workers attempts connections : ℕ)
         → asked (map (λ word. word.now) words.now)
         ≡ Some (serve journal address workers attempts connections)
@@ -141,7 +154,8 @@ pub fn run<R: Threads + Wait + Sync, O: Disks, S: Source, K: Sink, C: Clock + Dr
         (told_at O.D.told (O.at_path disks.new journal))
         (images_at O.D.may_leave O.D.moment O.D.left_since (O.at_path disks.old journal)
         (O.at_path disks.new journal)) result }
-    // A fault comes only where the count of faults rose; the disks' only at the journal's path, by an open that they refuse or by a failed call of its disk.
+    // A fault comes only where the count of faults rose; the disks' only at the journal's path, by
+    // an open that they refuse or by a failed call of its disk.
     ensures read { result ≡ Status.ReadFault → Rose (S.faults source.old) (S.faults source.new) }
     ensures write { result ≡ Status.WriteFault → Rose (K.faults sink.old) (K.faults sink.new) }
     ensures disk { result ≡ Status.DiskFault
@@ -151,7 +165,8 @@ pub fn run<R: Threads + Wait + Sync, O: Disks, S: Source, K: Sink, C: Clock + Dr
         (O.faults disks.old) (O.faults disks.new) }
     ensures listener_fault { result ≡ Status.ListenerFault
         → Rose (L.faults listener.old) (L.faults listener.new) }
-    // The source's count stays unless a read failed, the sink's where it took all that was written, and the disks' where no fault of theirs was to be told.
+    // The source's count stays unless a read failed, the sink's where it took all that was written,
+    // and the disks' where no fault of theirs was to be told.
     ensures source_stays { result ≢ Status.ReadFault → S.faults source.new ≡ S.faults source.old }
     ensures sink_stays { IsTrue (tells_all result) → K.faults sink.new ≡ K.faults sink.old }
     ensures disks_stay { IsTrue (spares_disks result) → O.faults disks.new ≡ O.faults disks.old }
@@ -165,7 +180,8 @@ pub fn run<R: Threads + Wait + Sync, O: Disks, S: Source, K: Sink, C: Clock + Dr
     ensures untouched { option_and_then journal_of (command_of (map (λ word. word.now) words.now))
         ≡ None
         → disks.new ≡ disks.old }
-    // Only a script reads the source, only a script, serving or a collection the clock, and only serving listens.
+    // Only a script reads the source, only a script, serving or a collection the clock, and only
+    // serving listens.
     ensures still { ((journal : List ℕ)
         → asked (map (λ word. word.now) words.now) ≡ Some (script journal)
         → ⊥)

@@ -45,8 +45,8 @@ fn status_of(end: Session, failed: bool) -> Status
     }
 }
 
-// A session on a store, through a desk with one pass, after which the store comes back. Where memory
-// runs out before the session begins, it comes back as it was.
+// A session on a store, through a desk with one pass, after which the store comes back. Where
+// memory runs out before the session begins, it comes back as it was.
 fn hold_session<R: Threads + Wait + Sync, K0: Keeper, S: Source, K: Sink, C: Clock>(
     rt: &R,
     alloc: Global,

@@ -152,8 +152,8 @@ fn hold_serving<R: Threads + Wait + Sync, K0: Keeper, L: Listener, C: Clock + Dr
     }
 }
 
-// Serves on the catalogue of the journal of a disk, and says how that ended; or why there is none. The
-// disk comes back. It is watched what a crash might have left of it since it was given here.
+// Serves on the catalogue of the journal of a disk, and says how that ended; or why there is none.
+// The disk comes back. It is watched what a crash might have left of it since it was given here.
 fn serve_on<
     B: Since + Send,
     R: Threads + Wait + Sync,
@@ -211,8 +211,8 @@ fn serve_on<
     }
 }
 
-// The status after serving, by whether the disk failed. A fault of the listener is told, and want of
-// memory.
+// The status after serving, by whether the disk failed. A fault of the listener is told, and want
+// of memory.
 fn tell_end<K: Sink>(end: Served, failed: bool, sink: &mut K) -> Status
     ensures told { (wrote : Bool) × (result ≡ status_after end failed wrote)
         × IsToldOf end wrote

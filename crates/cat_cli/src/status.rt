@@ -6,8 +6,8 @@ ghost use Rattle.cat_cli.specs.Runs.{code_of};
 /// How a run ended.
 #[derive(Clone, Copy, Debug, PartialEq, Eq, Drop)]
 pub enum Status {
-    /// The input was read to its end, or to a request that closes; or the listener's connections ended;
-    /// or the command's line was told.
+    /// The input was read to its end, or to a request that closes; or the listener's connections
+    /// ended; or the command's line was told.
     Done,
     /// The words aren't the command's, or those of a collection aren't a policy.
     Usage,

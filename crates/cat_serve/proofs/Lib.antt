@@ -12,4 +12,5 @@ pub mod Making
 pub mod Visiting
 pub mod Promised
 pub mod Lending
+pub mod Taking
 pub mod Workers

@@ -36,7 +36,7 @@ others_none n (x ∷ xs) (other, others) =
 own_one : (n : ℕ) (x : LogEntry) → x.caller ≡ n → entries_of n (x ∷ []) ≡ x ∷ []
 own_one n x own = ap (λ (b : Bool). cond b (x ∷ []) []) (eq-eqb x.caller n own)
 
-follows_own : (n : ℕ) (l m : List LogEntry) → Follows n l m → entries_of n m ≡ entries_of n l
+pub follows_own : (n : ℕ) (l m : List LogEntry) → Follows n l m → entries_of n m ≡ entries_of n l
 follows_own n l m (rest, is, others) =
     ap (entries_of n) is ∙ filter-append (λ (entry : LogEntry). entry.caller == n) l rest
     ∙ ap (λ (x : List LogEntry). entries_of n l ++ x) (others_none n rest others) ∙ append-nil (entries_of n l)

@@ -8,15 +8,16 @@ use Rattle.std.proofs.lemmas.List.{append_assoc, append-nil, drop-drop, get_or_a
 use Rattle.std.specs.Prelude.{◌⊎◌, slice_index_or}
 use Rattle.cat_io.specs.Causes.{Rose, raised_by}
 use Rattle.cat_io.specs.Listening.{Deals, Gives, count_given, first_of}
-use Rattle.cat_desk.specs.Pass.{DeskId, Keeps, Remembers, number_of}
+use Rattle.cat_desk.specs.Pass.{CarriesOn, DeskId, Keeps, Remembers, number_of, spare_of}
 use Rattle.cat_desk.specs.declared.pass.Pass.{Pass}
 use Rattle.cat_work.specs.Passes.{IsReady}
 use Rattle.cat_serve.specs.declared.worker.Worker.{Worker}
 use Rattle.cat_serve.specs.Hiring.{AreBack, AreDealt, AreDone, AreNumbered, Counts, IsDone, IsHired, ServesOwn}
-use Rattle.cat_serve.specs.Serving.{GrowsTo}
+use Rattle.cat_serve.specs.Serving.{GrowsTo, TakenIn}
 use Rattle.cat_serve.specs.ServingLaws.{grows_to_itself, grows_to_on}
 use Rattle.cat_serve.specs.Sessions.{Readings}
 use Rattle.cat_serve.specs.Workers.{AllWorked, Ends, IsServed, ServesAll, ServesEach, WorkedByTwin, first_split}
+use Rattle.cat_serve.proofs.Taking.{taken_in, taken_on}
 
 -- ---- what an accept gave
 
@@ -226,9 +227,9 @@ module _ {In Out : Type 0} (e : Ends In Out) (desk : DeskId) (attempts : ℕ) wh
 
   -- it goes on to be so for a later pass, and where fewer are well
   worked_on : (tells : Bool) (well less : Type 0) (dealt : List (List (In × Out))) (number : ℕ) (p : Pass) (ahead : Option Readings) (q r : Pass) (groups : List (List (In × Out)))
-      → GrowsTo q r → (less → well) → AllWorked e desk attempts tells well dealt number p ahead q groups → AllWorked e desk attempts tells less dealt number p ahead r groups
-  worked_on tells well less dealt number p ahead q r [] on fewer all = tt
-  worked_on tells well less dealt number p ahead q r (group ∷ groups) on fewer (t, rest) =
+      → GrowsTo q r → ((n : ℕ) (a : Pass) → TakenIn n a q → TakenIn n a r) → (less → well) → AllWorked e desk attempts tells well dealt number p ahead q groups → AllWorked e desk attempts tells less dealt number p ahead r groups
+  worked_on tells well less dealt number p ahead q r [] on taken fewer all = tt
+  worked_on tells well less dealt number p ahead q r (group ∷ groups) on taken fewer (t, rest) =
       let w = t.worked in
       let to = grows_to_on w.last q r (w.begins, w.marks) on in (
         record {
@@ -236,12 +237,12 @@ module _ {In Out : Type 0} (e : Ends In Out) (desk : DeskId) (attempts : ℕ) wh
           own = t.own;
           now = t.now;
           same = t.same;
-          worked = record { first = w.first; last = w.last; number_is = w.number_is; remembers = w.remembers; each = w.each; begins = to.0; marks = to.1 };
+          worked = record { first = w.first; last = w.last; number_is = w.number_is; remembers = w.remembers; each = w.each; begins = to.0; marks = to.1; taken = taken (number + length groups) w.last w.taken };
           left = t.left;
           front = t.front;
           none_left = λ l. t.none_left (fewer l);
         },
-        worked_on tells well less dealt number p ahead q r groups on fewer rest,
+        worked_on tells well less dealt number p ahead q r groups on taken fewer rest,
       )
 
   -- one more, on the pass before, that was dealt what comes before
@@ -274,19 +275,19 @@ module _ {In Out : Type 0} (e : Ends In Out) (desk : DeskId) (attempts : ℕ) wh
 
     pub back_more : {L C : Type 0} (waiting returned : L → List (In × Out)) (faults : L → ℕ) (w : Worker L C) (first then_ : Bool) (mid now : List (List (In × Out))) (left rest whole : ℕ) (q r : Pass)
         → AreBack e desk attempts tells first groups mid dealt left whole number p ahead q → IsDone e desk attempts waiting returned faults tells ahead p (first_of (drop rest dealt)) w → then_ ≡ w.failed
-        → number_of w.pass ≡ number + rest → rest + 1 ≡ left → (IsTrue tells → now ≡ mid ++ returned w.listener ∷ []) → GrowsTo q r → GrowsTo w.pass r
+        → number_of w.pass ≡ number + rest → rest + 1 ≡ left → (IsTrue tells → now ≡ mid ++ returned w.listener ∷ []) → GrowsTo q r → GrowsTo w.pass r → CarriesOn q r → CarriesOn w.pass r
         → AreBack e desk attempts tells (first || then_) groups now dealt rest whole number p ahead r
-    back_more waiting returned faults w first then_ mid now left rest whole q r b d failed numbered less taken on its = record {
+    back_more waiting returned faults w first then_ mid now left rest whole q r b d failed numbered less taken on its carries carries_its = record {
       twins = b.twins ++ d.served ∷ [];
       theirs = worked_more tells ((first || then_) ≡ false) (drop rest dealt) (number + rest) (number + left) p ahead r b.twins d.served (omega (arith, less))
-          (worked_on tells (first ≡ false) ((first || then_) ≡ false) (drop 1 (drop rest dealt)) (number + left) p ahead q r b.twins on (λ none. (neither first then_ none).0)
+          (worked_on tells (first ≡ false) ((first || then_) ≡ false) (drop 1 (drop rest dealt)) (number + left) p ahead q r b.twins on (λ n a. taken_on n a q r carries) (λ none. (neither first then_ none).0)
           (subst (λ (l : List (List (In × Out))). AllWorked e desk attempts tells (first ≡ false) l (number + left) p ahead q b.twins) (ap (λ (n : ℕ). drop n dealt) (sym less) ∙ sym (drop-drop 1 rest dealt)) b.theirs))
           (record {
             given = d.given;
             own = d.own;
             now = d.now;
             same = d.same;
-            worked = record { first = d.first; last = w.pass; number_is = d.number_is ∙ numbered; remembers = d.remembers; each = d.each; begins = its.0; marks = its.1 };
+            worked = record { first = d.first; last = w.pass; number_is = d.number_is ∙ numbered; remembers = d.remembers; each = d.each; begins = its.0; marks = its.1; taken = taken_in (number + rest) w.pass r (inl (sym numbered)) carries_its };
             left = waiting w.listener;
             front = d.front;
             none_left = λ none. d.none_left (sym failed ∙ (neither first then_ none).1);
@@ -304,17 +305,18 @@ module _ {In Out : Type 0} (e : Ends In Out) (desk : DeskId) (attempts : ℕ) wh
 
   -- all were hired, have served and are back
   pub serves_all : (workers count : ℕ) (tells tells_m tells_n : Bool) (waits waits_m waits_n waits_q back back_m back_n back_q : List (In × Out)) (groups groups_n groups_q dealt dealt_q : List (List (In × Out)))
-      (failed : Bool) (faults faults_q : ℕ) (p m n q : Pass) (ahead now : Option Readings) → Remembers p m → number_of m ≡ number_of p → ServesOwn e desk attempts tells_m waits_m waits_n back_m back_n m ahead n now → GrowsTo n q
+      (failed : Bool) (faults faults_q : ℕ) (p m n q : Pass) (ahead now : Option Readings) → Remembers p m → number_of m ≡ number_of p → ServesOwn e desk attempts tells_m waits_m waits_n back_m back_n m ahead n now → GrowsTo n q → TakenIn (number_of p) n q → spare_of q + count ≡ spare_of p
       → AreBack e desk attempts tells_n failed groups_n groups_q dealt 0 count (first_split p) p ahead q → (failed ≡ true → Rose faults faults_q) → (IsTrue tells → dealt_q ≡ drop count dealt) → count + 1 ≡ workers → tells_m ≡ tells → tells_n ≡ tells → waits_m ≡ waits → waits_q ≡ waits_n → back_m ≡ back
       → back_q ≡ back_n → groups_n ≡ groups → ServesAll e desk attempts workers tells waits waits_q back back_q groups groups_q dealt dealt_q faults faults_q p ahead q now
-  serves_all workers count tells tells_m tells_n waits waits_m waits_n waits_q back back_m back_n back_q groups groups_n groups_q dealt dealt_q failed faults faults_q p m n q ahead now remembers number own to b cause rest all at_m at_n w w' r r' g = record {
+  serves_all workers count tells tells_m tells_n waits waits_m waits_n waits_q back back_m back_n back_q groups groups_n groups_q dealt dealt_q failed faults faults_q p m n q ahead now remembers number own to taken spare b cause rest all at_m at_n w w' r r' g = record {
     given = own.given;
     own = own.served;
     twins = b.twins;
-    mine = record { first = m; last = n; number_is = number; remembers = remembers; each = own.each; begins = to.0; marks = to.1 };
-    theirs = worked_on tells (failed ≡ false) (Rose faults faults_q → ⊥) dealt (first_split p) p ahead q q b.twins (grows_to_itself q) (well failed cause)
+    mine = record { first = m; last = n; number_is = number; remembers = remembers; each = own.each; begins = to.0; marks = to.1; taken = taken };
+    theirs = worked_on tells (failed ≡ false) (Rose faults faults_q → ⊥) dealt (first_split p) p ahead q q b.twins (grows_to_itself q) (λ n a t. t) (well failed cause)
         (subst (λ (x : Bool × ℕ). AllWorked e desk attempts x.0 (failed ≡ false) dealt x.1 p ahead q b.twins) (λ i. (at_n i, from_first (first_split p) i)) b.theirs);
     count = let size = b.count in omega arith;
+    numbers = ap (λ (k : ℕ). spare_of q + k) (sym (none_more (length b.twins) count b.count)) ∙ spare;
     front = λ t. sym w ∙ own.front (subst (λ (x : Bool). IsTrue x) (sym at_m) t) ∙ ap (λ (l : List (In × Out)). own.given ++ l) (sym w');
     stands = λ t. r' ∙ own.stands (subst (λ (x : Bool). IsTrue x) (sym at_m) t) ∙ ap (λ (l : List (In × Out)). l ++ own.served) r;
     rejoined = λ t. b.rejoined (subst (λ (x : Bool). IsTrue x) (sym at_n) t) ∙ ap (λ (l : List (List (In × Out))). l ++ b.twins) g;

@@ -2,11 +2,12 @@
 use Rattle.std.specs.Prelude.{ℕ, ◌≡◌, List, [], ◌∷◌, ◌++◌, flat_map, Option}
 use Rattle.std.specs.Io.KnownBytes.{Appends}
 use Rattle.cat_checks.specs.Histories.{IsLegalFrom}
-use Rattle.cat_desk.specs.Log.{BeginsWith}
-use Rattle.cat_desk.specs.Pass.{DeskId, mark_of, number_of, seen}
+use Rattle.cat_desk.specs.Log.{BeginsWith, Follows}
+use Rattle.cat_desk.specs.Pass.{DeskId, HasNumber, mark_of, number_of, seen}
 use Rattle.cat_desk.specs.declared.pass.Pass.{Pass}
 use Rattle.cat_model.specs.declared.log_entry.LogEntry.{LogEntry}
 use Rattle.cat_model.specs.Mark.{Grows}
+use Rattle.cat_work.specs.Answers.{NoFaultIsNew}
 use Rattle.cat_serve.specs.declared.ending.Session.{Session as End}
 use Rattle.cat_serve.specs.Entries.{entries_of}
 use Rattle.cat_serve.specs.Passes.{IsAnswered, Place, Visit, Went}
@@ -28,6 +29,12 @@ AreAnswered desk attempts (v ∷ visits) = IsAnswered desk attempts v × AreAnsw
 -- a pass came to stand so: what it has then seen begins with what it had, and its mark grew
 abbrev pub GrowsTo : Pass → Pass → Type 0
 GrowsTo p q = BeginsWith (seen p) (seen q) × Grows (mark_of p) (mark_of q)
+
+-- a pass with this number was taken in as it stood, and the one that has the number then stands so: what it has seen more is of others, and its mark tells no fault of this number that is new
+pub record TakenIn (number : ℕ) (p q : Pass) : Type 0 where
+  pub has : HasNumber number q
+  pub follows : Follows number (seen p) (seen q)
+  pub faults : NoFaultIsNew number (mark_of p) (mark_of q)
 
 -- from one pass to the last by these: what was seen after each begins with what was seen before it, and what is seen at the end with both; and so the mark grew
 abbrev pub Rises : Pass → List Visit → Pass → Type 0

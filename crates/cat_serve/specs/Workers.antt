@@ -10,7 +10,7 @@ use Rattle.cat_serve.specs.declared.ending.Session.TheVariants.{ReadFault, Write
 use Rattle.cat_desk.specs.Log.{BeginsWith}
 use Rattle.cat_model.specs.Mark.{Grows}
 use Rattle.cat_serve.specs.Passes.{place}
-use Rattle.cat_serve.specs.Serving.{Serves}
+use Rattle.cat_serve.specs.Serving.{Serves, TakenIn}
 use Rattle.cat_serve.specs.Sessions.{Readings}
 
 -- what is seen of the two ends of a connection: the bytes that are left and those that are held, where they are told, and the counts of faults
@@ -44,7 +44,7 @@ module _ {In Out : Type 0} (e : Ends In Out) (desk : DeskId) (attempts : ℕ) wh
   ServesEach p ahead (x ∷ xs) [] q now = ⊥
   ServesEach p ahead (x ∷ xs) (y ∷ ys) q now = (mid : Pass) × (next : Option Readings) × IsServed p ahead x y mid next × ServesEach mid next xs ys q now
 
-  -- a worker served these on a pass of this number, which were given so and left so, by a clock that told so and then so: its pass began with all that p had seen, and what it has seen at the end is a beginning of what q has, to whose mark its own grew
+  -- a worker served these on a pass of this number, which were given so and left so, by a clock that told so and then so: its pass began with all that p had seen, and what it has seen at the end is a beginning of what q has, with no entry more of this number there, to whose mark its own grew, by no fault of this number
   pub record Worked (number : ℕ) (p : Pass) (ahead : Option Readings) (q : Pass) (now : Option Readings) (given served : List (In × Out)) : Type 0 where
     pub first : Pass
     pub last : Pass
@@ -53,6 +53,7 @@ module _ {In Out : Type 0} (e : Ends In Out) (desk : DeskId) (attempts : ℕ) wh
     pub each : ServesEach first ahead given served last now
     pub begins : BeginsWith (seen last) (seen q)
     pub marks : Grows (mark_of last) (mark_of q)
+    pub taken : TakenIn number last q
 
   -- a worker served these by a twin of a clock that told what was ahead, and by a twin of a listener, where the ones that it was dealt waited; where that tells, those that were given are the first of them, and where no listener failed they are all
   pub record WorkedByTwin (tells : Bool) (well : Type 0) (dealt : List (In × Out)) (number : ℕ) (p : Pass) (ahead : Option Readings) (q : Pass) (served : List (In × Out)) : Type 0 where
@@ -71,7 +72,7 @@ module _ {In Out : Type 0} (e : Ends In Out) (desk : DeskId) (attempts : ℕ) wh
   AllWorked tells well dealt number p ahead q (group ∷ groups) =
       WorkedByTwin tells well (first_of (drop (length groups) dealt)) (number + length groups) p ahead q group × AllWorked tells well dealt number p ahead q groups
 
-  -- all workers served: the caller's own, on its pass and by its clock, and one for each twin, on the passes of the numbers that p splits off; where the listener tells, its own connections are the first of those that waited, they stand behind those that were back, and those of the twins behind the earlier twins', each twin was dealt the next of what twins are dealt, and where no count of faults rose all of it was given
+  -- all workers served: the caller's own, on its pass and by its clock, and one for each twin, on the passes of the numbers that p splits off; where the listener tells, its own connections are the first of those that waited, they stand behind those that were back, and those of the twins behind the earlier twins', each twin was dealt the next of what twins are dealt, and where no count of faults rose all of it was given; one number was given for each twin
   pub record ServesAll (workers : ℕ) (tells : Bool) (waits waits_now back back_now : List (In × Out)) (groups groups_now dealt dealt_now : List (List (In × Out))) (faults faults_now : ℕ) (p : Pass) (ahead : Option Readings) (q : Pass) (now : Option Readings) : Type 0 where
     pub given : List (In × Out)
     pub own : List (In × Out)
@@ -79,6 +80,7 @@ module _ {In Out : Type 0} (e : Ends In Out) (desk : DeskId) (attempts : ℕ) wh
     pub mine : Worked (number_of p) p ahead q now given own
     pub theirs : AllWorked tells (Rose faults faults_now → ⊥) dealt (first_split p) p ahead q twins
     pub count : length twins + 1 ≡ workers
+    pub numbers : spare_of q + length twins ≡ spare_of p
     pub front : IsTrue tells → waits ≡ given ++ waits_now
     pub stands : IsTrue tells → back_now ≡ back ++ own
     pub rejoined : IsTrue tells → groups_now ≡ groups ++ twins

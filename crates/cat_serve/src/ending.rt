@@ -1,6 +1,7 @@
 //! How a session ended.
 
-/// How a session ended. A fault of source or sink, or want of memory, stands in place of the others.
+/// How a session ended. A fault of source or sink, or want of memory, stands in place of the
+/// others.
 #[derive(Clone, Copy, Drop)]
 pub enum Session {
     /// The input ended between two requests, or a request asked for the end.

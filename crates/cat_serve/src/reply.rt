@@ -156,8 +156,8 @@ pub(crate) fn send<K: Sink>(sink: &mut K, reply: Response) -> Result<(), WriteFa
     write_reply(sink, &reply)
 }
 
-/// The reply to what is no request, or to a body that is too large: the session ends after it. Where
-/// no memory is left for its text, it tells so.
+/// The reply to what is no request, or to a body that is too large: the session ends after it.
+/// Where no memory is left for its text, it tells so.
 #[tactic(auto, unfolding(crate::specs::Replies::said_bytes))]
 pub(crate) fn refusal_reply(alloc: Global, why: Refusal) -> Response
     ensures { IsRefusalOf why (render result) }

@@ -2,12 +2,12 @@
 
 ghost use Rattle.std.specs.Prelude.{All, Bool, IfSome, IsTrue, List, Option, [], drop, false, length, max, true, vec_capacity, vec_len, ℕ, ◌+◌, ◌-◌, ◌<◌, ◌^◌, ◌||◌, ◌≡◌, ◌≢◌, ◌≤◌};
 ghost use Rattle.std.specs.Option.{option_to_list};
-ghost use Rattle.cat_desk.specs.Pass.{Keeps, Remembers, number_of, spare_of, stands_for};
+ghost use Rattle.cat_desk.specs.Pass.{CarriesOn, HasNumber, Keeps, Remembers, number_of, spare_of, stands_for};
 ghost use Rattle.cat_io.specs.Causes.{Rose};
 ghost use Rattle.cat_io.specs.Listening.{Deals, OwnStay, Stands, TakesBack, TwinsStay};
 ghost use Rattle.cat_work.specs.Passes.{IsReady};
 ghost use Rattle.cat_serve.specs.Hiring.{AreBack, AreDealt, AreDone, AreNumbered, Counts, IsBack, IsHired, IsIdle, ServesOwn};
-ghost use Rattle.cat_serve.specs.Serving.{GrowsTo};
+ghost use Rattle.cat_serve.specs.Serving.{GrowsTo, TakenIn};
 ghost use Rattle.cat_serve.specs.Sessions.{Readings};
 ghost use Rattle.cat_serve.specs.Workers.{ServesAll, ends_of, first_split};
 
@@ -157,7 +157,8 @@ fn hire_all<K0: Keeper, L: Listener, C: Clock>(
     true
 }
 
-/// A worker with twins of the listener and of the clock; none where no twin of the listener can be had.
+/// A worker with twins of the listener and of the clock; none where no twin of the listener can be
+/// had.
 fn hire<K0: Keeper, L: Listener, C: Clock>(
     desk: &Desk<Store<K0>>,
     pass: &mut Pass,
@@ -300,6 +301,7 @@ fn dismiss<K0: Keeper, L: Listener, C: Drop>(
         × (stands_for pass.new ≡ stands_for pass.old + vec_len others)
         × (spare_of pass.new ≡ spare_of pass.old) }
     ensures grows { GrowsTo pass.old pass.new }
+    ensures taken { (number : ℕ) → HasNumber number pass.old → TakenIn number pass.old pass.new }
     ensures idle { (p : Pass) → Remembers p pass.old
         → All (IsIdle p) others.items
         → Remembers p pass.new × (result ≡ false) }
@@ -339,6 +341,7 @@ fn take_back<K0: Keeper, L: Listener, C: Drop>(
         × (stands_for pass.new ≡ stands_for pass.old + stands_for worker.pass)
         × (spare_of pass.new ≡ max (spare_of pass.old) (spare_of worker.pass)) }
     ensures grows { GrowsTo pass.old pass.new × GrowsTo worker.pass pass.new }
+    ensures carries { CarriesOn pass.old pass.new × CarriesOn worker.pass pass.new }
     ensures remembers { (p : Pass) → Remembers p pass.old
         → Remembers p worker.pass
         → Remembers p pass.new }

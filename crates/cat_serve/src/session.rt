@@ -118,8 +118,9 @@ fn turn<R: Wait + Threads + Sync, K0: Keeper, S: Source, K: Sink, C: Clock, G: G
     }
 }
 
-/// Answers the requests of the source, one after another, on a desk's pass: 1,000 at most. The gate is
-/// asked before each attempt of a call that opens a draft, and before each round of a collection.
+/// Answers the requests of the source, one after another, on a desk's pass: 1,000 at most. The gate
+/// is asked before each attempt of a call that opens a draft, and before each round of a
+/// collection.
 #[tactic(auto, using(crate::proofs::Standing::keeps_self))]
 #[allow(clippy::too_many_arguments)]
 pub fn serve_connection<
@@ -144,7 +145,8 @@ pub fn serve_connection<
     requires gate { G.ready gate.old }
     requires attempts { (1 ≤ settings.attempts) × (settings.attempts ≤ 64) }
     requires markers { (1 ≤ settings.markers) × (settings.markers ≤ 64) }
-    // Whatever other callers do at once, every reply is the one-thread catalogue's at its place in one legal log.
+    // Whatever other callers do at once, every reply is the one-thread catalogue's at its place in
+    // one legal log.
     ensures serves { Serves desk.now settings.attempts
         (place 1000 pass.old (C.ahead clock.old) (S.left source.old) (K.held sink.old)) result
         (S.left source.new) pass.new (C.ahead clock.new) (K.held sink.new) }

@@ -1,8 +1,8 @@
-use Rattle.std.proofs.Common.{ℕ, List, length, reverse, Option, ◌∙◌, ap}
+use Rattle.std.proofs.Common.{ℕ, List, reverse, Option, ◌∙◌, ap}
 use Rattle.std.specs.Option.{option_map}
 use Rattle.cat_journal.specs.declared.journal.Journal.{Journal}
 use Rattle.cat_journal.specs.Frames.{payload_of}
-use Rattle.cat_journal.specs.Held.{first_payloads}
+use Rattle.cat_journal.specs.Held.{first_payloads, held_count}
 use Rattle.cat_journal.specs.Journals.{journal_disk}
 use Rattle.cat_state.specs.Kept.{spellings}
 use Rattle.cat_cli.proofs.Opened.{holds_log, none_down}
@@ -17,7 +17,7 @@ returns-clause-holds g c =
 pub returns-clause-leaves : goal.returns-clause-leaves
 returns-clause-leaves g c =
     let same = c.into_inner.ensures.keeper ∙ c.into_keeper.ensures in
-    let kept_of : Journal g.row.D.Denot g.D.Disk → Option (List (List ℕ)) = λ j. option_map (first_payloads (length j.gates.items)) (g.D.Disk.told j.disk) in
+    let kept_of : Journal g.row.D.Denot g.D.Disk → Option (List (List ℕ)) = λ j. option_map (first_payloads (held_count j.points)) (g.D.Disk.told j.disk) in
     let flying_of : Journal g.row.D.Denot g.D.Disk → Option (List ℕ) = λ j. option_map (λ _. payload_of j.frame.items) j.down in
     leaves_of {J = Journal g.row.D.Denot g.D.Disk} g.D.Disk.told g.D.Disk.may_leave g.D.Disk.moment g.D.Disk.left_since journal_disk kept_of flying_of g.B.Since.since g.B.Since.least g.B.Since.before
     (spellings (reverse c.args.store.book.log)) (λ j. j.down) c.into_disk.result c.args.store.keeper (c.into_disk.ensures.disk ∙ ap journal_disk same) c.log_is_kept.ensures.payloads

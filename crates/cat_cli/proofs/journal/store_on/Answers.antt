@@ -1,8 +1,8 @@
-use Rattle.std.proofs.Common.{ℕ, List, length, Option, ◌∙◌, ap, subst, sym}
+use Rattle.std.proofs.Common.{ℕ, List, Option, ◌∙◌, ap, subst, sym}
 use Rattle.std.specs.Option.{option_map}
 use Rattle.cat_journal.specs.declared.journal.Journal.{Journal}
 use Rattle.cat_journal.specs.Frames.{payload_of}
-use Rattle.cat_journal.specs.Held.{first_payloads}
+use Rattle.cat_journal.specs.Held.{first_payloads, held_count}
 use Rattle.cat_journal.specs.Journals.{journal_disk}
 use Rattle.cat_keeper.specs.KeeperLaws.{none_flies}
 use Rattle.cat_cli.specs.declared.unopened.Unopened.{Unopened}
@@ -35,7 +35,7 @@ returns-in-Err-clause-spared g c =
 
 pub returns-in-Err-open-clause-spared : goal.returns-in-Err-open-clause-spared
 returns-in-Err-open-clause-spared g c =
-    let kept_of : Journal g.row.D.Denot g.D.Disk → Option (List (List ℕ)) = λ j. option_map (first_payloads (length j.gates.items)) (g.D.Disk.told j.disk) in
+    let kept_of : Journal g.row.D.Denot g.D.Disk → Option (List (List ℕ)) = λ j. option_map (first_payloads (held_count j.points)) (g.D.Disk.told j.disk) in
     let flying_of : Journal g.row.D.Denot g.D.Disk → Option (List ℕ) = λ j. option_map (λ _. payload_of j.frame.items) j.down in
     spared_keeper {J = Journal g.row.D.Denot g.D.Disk} g.D.Disk.told g.D.Disk.may_leave g.D.Disk.moment g.D.Disk.left_since journal_disk kept_of flying_of
     g.B.Since.since g.B.Since.least g.B.Since.before c.args.disk c.into_disk.result c.in-Ok.journal c.in-Err-open.watched c.requires.begun c.in-Ok.ensures.payloads (none_flies _ _ c.in-Ok.ensures.up)

@@ -5,6 +5,7 @@ use Rattle.cat_serve.specs.Hiring.{IsBack, IsDone, IsIdle}
 use Rattle.cat_serve.specs.Workers.{ends_of}
 use Rattle.cat_serve.specs.declared.worker.Worker.{Worker}
 use Rattle.cat_serve.specs.ServingLaws.{grows_to_itself, grows_to_on}
+use Rattle.cat_serve.proofs.Taking.{taken_on, taken_self}
 use Rattle.cat_serve.proofs.Workers.{back_more, back_none, counts_on, numbered_pop, popped, popped_at}
 use Rattle.cat_serve.proofs.serving.dismiss.Goals as goal
 
@@ -19,6 +20,7 @@ loop-worker-init g c = record {
   stand = refl;
   spare = refl;
   grows = grows_to_itself c.args.pass.now;
+  taken = λ number has. taken_self number c.args.pass.now has;
   idle = λ p one all. (one, refl, all);
   back = λ attempts number ahead p dealt all numbered. (back_none (ends_of g.L.In.Source.left g.L.In.Source.faults g.L.Out.Sink.held g.L.Out.Sink.faults) c.args.desk.now attempts _ _ dealt _ _ _ _ _, all, numbered);
   counts = inl refl;
@@ -55,6 +57,7 @@ loop-worker-preserved g c =
       stand = let e = t.kept.1 in let one = b.1.one in let s = i.stand in omega arith;
       spare = let e = t.kept.2 in let none = b.1.none in let s = i.spare in omega arith;
       grows = grows_to_on c.args.pass.now c.loop-worker.pass c.take_back-failed.new.pass i.grows t.grows.0;
+      taken = λ number has. taken_on number c.args.pass.now c.loop-worker.pass c.take_back-failed.new.pass t.carries.0 (i.taken number has);
       idle = λ p one all.
           let r = i.idle p one all in
           let q = popped (IsIdle {L = g.row.L.Denot} {C = g.row.C.Denot} p) _ _ _ w c.pop.ensures.items is r.2 in
@@ -69,7 +72,7 @@ loop-worker-preserved g c =
           _ _ _ w c.pop.ensures.items is r.1 in (
             back_more (ends_of g.L.In.Source.left g.L.In.Source.faults g.L.Out.Sink.held g.L.Out.Sink.faults) c.args.desk.now attempts _ _ dealt number p ahead g.L.Listener.waiting g.L.Listener.returned g.L.Listener.faults w
                 c.loop-worker.failed c.take_back-failed.result _ _ _ _ _ c.loop-worker.pass _ r.0 (subst (λ (k : ℕ). IsDone (ends_of g.L.In.Source.left g.L.In.Source.faults g.L.Out.Sink.held g.L.Out.Sink.faults) c.args.desk.now attempts g.L.Listener.waiting g.L.Listener.returned g.L.Listener.faults
-                (g.L.Listener.tells c.args.listener.now) ahead p (first_of (drop k dealt)) w) long q.1) t.failed (n.1 ∙ ap (λ (k : ℕ). number + k) long) less (λ x. t.rejoined (here x) (some x)) t.grows.0 t.grows.1,
+                (g.L.Listener.tells c.args.listener.now) ahead p (first_of (drop k dealt)) w) long q.1) t.failed (n.1 ∙ ap (λ (k : ℕ). number + k) long) less (λ x. t.rejoined (here x) (some x)) t.grows.0 t.grows.1 t.carries.0 t.carries.1,
             q.0,
             n.0,
           );
@@ -85,6 +88,9 @@ loop-worker-preserved g c =
 
 pub returns-clause-grows : goal.returns-clause-grows
 returns-clause-grows g c = c.loop-worker.invariant.grows
+
+pub returns-clause-taken : goal.returns-clause-taken
+returns-clause-taken g c number has = c.loop-worker.invariant.taken number has
 
 pub returns-clause-idle : goal.returns-clause-idle
 returns-clause-idle g c p one all = let r = c.loop-worker.invariant.idle p one all in (r.0, r.1)

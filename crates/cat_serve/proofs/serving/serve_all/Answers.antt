@@ -1,5 +1,6 @@
-use Rattle.std.proofs.Common.{◌≡◌, ◌+◌, ℕ, Bool, true, false, drop, vec_len, rules, arith, refl, sym, ap, ◌∙◌, subst}
+use Rattle.std.proofs.Common.{inl, ◌≡◌, ◌+◌, ℕ, Bool, true, false, drop, vec_len, rules, arith, refl, sym, ap, ◌∙◌, subst}
 use Rattle.std.specs.List.{All}
+use Rattle.cat_desk.specs.Pass.{number_of, spare_of}
 use Rattle.cat_serve.specs.Hiring.{AreDealt, Counts, IsHired}
 use Rattle.cat_serve.specs.Workers.{ends_of, first_split}
 use Rattle.cat_serve.proofs.Workers.{counts_none, rose_of, serves_all}
@@ -30,9 +31,11 @@ returns-clause-serves g c some =
     subst (λ (b : Bool). AreDealt g.L.Listener.waiting b (g.L.Listener.dealt c.args.listener.now) c.hire_all.new.others.items) (sym tells) c.hire_all.ensures.dealt in
     let all : c.hire_all.result ≡ true = search rules in
     let count : vec_len c.work-own_failed.new.others + 1 ≡ c.args.workers = let e = c.hire_all.ensures.all all in let f = w.len in let m = c.requires.workers.0 in omega arith in
+    let spare : spare_of c.dismiss-others_failed.new.pass + vec_len c.work-own_failed.new.others ≡ spare_of c.args.pass.now =
+    let a = d.kept.2 in let b = w.kept.spare in let e = c.hire_all.ensures.kept.2 in let f = w.len in omega arith in
     serves_all (ends_of g.L.In.Source.left g.L.In.Source.faults g.L.Out.Sink.held g.L.Out.Sink.faults) c.args.desk.now c.args.settings.attempts c.args.workers _ _ _ _ _ _ _ _ _ _ _ _ _ _ _ (g.L.Listener.dealt c.args.listener.now) _ c.dismiss-others_failed.result _ _
     c.args.pass.now _ _ _ _ _
-    c.hire_all.ensures.remembers c.hire_all.ensures.kept.0 w.serves d.grows
+    c.hire_all.ensures.remembers c.hire_all.ensures.kept.0 w.serves d.grows (d.taken (number_of c.args.pass.now) (inl (sym (w.kept.number ∙ c.hire_all.ensures.kept.0)))) spare
     (d.back c.args.settings.attempts (first_split c.args.pass.now) (g.C.Clock.ahead c.args.clock.now) c.args.pass.now (g.L.Listener.dealt c.args.listener.now)
     (w.done (g.L.Listener.tells c.work-own_failed.new.listener) (g.C.Clock.ahead c.args.clock.now) c.args.pass.now (g.L.Listener.dealt c.args.listener.now) hired dealt)
     (w.numbered (first_split c.args.pass.now) c.hire_all.ensures.numbered))
