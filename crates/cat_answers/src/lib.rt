@@ -1,5 +1,5 @@
-//! What reading calls answer on a catalogue at one place of its log: the model's answer at its state,
-//! page by page, a refusal with its cause, or want of memory. Nothing is changed.
+//! What reading calls answer on a catalogue at one place of its log: the model's answer at its
+//! state, page by page, a refusal with its cause, or want of memory. Nothing is changed.
 #![tactic(auto)]
 
 mod answering;

@@ -38,8 +38,8 @@ pub struct Built {
     pub work: Work,
 }
 
-/// A commit's operations, judged by the maps at the commit that it expects and at its branch's head,
-/// with that head.
+/// A commit's operations, judged by the maps at the commit that it expects and at its branch's
+/// head, with that head.
 fn judge_at_head(
     alloc: Global,
     catalogue: &Catalogue,

@@ -88,7 +88,8 @@ fn making(
     })
 }
 
-/// What the request comes to on its branch in the draft of that number, its operations judged there.
+/// What the request comes to on its branch in the draft of that number, its operations judged
+/// there.
 pub(crate) fn settle_commit(
     alloc: Global,
     catalogue: &Catalogue,

@@ -70,8 +70,8 @@ fn decide_transplant(
     settle_transplant(alloc, catalogue, opened, moment, transplant, branch, draft)
 }
 
-/// What a call comes to at a moment, in its draft, which was opened at a place, by what was built on
-/// its branch's head.
+/// What a call comes to at a moment, in its draft, which was opened at a place, by what was built
+/// on its branch's head.
 pub fn decide(
     alloc: Global,
     catalogue: &Catalogue,

@@ -15,8 +15,8 @@ use std::alloc::Global;
 /// The keys whose entries differ at a commit from those at another, ascending, given both maps.
 ///
 /// Where the other is on the commit's chain they are sought among the keys that the commits between
-/// them touched, unless commits and keys are more than the maps' own keys: then, and where it isn't,
-/// by a walk over both maps.
+/// them touched, unless commits and keys are more than the maps' own keys: then, and where it
+/// isn't, by a walk over both maps.
 pub(crate) fn changed_since(
     alloc: Global,
     catalogue: &Catalogue,

@@ -1,5 +1,5 @@
-//! Calls as they are logged: without what they say of their source's kind, and without what they ask
-//! beside.
+//! Calls as they are logged: without what they say of their source's kind, and without what they
+//! ask beside.
 
 ghost use Rattle.std.specs.Prelude.{◌≡◌, None, IfOk};
 ghost use Rattle.cat_model.specs.declared.command.Command.TheVariants as commands;

@@ -1,5 +1,5 @@
-//! The branches that calls are on, and what is tested before their drafts are opened. What is visible
-//! at a branch's head is held.
+//! The branches that calls are on, and what is tested before their drafts are opened. What is
+//! visible at a branch's head is held.
 
 ghost use Rattle.std.specs.Prelude.{IfOk, IsTrue};
 ghost use Rattle.sha2.specs.Sha256.{sha256};

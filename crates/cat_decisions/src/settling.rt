@@ -295,9 +295,9 @@ fn unless_conflicts(
     }
 }
 
-/// What a draft that was opened at a place comes to at a moment: conflicts refuse, or are the reply;
-/// contents that plans set and that are gone refuse; else there are commits of the plans that change
-/// something.
+/// What a draft that was opened at a place comes to at a moment: conflicts refuse, or are the
+/// reply; contents that plans set and that are gone refuse; else there are commits of the plans
+/// that change something.
 pub(crate) fn settle(
     alloc: Global,
     catalogue: &Catalogue,

@@ -91,8 +91,9 @@ fn keep_path(kept: &mut Option<String>, alloc: Global, path: &str) {
     }
 }
 
-// Opens a file, or makes it, with an exclusive lock where its file system has locks. Before an empty
-// one gets any bytes its folder is synced, so that the file of a journal is there after a crash.
+// Opens a file, or makes it, with an exclusive lock where its file system has locks. Before an
+// empty one gets any bytes its folder is synced, so that the file of a journal is there after a
+// crash.
 fn open_alone<R: Files<File = File>>(runtime: &R, path: &str) -> io::Result<File> {
     let file = OpenOptions::new()
         .read(true)

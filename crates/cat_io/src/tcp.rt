@@ -27,8 +27,8 @@ const PAUSE: u64 = 100;
 pub struct TcpLimits {
     /// How long one read or write may wait.
     pub call: u64,
-    /// How long after the last write, at first after the accept, a read may still begin. So a client
-    /// that sends a byte now and then holds no worker.
+    /// How long after the last write, at first after the accept, a read may still begin. So a
+    /// client that sends a byte now and then holds no worker.
     pub silence: u64,
 }
 
@@ -241,8 +241,8 @@ impl<R: Net<Listener = TcpListener, Stream = TcpStream> + Clock + Copy + Send> L
         })
     }
 
-    /// A want of descriptors or of memory, or a client that is gone, is no fault unless it lasts: for
-    /// about ten seconds the accept is tried again.
+    /// A want of descriptors or of memory, or a client that is gone, is no fault unless it lasts:
+    /// for about ten seconds the accept is tried again.
     fn accept(&mut self) -> Result<Option<(TcpSource<R>, TcpSink<R>)>, Failed> {
         let Some(shared) = &self.shared else {
             return Ok(None);

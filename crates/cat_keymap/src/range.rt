@@ -105,7 +105,8 @@ pub(crate) fn goes_on(filter: &Filter, key: &ContentKey) -> bool
     is_up_to(&filter.max, key) && may_have_prefix(&filter.prefix, key)
 }
 
-/// Whether a key passes the filter, whatever keys that names, and comes after the one that is given.
+/// Whether a key passes the filter, whatever keys that names, and comes after the one that is
+/// given.
 pub(crate) fn admits(filter: &Filter, after: Option<&ContentKey>, key: &ContentKey) -> bool
     ensures { result ≡ Range.admits filter.now (option_map (λ key. key.now) after.entry) key.now }
 {

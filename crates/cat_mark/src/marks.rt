@@ -23,9 +23,9 @@ use cat_tables::table::Table;
 use std::alloc::Global;
 use std::thread::Threads;
 
-/// Hashes that are marked, and the commits that were walked from while they were marked, so that what
-/// was walked once isn't walked again. What is walked later must be the graph of then, or one with
-/// more commits.
+/// Hashes that are marked, and the commits that were walked from while they were marked, so that
+/// what was walked once isn't walked again. What is walked later must be the graph of then, or one
+/// with more commits.
 #[derive(Drop)]
 pub struct Marks {
     set: Hashes,
@@ -89,9 +89,9 @@ impl Marks {
     /// been marked, and something of it is not.
     ///
     /// It costs the map at the oldest of these commits, and one look-up for each change of the
-    /// others. A part of the chain that was walked for another head with the same cutoff isn't walked
-    /// again, and the map of a commit whose parent was walked isn't either, but for the keys that the
-    /// commit changes.
+    /// others. A part of the chain that was walked for another head with the same cutoff isn't
+    /// walked again, and the map of a commit whose parent was walked isn't either, but for the keys
+    /// that the commit changes.
     pub fn mark_root(
         &mut self,
         graph: &Graph,
@@ -133,10 +133,10 @@ impl Marks {
     /// each head, and the hashes themselves. Where memory runs out, a part of that may have been
     /// marked, and something of it is not.
     ///
-    /// Where nothing is marked yet, the heads are shared out among so many workers, each in a thread
-    /// of its own where one can be made, with a set of its own. What a worker finds no memory for is
-    /// marked here after it, so that want of memory for these sets alone is no failure. One worker
-    /// has neither.
+    /// Where nothing is marked yet, the heads are shared out among so many workers, each in a
+    /// thread of its own where one can be made, with a set of its own. What a worker finds no
+    /// memory for is marked here after it, so that want of memory for these sets alone is no
+    /// failure. One worker has neither.
     pub fn mark_all<R: Threads + Sync>(
         &mut self,
         rt: &R,

@@ -55,9 +55,9 @@ pub(crate) fn sets_of<R: Threads + Sync>(
 }
 
 impl Hashes {
-    /// Marks what is live from each of the heads, by so many workers, and notes what was walked. Each
-    /// of them walks a map of its own at least, which pays where the sets that they make are most of
-    /// what is marked then: not where hashes are marked already.
+    /// Marks what is live from each of the heads, by so many workers, and notes what was walked.
+    /// Each of them walks a map of its own at least, which pays where the sets that they make are
+    /// most of what is marked then: not where hashes are marked already.
     pub(crate) fn mark_shares<R: Threads + Sync>(
         &mut self,
         rt: &R,

@@ -40,8 +40,8 @@ fn is_same(one: &Cutoff, other: &Cutoff) -> bool
     }
 }
 
-/// Whether a cutoff keeps from one index on what it keeps from another on. A number of commits alone
-/// depends on these.
+/// Whether a cutoff keeps from one index on what it keeps from another on. A number of commits
+/// alone depends on these.
 fn keeps_as_far(cutoff: &Cutoff, first: u64, index: u64) -> bool
     ensures { IsTrue result → KeepsAsFar cutoff.now first index }
 {

@@ -1,5 +1,5 @@
-//! What is marked along chains of commits. What was walked isn't walked again: of a head whose parent
-//! was walked from, only the changes are looked at.
+//! What is marked along chains of commits. What was walked isn't walked again: of a head whose
+//! parent was walked from, only the changes are looked at.
 
 ghost use Rattle.std.specs.Prelude.{◌≡◌, Some, OnErr, OnOk};
 ghost use Rattle.cat_model.specs.Chain.{commit_of, entries};
@@ -18,8 +18,8 @@ use cat_model::cutoff::Cutoff;
 use cat_names::hash::Hash;
 
 impl Hashes {
-    /// Marks what a commit shows: nothing, where it was walked from; what its map has at the keys that
-    /// it changes, where its parent was; and what that has at all keys otherwise.
+    /// Marks what a commit shows: nothing, where it was walked from; what its map has at the keys
+    /// that it changes, where its parent was; and what that has at all keys otherwise.
     fn mark_last(
         &mut self,
         graph: &Graph,
@@ -45,8 +45,8 @@ impl Hashes {
         self.mark_all_at(maps, at)
     }
 
-    /// Marks what is live from a head's commit: what each of the commits that are kept changes, up to
-    /// one that was walked from, and what the last of them shows.
+    /// Marks what is live from a head's commit: what each of the commits that are kept changes, up
+    /// to one that was walked from, and what the last of them shows.
     fn mark_chain(
         &mut self,
         graph: &Graph,

@@ -44,8 +44,8 @@ impl Cutoff {
         }
     }
 
-    /// Whether a commit is kept by its index in a chain and its time, where those before it are. The
-    /// head has the index 0.
+    /// Whether a commit is kept by its index in a chain and its time, where those before it are.
+    /// The head has the index 0.
     pub fn keeps(&self, index: u64, time: Moment) -> bool
         ensures { result ≡ keeps self.now index time }
     {

@@ -87,8 +87,8 @@ pub struct Committed {
 pub struct Merged {
     /// The commit that changes were reckoned from, for a merge.
     pub common_ancestor: Option<Hash>,
-    /// Of each key that the source changed, ascending; of a transplant those of one commit after the
-    /// other.
+    /// Of each key that the source changed, ascending; of a transplant those of one commit after
+    /// the other.
     pub details: Seq<Detail>,
     /// The head that was merged into.
     pub effective_target: Hash,

@@ -133,8 +133,8 @@ fn references_text(alloc: Global, name: &RefName) -> Result<String, NoMemory>
 }
 
 impl Token {
-    /// The token of a text: `r.` and a name, `e.`, a hash, a dot and the path form of a key, or `h.`
-    /// and a hash, a hash in 64 hexadecimal digits of either case.
+    /// The token of a text: `r.` and a name, `e.`, a hash, a dot and the path form of a key, or
+    /// `h.` and a hash, a hash in 64 hexadecimal digits of either case.
     #[tactic(auto, unfolding(crate::specs::Tokens::token_of))]
     pub fn parse(alloc: Global, text: &str) -> Result<Token, TokenFault>
         ensures { Gives result (token_of text.now) }

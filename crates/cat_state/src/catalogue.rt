@@ -26,8 +26,8 @@ use cat_tables::table::Table;
 use std::alloc::{AllocError, Global};
 use std::marker::Model;
 
-/// A catalogue in memory, at one place of its log. It is never changed: the one after a change shares
-/// with it all that the change doesn't meet.
+/// A catalogue in memory, at one place of its log. It is never changed: the one after a change
+/// shares with it all that the change doesn't meet.
 #[derive(Drop)]
 pub struct Catalogue {
     pub(crate) place: u32,

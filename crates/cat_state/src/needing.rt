@@ -84,8 +84,8 @@ impl Catalogue {
     }
 
     /// The catalogue holds every content that is visible at the commit. It is refused with the keys
-    /// of those that it doesn't hold, ascending, and the place. Where a reference points at the commit
-    /// its map isn't walked, since all that is visible there is held.
+    /// of those that it doesn't hold, ascending, and the place. Where a reference points at the
+    /// commit its map isn't walked, since all that is visible there is held.
     #[tactic(auto, unfolding(cat_model::specs::Moves::needs_contents))]
     pub fn needs_contents(&self, alloc: Global, hash: &Hash) -> Result<(), Failure>
         ensures exact { Gives result (needs_contents self.now hash.now) }

@@ -118,8 +118,8 @@ impl Catalogue {
         Ok(hash)
     }
 
-    /// What the commits of plans add to it, each upon the one before and the first upon a head, with
-    /// the map at each, less what is there already; with the last one's hash.
+    /// What the commits of plans add to it, each upon the one before and the first upon a head,
+    /// with the map at each, less what is there already; with the last one's hash.
     pub fn planned_additions(
         &self,
         alloc: Global,

@@ -108,9 +108,9 @@ impl SharedCatalogue {
         Ok(())
     }
 
-    /// Makes the catalogue after a change, has the keeper keep the entry of the change, and then puts
-    /// the new catalogue in the place of the old one, which can't fail and takes no memory; or changes
-    /// nothing. Views keep the old one.
+    /// Makes the catalogue after a change, has the keeper keep the entry of the change, and then
+    /// puts the new catalogue in the place of the old one, which can't fail and takes no memory; or
+    /// changes nothing. Views keep the old one.
     pub fn make<K: Keeper>(
         &mut self,
         alloc: Global,
@@ -184,8 +184,8 @@ impl SharedCatalogue {
         Ok(())
     }
 
-    /// Puts the catalogue after a change in the place of the old one; or changes nothing. Views keep
-    /// the old one.
+    /// Puts the catalogue after a change in the place of the old one; or changes nothing. Views
+    /// keep the old one.
     pub fn apply(&mut self, alloc: Global, change: Change) -> Result<(), NoMemory>
         requires { MayBeMade self.old change }
         ensures ok { OnOk result (self.new ≡ applied self.old change) }

@@ -149,9 +149,9 @@ fn count_logged(
         .count()
 }
 
-// One worker collects twenty times, while two others put tables on `main` and take them away again, and
-// make, move and remove branches; each collection's numbers and the read behind it are compared with
-// what the one log comes to when it is executed again.
+// One worker collects twenty times, while two others put tables on `main` and take them away again,
+// and make, move and remove branches; each collection's numbers and the read behind it are compared
+// with what the one log comes to when it is executed again.
 #[test]
 fn collections_beside_others_remove_what_the_log_says(rt: HostRuntime) -> Result<(), Fail> {
     let alloc = rt.alloc();

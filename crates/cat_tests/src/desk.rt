@@ -176,7 +176,8 @@ fn through_desk<R: Wait + Abort>(rt: &R, alloc: Global, notes: Notes) -> (Notes,
     }
 }
 
-// Memory may be refused at any place of it, and it tells where: only the making of a desk takes some.
+// Memory may be refused at any place of it, and it tells where: only the making of a desk takes
+// some.
 #[test]
 fn a_desk_that_is_refused_hands_its_value_back_whole(rt: HostRuntime) -> Result<(), Fail> {
     let alloc = rt.alloc();

@@ -17,8 +17,8 @@ use std::process::Abort;
 use std::sync::Wait;
 use std::thread::join_mut;
 
-/// What comes of a change that is held until the log has so many entries; other where it was held for
-/// too long.
+/// What comes of a change that is held until the log has so many entries; other where it was held
+/// for too long.
 fn make_held<R: Abort + Wait>(
     rt: &R,
     alloc: Global,

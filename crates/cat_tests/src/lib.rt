@@ -1,5 +1,6 @@
 //! Tests of what no request reaches of the store and what stands on it: threads, calls that meet
-//! others, low limits, and calls that the program doesn't make. What is expected comes from outside. A value whose parts have variants is given to `drop` or to a helper before the next way
+//! others, low limits, and calls that the program doesn't make. What is expected comes from
+//! outside. A value whose parts have variants is given to `drop` or to a helper before the next way
 //! out, so that a test's own body has plain values alone: each way out has its proof.
 #![tactic(auto)]
 

@@ -63,8 +63,8 @@ fn the_puts_of_a_commit_count_together(rt: HostRuntime) {
     }
 }
 
-/// What a commit, a merge, a transplant, a new branch and its removal come to where one draft number
-/// is left, and so much room in the log.
+/// What a commit, a merge, a transplant, a new branch and its removal come to where one draft
+/// number is left, and so much room in the log.
 #[test]
 fn what_opens_a_draft_finds_none_left_before_the_log_is_full(rt: HostRuntime) {
     let all = Limits::program();
@@ -105,8 +105,8 @@ fn a_call_whose_entry_is_not_kept_is_a_fault_and_then_all_is_down(rt: HostRuntim
     }
 }
 
-/// Whether a branch, a commit on it, one on `main`, the merge of the first into it and a tag come to
-/// these outcomes.
+/// Whether a branch, a commit on it, one on `main`, the merge of the first into it and a tag come
+/// to these outcomes.
 fn meet_limits<R: Abort + Wait>(
     rt: &R,
     alloc: Global,
@@ -131,8 +131,9 @@ fn full_at(which: Quantity, number: u64, place: u32) -> Outcome {
     Outcome::Full(which, number, Some(place))
 }
 
-// All five make two references beside `main`, five entries, three commits, two keys on `main` and two
-// contents, and take three draft numbers. Where there is no `dev` its commit and its merge are refused.
+// All five make two references beside `main`, five entries, three commits, two keys on `main` and
+// two contents, and take three draft numbers. Where there is no `dev` its commit and its merge are
+// refused.
 #[test]
 fn limits_that_are_just_met_let_all_pass_and_one_less_does_not(rt: HostRuntime) {
     let just = Limits {

@@ -97,10 +97,10 @@ fn collect_meeting<R: Abort + Wait + Threads + Sync + Clock>(
     (is_right, relay.asked())
 }
 
-/// In the collection's first round asks for another one, and makes a branch; and opens a merge's draft
-/// then, or in the second round, with a note each time that the collection may go on. The draft settles
-/// behind the collection's last note. Whether the sessions write what they are to, and before how many
-/// attempts the merge's gate was asked.
+/// In the collection's first round asks for another one, and makes a branch; and opens a merge's
+/// draft then, or in the second round, with a note each time that the collection may go on. The
+/// draft settles behind the collection's last note. Whether the sessions write what they are to,
+/// and before how many attempts the merge's gate was asked.
 fn change_meeting<R: Abort + Wait + Threads + Sync + Clock>(
     rt: &R,
     alloc: Global,
@@ -126,8 +126,9 @@ fn change_meeting<R: Abort + Wait + Threads + Sync + Clock>(
     (is_right, relay.asked())
 }
 
-/// A collection and a merge that meet, on four commits of one table: whether each session writes what
-/// it is to, those before and behind these too, and before how many attempts each gate was asked.
+/// A collection and a merge that meet, on four commits of one table: whether each session writes
+/// what it is to, those before and behind these too, and before how many attempts each gate was
+/// asked.
 fn meet<R: Abort + Wait + Threads + Sync + Clock>(
     rt: &R,
     alloc: Global,

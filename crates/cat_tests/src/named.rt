@@ -1,6 +1,7 @@
 //! Requests of sessions that give an open sweep names, and what they are told.
 
-/// The first of the four commits is merged into `main`, which has it, twice: the two drafts name it.
+/// The first of the four commits is merged into `main`, which has it, twice: the two drafts name
+/// it.
 pub(crate) const ONE_NAME: &str =
     "POST /api/v2/trees/main/history/merge HTTP/1.1\r\nContent-Length: 100\r\n\r\n{\"fromRefName\":\"main\",\"fromHash\":\"f92df14c291c55081a6374c5074b1394016591b1981cd32b3bddb20a3f86d5d4\"}POST /api/v2/trees/main/history/merge HTTP/1.1\r\nContent-Length: 100\r\n\r\n{\"fromRefName\":\"main\",\"fromHash\":\"f92df14c291c55081a6374c5074b1394016591b1981cd32b3bddb20a3f86d5d4\"}";
 

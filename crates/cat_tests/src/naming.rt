@@ -60,8 +60,8 @@ fn play_between<R: Abort + Wait + Threads + Sync + Clock>(
     is_right && is_asked
 }
 
-/// What is asked where a sweep may hold so many names, and what is to be told: of a session, of the one
-/// that comes to its gate, and of a collection behind both.
+/// What is asked where a sweep may hold so many names, and what is to be told: of a session, of the
+/// one that comes to its gate, and of a collection behind both.
 #[derive(Clone, Copy)]
 struct Case {
     names: u64,
@@ -81,8 +81,9 @@ fn is_closed<R: Wait>(rt: &R, desk: &Desk<Store<MemKeeper>>, pass: &mut Pass) ->
     is_closed
 }
 
-/// Whether each session writes what it is to, on four commits of one table: that before, the session,
-/// the one that comes to its gate, and the one behind both; and whether nothing is open then.
+/// Whether each session writes what it is to, on four commits of one table: that before, the
+/// session, the one that comes to its gate, and the one behind both; and whether nothing is open
+/// then.
 fn meet<R: Abort + Wait + Threads + Sync + Clock>(rt: &R, alloc: Global, case: &Case) -> [bool; 5] {
     let limits = Limits {
         names: case.names,
@@ -126,8 +127,9 @@ fn case_of(
     }
 }
 
-// Drafts come to an open sweep first, then a sweep to an open draft. A name that comes twice counts once.
-// A sweep that is refused keeps nothing and makes no entry, and the next collection finds none open.
+// Drafts come to an open sweep first, then a sweep to an open draft. A name that comes twice counts
+// once. A sweep that is refused keeps nothing and makes no entry, and the next collection finds
+// none open.
 #[test]
 fn a_sweep_holds_as_many_names_as_it_may_and_none_more(rt: HostRuntime) {
     let one = (ONE_NAME, ONE_NAME_TOLD);

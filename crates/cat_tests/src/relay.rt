@@ -39,13 +39,14 @@ impl Board {
     }
 }
 
-/// Each time that it is asked it puts a note, and holds the call until there are as many as it awaits
-/// then.
+/// Each time that it is asked it puts a note, and holds the call until there are as many as it
+/// awaits then.
 #[derive(Drop)]
 pub(crate) struct Relay<'a, R> {
     rt: &'a R,
     board: &'a Board,
-    /// How many notes it awaits before the first attempt, and before the second; it awaits none later.
+    /// How many notes it awaits before the first attempt, and before the second; it awaits none
+    /// later.
     awaited: (u32, u32),
     /// The number of the attempt before which it was asked last.
     asked: u32,
@@ -64,7 +65,8 @@ impl<'a, R> Relay<'a, R> {
         }
     }
 
-    /// Before how many attempts it was asked, where each came in turn and the notes that it awaited came.
+    /// Before how many attempts it was asked, where each came in turn and the notes that it awaited
+    /// came.
     pub(crate) fn asked(&self) -> Option<u32> {
         if self.is_well { Some(self.asked) } else { None }
     }

@@ -33,8 +33,8 @@ struct Contest<'a> {
     attempts: u32,
 }
 
-/// Makes a call on a pass while a rival on another changes the catalogue; the rival's clock starts at
-/// two seconds.
+/// Makes a call on a pass while a rival on another changes the catalogue; the rival's clock starts
+/// at two seconds.
 fn meet<R: Abort + Wait>(
     rt: &R,
     alloc: Global,
@@ -138,8 +138,8 @@ fn has_spent(answer: Result<Told, Refused>, place: u32, wanted: &[(u32, &str)]) 
     is_so
 }
 
-/// Whether a commit of `t1` on `main`, while `a1` and `a2` are committed there, has spent its attempts
-/// so, and whether the next commit of `t1` was accepted and left this.
+/// Whether a commit of `t1` on `main`, while `a1` and `a2` are committed there, has spent its
+/// attempts so, and whether the next commit of `t1` was accepted and left this.
 fn spends<R: Abort + Wait>(
     rt: &R,
     alloc: Global,

@@ -207,7 +207,8 @@ fn is_told(client: &mut TcpStream) -> io::Result<bool> {
     Ok(got.as_slice() == CONFIG)
 }
 
-/// Whether a client is answered while another one's connection is open, which asks again after that.
+/// Whether a client is answered while another one's connection is open, which asks again after
+/// that.
 fn are_told<R: Net<Stream = TcpStream>>(rt: &R, address: SocketAddr) -> io::Result<bool> {
     let mut first = TcpStream::connect(rt, address)?;
     let mut second = TcpStream::connect(rt, address)?;

@@ -14,8 +14,8 @@ use std::sync::Wait;
 use std::thread::Threads;
 use std::{env, io};
 
-/// How long a connection may take: 10 seconds for one read or write to wait, and 60 from a reply to the
-/// last read of the next request.
+/// How long a connection may take: 10 seconds for one read or write to wait, and 60 from a reply to
+/// the last read of the next request.
 const LIMITS: TcpLimits = TcpLimits {
     call: 10,
     silence: 60,
@@ -94,8 +94,8 @@ where
     status
 }
 
-// Tells what the system said of a file, or of the address. Where standard error is closed too, nobody
-// is told.
+// Tells what the system said of a file, or of the address. Where standard error is closed too,
+// nobody is told.
 fn say<R: Runtime>(rt: &R, about: &str, error: Error) {
     let _ = eprintln!(rt; "nessie: {about}: {error}");
 }
