@@ -43,7 +43,7 @@ def payloads(path):
 def by_hand(folder, entries):
     path = os.path.join(folder, "hand")
     file = os.open(path, os.O_RDWR | os.O_CREAT | os.O_TRUNC)
-    os.pwrite(file, b"NESSIECJ\0\0\0\x01\0\0\0\0\0", 0)
+    os.pwrite(file, b"NESSIECJ\0\0\0\x01\0\0\0\x01\0", 0)
     os.fsync(file)
     began = time.perf_counter()
     gate = 16

@@ -1,12 +1,13 @@
 #!/usr/bin/env python3
 """Times `nessie serve`: requests a second of 1, 8 and 64 connections, each with a worker, and what the server holds in memory.
 
-Usage: bench/serve.py [--program FILE] [--seconds 4] [client|requests|etcd|mixed|memory|commits ..] (all where none is named)
+Usage: bench/serve.py [--program FILE] [--seconds 4] [client|requests|etcd|mixed|views|memory|commits ..] (all where none is named)
 
 The client is bench/load.c, which `cc` compiles first: one process, one request at a time on each connection, and a new
 connection after each 1,000 replies. `client` says what it can do at most, by replies that a C program gives. `requests` are
 reads of one key, commits of one key to one branch, and commits to a branch each; beside the commits stand the disk calls of
 as many entries, made by hand. `etcd` is the same by etcd's JSON calls, if it is there. `mixed` has reads while commits run.
+`views` has commits by one connection alone, and beside 1 and 8 that read: without a view, one key, and lists of 1,000, with a view held for as long as each takes.
 `memory` is what the process holds with 1, 8 and 64 workers, and `commits` what commits add to it, and to a start.
 """
 import argparse
@@ -156,6 +157,21 @@ def mixed(load, program):
         print(f"the commits meanwhile:                        {told(commits)}", flush=True)
 
 
+def views(load, program):
+    """Commits by one connection, alone and beside connections that read: the configuration, for which no view is taken, one key, and lists of a long page, during which one is held."""
+    with Server(program, "--workers", 9) as server:
+        content_id = content_id_of_k(server)
+        with server.link() as link:
+            link.ask(post("/trees/main/history/commit", filling(1000)))
+        alone = load.run(server.port, 1, changing("main", content_id))
+        print(f"commits alone:                  {alone}", flush=True)
+        for readers in (1, 8):
+            for what, request in (("ask for the configuration", CONFIG), ("read a key", READ), ("list 1,000 keys", get("/trees/main/entries?max-records=1000"))):
+                reads = load.start(server.port, readers, request)
+                commits = load.run(server.port, 1, changing("main", content_id))
+                print(f"commits beside {readers} that {what}: {commits}, {commits.rate / alone.rate:.2f} of those alone, beside {told(reads).rate:.0f} reads a second", flush=True)
+
+
 def memory(load, program):
     """What the process holds at its start, with a connection for each worker, and at its most under load."""
     for size in SIZES:
@@ -206,7 +222,7 @@ def commits_one_by_one(server, content_id, count):
     return time.perf_counter() - began
 
 
-PARTS = {part.__name__: part for part in (client, requests, etcd, mixed, memory, commits)}
+PARTS = {part.__name__: part for part in (client, requests, etcd, mixed, views, memory, commits)}
 
 
 def main():
