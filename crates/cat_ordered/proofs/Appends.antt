@@ -1,12 +1,12 @@
 -- Lists of pieces to which one is added.
-use Rattle.std.proofs.Common.{◌≡◌, ◌⊎◌, inl, inr, ℕ, zero, suc, ◌+◌, ◌<◌, ◌≤◌, List, [], ◌∷◌, ◌++◌, length, get_or, take, drop, Bool, true, false, if◌then◌else◌, refl, sym, ap, ◌∙◌, arith, append_assoc, length-append}
+use Rattle.std.proofs.Common.{◌≡◌, ◌⊎◌, inl, inr, ℕ, zero, suc, ◌+◌, ◌<◌, ◌≤◌, List, [], ◌∷◌, ◌++◌, length, take, drop, Bool, true, false, if◌then◌else◌, refl, sym, ap, ◌∙◌, arith, append_assoc, length-append}
 use Rattle.std.specs.Prelude.{nat_le}
-use Rattle.std.proofs.lemmas.List.{append-nil, take_all}
+use Rattle.std.proofs.lemmas.List.{append-nil}
 use Rattle.std.proofs.lemmas.List.Concat.{flat_map-append}
 use Rattle.std.proofs.lemmas.Bool.{leb-true, le-leb}
 use Rattle.std.specs.List.{flat_map}
-use Rattle.cat_ordered.specs.Pieces.{IsPiece, ArePieces, AreLarge, AreFine, debt, Joins, Appends, AppendsAll}
-use Rattle.cat_ordered.proofs.Lists.{all_append, all_front, all_back, all_at, take_at}
+use Rattle.cat_ordered.specs.Pieces.{IsPiece, AreLarge, AreFine, debt, Joins, Appends, AppendsAll}
+use Rattle.cat_ordered.proofs.Lists.{all_append, all_front, all_back, all_take, all_drop}
 
 module _ {E T : Type 0} (entries : T → List E) (size : T → ℕ) (least : ℕ) where
   one_whole : (list : List T) (x : T) → flat_map entries (list ++ x ∷ []) ≡ flat_map entries list ++ entries x
@@ -136,79 +136,56 @@ module _ {E T : Type 0} (entries : T → List E) (size : T → ℕ) (least : ℕ
         spent = join_spent init last next joined copied (nat_le 16 (size last)) refl fine joins le;
       }
 
-  -- ---- one after another
+  -- ---- more of them
 
-  pub record Appending (old more : List T) (i : ℕ) (list : List T) (copied : ℕ) : Type 0 where
-    pub whole : flat_map entries list ≡ flat_map entries old ++ flat_map entries (take i more)
-    pub fine : AreFine entries size least list
-    pub longer : length old ≤ length list
-    pub long : i ≤ length list
-    pub large : 2 ≤ length more → 1 ≤ i → AreLarge entries size least list
-    pub none : i ≡ 0 → (copied ≡ 0) × (debt entries size least list ≡ debt entries size least old)
-    pub few : copied ≤ 128
-    pub spent : copied + debt entries size least list ≤ debt entries size least old + 128
-
-  pub none_yet : (old more : List T) → AreFine entries size least old → Appending old more 0 old 0
-  none_yet old more fine = record {
+  pub nothing_more : (old : List T) → AreFine entries size least old → AppendsAll entries size least old [] old 0
+  nothing_more old fine = record {
     whole = sym (append-nil (flat_map entries old));
     fine = fine;
     longer = omega arith;
     long = omega arith;
-    large = λ two one. absurd (omega arith);
-    none = λ e. (refl, refl);
     few = omega arith;
+    level = λ large. omega arith;
     spent = omega arith;
   }
 
-  longer_by_one : (old more : List T) (i : ℕ) (x : T) (list new : List T) (before copied : ℕ) → AreFine entries size least more → i < length more → (16 ≤ size x) ⊎ (length more ≤ 1) → Appending old more i list before → Appends entries size least list x new copied → i + 1 ≤ length new
-  longer_by_one old more zero x list new before copied fine lt large so_far next = omega (arith, next.some)
-  longer_by_one old more (suc i) x list new before copied fine lt (inl large) so_far next =
-      let all = so_far.large (omega arith) (omega arith) in
-      omega (arith, next.one_more all large, so_far.long)
-  longer_by_one old more (suc i) x list new before copied fine lt (inr one) so_far next = absurd (omega arith)
+  -- where others follow the first one, all are large
+  all_more : (old : List T) (x : T) (rest first : List T) (copied : ℕ) → AreFine entries size least (x ∷ rest) → Appends entries size least old x first copied → 2 ≤ length (first ++ rest) → AreLarge entries size least (first ++ rest)
+  all_more old x [] first copied fine appends two = all_append (λ y. 16 ≤ size y) first [] (appends.fine.large (omega (arith, length-append first []))) tt
+  all_more old x (y ∷ rest) first copied fine appends two =
+      let large = fine.large (omega arith) in
+      all_append (λ z. 16 ≤ size z) first (y ∷ rest) (appends.large large.0) large.1
 
-  -- only the first one is joined
-  spent_by_one : (old more : List T) (i : ℕ) (x : T) (list new : List T) (before copied : ℕ) → i < length more → (16 ≤ size x) ⊎ (length more ≤ 1) → Appending old more i list before → Appends entries size least list x new copied
-      → (before + copied ≤ 128) × (before + copied + debt entries size least new ≤ debt entries size least old + 128)
-  spent_by_one old more zero x list new before copied lt large so_far next =
-      let none = so_far.none refl in
-      (omega (arith, none.0, next.few), omega (arith, none.0, none.1, next.spent))
-  spent_by_one old more (suc i) x list new before copied lt (inl large) so_far next =
-      let all = no_debt list (so_far.large (omega arith) (omega arith)) in
-      (omega (arith, next.level large, all, so_far.few), omega (arith, next.level large, so_far.spent))
-  spent_by_one old more (suc i) x list new before copied lt (inr one) so_far next = absurd (omega arith)
+  spent_more : (old : List T) (x : T) (rest first : List T) (copied : ℕ) → AreFine entries size least (x ∷ rest) → Appends entries size least old x first copied → copied + debt entries size least (first ++ rest) ≤ debt entries size least old + 128
+  spent_more old x [] first copied fine appends = rw (append-nil first) appends.spent
+  spent_more old x (y ∷ rest) first copied fine appends =
+      let large = fine.large (omega arith) in
+      let none = no_debt (first ++ y ∷ rest) (all_append (λ z. 16 ≤ size z) first (y ∷ rest) (appends.large large.0) large.1) in
+      omega (arith, none, appends.few)
 
-  is_large : (more : List T) (i : ℕ) (x : T) → AreFine entries size least more → i < length more → x ≡ get_or more i x → 2 ≤ length more → 16 ≤ size x
-  is_large more i x fine lt e two = all_at (λ y. 16 ≤ size y) more i x lt e (fine.large two)
-
-  pub large_or_one : (more : List T) (i : ℕ) (x : T) → AreFine entries size least more → i < length more → x ≡ get_or more i x → (n : ℕ) → n ≡ length more → (16 ≤ size x) ⊎ (length more ≤ 1)
-  large_or_one more i x fine lt e zero n = inr (omega arith)
-  large_or_one more i x fine lt e (suc zero) n = inr (omega arith)
-  large_or_one more i x fine lt e (suc (suc k)) n = inl (is_large more i x fine lt e (omega arith))
-
-  pub appending_more : (old more : List T) (i : ℕ) (x : T) (list new : List T) (before copied now : ℕ) → AreFine entries size least more → i < length more → x ≡ get_or more i x
-      → now ≡ before + copied → Appending old more i list before → Appends entries size least list x new copied → Appending old more (i + 1) new now
-  appending_more old more i x list new before copied now fine lt e sum so_far next =
-      let spends = spent_by_one old more i x list new before copied lt (large_or_one more i x fine lt e (length more) refl) so_far next in
-      record {
-        whole =
-            next.whole ∙ ap (λ (m : List E). m ++ entries x) so_far.whole ∙ append_assoc (flat_map entries old) (flat_map entries (take i more)) (entries x)
-            ∙ ap (λ (m : List E). flat_map entries old ++ m) (sym (one_whole (take i more) x) ∙ ap (flat_map entries) (sym (take_at more i x lt e)));
-        fine = next.fine;
-        longer = omega (arith, next.longer, so_far.longer);
-        long = longer_by_one old more i x list new before copied fine lt (large_or_one more i x fine lt e (length more) refl) so_far next;
-        large = λ two one. next.large (is_large more i x fine lt e two);
-        none = λ z. absurd (omega arith);
-        few = omega (arith, spends.0);
-        spent = omega (arith, spends.1);
-      }
-
-  pub appended_all : (old more : List T) (i : ℕ) (list : List T) (copied : ℕ) → length more ≤ i → Appending old more i list copied → AppendsAll entries size least old more list copied
-  appended_all old more i list copied le so_far = record {
-    whole = so_far.whole ∙ ap (λ (l : List T). flat_map entries old ++ flat_map entries l) (take_all i more le);
-    fine = so_far.fine;
-    longer = so_far.longer;
-    long = omega (arith, so_far.long);
-    few = so_far.few;
-    spent = so_far.spent;
+  -- the first one is joined, and the others follow it
+  pub others_more : (old : List T) (x : T) (rest first : List T) (copied : ℕ) → AreFine entries size least (x ∷ rest) → Appends entries size least old x first copied → AppendsAll entries size least old (x ∷ rest) (first ++ rest) copied
+  others_more old x rest first copied fine appends = record {
+    whole =
+        flat_map-append entries first rest ∙ ap (λ (m : List E). m ++ flat_map entries rest) appends.whole
+        ∙ append_assoc (flat_map entries old) (entries x) (flat_map entries rest);
+    fine = record {
+      pieces = all_append (λ y. IsPiece (entries y) (size y) least) first rest appends.fine.pieces fine.pieces.1;
+      large = all_more old x rest first copied fine appends;
+    };
+    longer = omega (arith, appends.longer, length-append first rest);
+    long = omega (arith, appends.some, length-append first rest);
+    few = appends.few;
+    level = λ large. omega (arith, appends.level large.0, no_debt (first ++ rest) (all_append (λ y. 16 ≤ size y) first rest (appends.large large.0) large.1));
+    spent = spent_more old x rest first copied fine appends;
   }
+
+  -- ---- the pieces before one, and those after it
+
+  pub large_around : (list : List T) (i : ℕ) → AreFine entries size least list → i < length list → AreLarge entries size least (take i list) × AreLarge entries size least (drop (i + 1) list)
+  large_around [] i fine lt = absurd (omega arith)
+  large_around (x ∷ []) zero fine lt = (tt, tt)
+  large_around (x ∷ []) (suc i) fine lt = absurd (omega arith)
+  large_around (x ∷ y ∷ list) i fine lt =
+      let large = fine.large (omega arith) in
+      (all_take (λ z. 16 ≤ size z) i (x ∷ y ∷ list) large, all_drop (λ z. 16 ≤ size z) (i + 1) (x ∷ y ∷ list) large)

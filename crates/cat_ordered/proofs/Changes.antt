@@ -1,5 +1,5 @@
 -- Changes made from the lowest key on.
-use Rattle.std.proofs.Common.{◌≡◌, ℕ, suc, ◌+◌, ◌*◌, ◌<◌, ◌≤◌, List, [], ◌∷◌, ◌++◌, length, get_or, take, drop, Option, Some, None, true, false, refl, sym, ap, subst, ◌∙◌, arith, append_assoc, length-append}
+use Rattle.std.proofs.Common.{◌≡◌, ℕ, suc, ◌+◌, ◌*◌, ◌<◌, ◌≤◌, List, [], ◌∷◌, ◌++◌, length, get_or, take, drop, Option, Some, None, true, false, refl, sym, ap, subst, ◌∙◌, arith, append_assoc}
 use Rattle.std.proofs.lemmas.List.{append-nil, drop_all}
 use Rattle.std.specs.Ordering.{is_eq}
 use Rattle.std.specs.Cmp.{IsTotalOrder}
@@ -8,7 +8,7 @@ use Rattle.std.specs.declared.cmp.Ordering.TheVariants.{Less, Equal, Greater}
 use Rattle.cat_codes.specs.Code.{ascends}
 use Rattle.cat_ordered.specs.Maps.{IsMap, after_change, after_changes, kept, present, placed}
 use Rattle.cat_ordered.specs.Places.{place_of, below, above}
-use Rattle.cat_ordered.proofs.Order.{less_is, split3, head_tail, ascends_any, ascends_drop}
+use Rattle.cat_ordered.proofs.Order.{split3, head_tail, ascends_any, ascends_drop}
 use Rattle.cat_ordered.proofs.Found.{AtPlace, NotAtPlace, place_within, past_end}
 use Rattle.cat_ordered.proofs.Lists.{drop_at}
 use Rattle.cat_ordered.proofs.Splits.{AllUnder, past_all}
@@ -16,16 +16,6 @@ use Rattle.cat_ordered.proofs.Splits.{AllUnder, past_all}
 -- ---- what a change leaves of its key
 
 module _ {K V : Type 0} where
-  pub keeps_none : (key : K) (value : Option V) (change : K × Option V) → (key, value) ≡ change → value ≡ None → None ≡ kept change
-  keeps_none key None change e none = subst (λ (c : K × Option V). None ≡ kept c) e refl
-  keeps_none key (Some value) change e none = absurd cc
-
-  pub keeps_one : (key : K) (value : Option V) (change : K × Option V) (x : V) → (key, value) ≡ change → value ≡ Some x → Some (key, x) ≡ kept change
-  keeps_one key None change x e some = absurd cc
-  keeps_one key (Some value) change x e some =
-      let same : value ≡ x = cc in
-      subst (λ (c : K × Option V). Some (key, x) ≡ kept c) e (ap (λ (y : V). Some (key, y)) (sym same))
-
   left_none : (change : K × Option V) → kept change ≡ None → present change ≡ []
   left_none (key, None) e = refl
   left_none (key, Some value) e = absurd cc

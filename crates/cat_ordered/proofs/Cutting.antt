@@ -8,7 +8,7 @@ use Rattle.cat_ordered.specs.Shared.{values}
 use Rattle.std.proofs.lemmas.List.Concat.{flat_map-append}
 use Rattle.std.specs.List.{flat_map}
 use Rattle.cat_ordered.specs.Pieces.{IsPiece, ArePieces, AreLarge, AreFine, Cuts, Makes, Joins}
-use Rattle.cat_ordered.proofs.Lists.{all_append, all_take, all_drop, take_drop, length_of_take, length_of_drop}
+use Rattle.cat_ordered.proofs.Lists.{all_append, all_take, all_drop}
 
 -- ---- parts of lists of pieces
 

@@ -1,14 +1,14 @@
 -- Look-ups in maps that are put together.
-use Rattle.std.proofs.Common.{◌≡◌, ℕ, ◌+◌, ◌<◌, ◌≤◌, List, [], ◌∷◌, ◌++◌, length, Option, Some, None, Bool, true, false, refl, sym, ap, ◌∙◌, if◌then◌else◌, arith}
+use Rattle.std.proofs.Common.{◌≡◌, ℕ, ◌+◌, List, [], ◌∷◌, ◌++◌, length, Option, Some, None, true, false, refl, ap, ◌∙◌, if◌then◌else◌, arith}
 use Rattle.std.specs.List.{AllByRecursion}
-use Rattle.std.specs.Ordering.{is_lt, is_eq, is_le, ordering_reverse}
+use Rattle.std.specs.Ordering.{is_eq, is_le, ordering_reverse}
 use Rattle.std.specs.Cmp.{IsTotalOrder}
 use Rattle.std.specs.declared.cmp.Ordering.{Ordering}
-use Rattle.std.specs.declared.cmp.Ordering.TheVariants.{Less, Equal, Greater}
-use Rattle.cat_codes.specs.Code.{follows, ascends}
+use Rattle.std.specs.declared.cmp.Ordering.TheVariants.{Less, Greater}
+use Rattle.cat_codes.specs.Code.{ascends}
 use Rattle.cat_ordered.specs.Maps.{IsMap, value_of, begins_by}
 use Rattle.cat_ordered.specs.Places.{step, place_of}
-use Rattle.cat_ordered.proofs.Order.{less_is, split3, head_tail, ascends_back, ascends_lower, at_most}
+use Rattle.cat_ordered.proofs.Order.{less_is, split3, head_tail, ascends_back, at_most}
 
 greater : (o : Ordering) → o ≡ Greater → is_le o ≡ false
 greater o e = rw e refl

@@ -1,11 +1,11 @@
 -- The order of keys, and lists of pairs that ascend by them.
 use Rattle.std.proofs.Common.{◌≡◌, ℕ, zero, suc, ◌<◌, List, [], ◌∷◌, ◌++◌, length, get_or, take, drop, Option, Some, None, Bool, true, false, ◌&&◌, refl, sym, ap, ◌∙◌, arith}
-use Rattle.std.specs.Ordering.{is_lt, is_eq, is_le, ordering_reverse}
+use Rattle.std.specs.Ordering.{is_lt, is_le, ordering_reverse}
 use Rattle.std.specs.Cmp.{IsTotalOrder}
 use Rattle.std.specs.declared.cmp.Ordering.{Ordering}
 use Rattle.std.specs.declared.cmp.Ordering.TheVariants.{Less, Equal, Greater}
 use Rattle.cat_codes.specs.Code.{follows, ascends}
-use Rattle.cat_ordered.specs.Maps.{IsMap, after_change, after_changes, present, placed}
+use Rattle.cat_ordered.specs.Maps.{IsMap, after_change, after_changes, placed}
 
 pub less_is : (o : Ordering) → is_lt o ≡ true → o ≡ Less
 less_is Less e = refl

@@ -11,10 +11,10 @@ use Rattle.std.proofs.lemmas.List.{append-nil, drop-map, take-map, map-append, t
 use Rattle.std.proofs.lemmas.List.Concat.{flat_map-append}
 use Rattle.cat_ordered.specs.Maps.{IsMap, value_of, begins_by}
 use Rattle.cat_ordered.specs.Places.{place_of}
-use Rattle.cat_ordered.specs.Pieces.{IsPiece, ArePieces, AreLarge, AreFine}
+use Rattle.cat_ordered.specs.Pieces.{IsPiece, AreFine}
 use Rattle.cat_ordered.specs.Shared.{values}
 use Rattle.cat_ordered.proofs.Cutting.{many_entries}
-use Rattle.cat_ordered.proofs.Costs.{summed, among_many, among_few, in_one}
+use Rattle.cat_ordered.proofs.Costs.{summed, among_many, in_one}
 use Rattle.cat_ordered.proofs.Found.{place_within}
 use Rattle.cat_ordered.proofs.Lists.{all_at, drop_at, take_at}
 use Rattle.cat_ordered.proofs.LookUps.{AllBelow, front_begins, value_between, place_between}
@@ -113,7 +113,8 @@ module _ {K V T Z : Type 0} (cmp : K → K → Ordering) (total : IsTotalOrder c
       ap (λ (m : List (K × V)). begins_by cmp m key) first
       ∙ begins_front cmp (entries (arc_value x)) (flat_map entries (drop (i + 1) (values list))) key (piece_at entries size least list i x fine lt e).some
 
-  front_there : (list : List (Arc T Z)) (i : ℕ) (key : K) → IsMap cmp (flat_map entries (values list))
+  -- all before the piece is below the key
+  pub front_there : (list : List (Arc T Z)) (i : ℕ) (key : K) → IsMap cmp (flat_map entries (values list))
       → (i ≡ 0) ⊎ (begins_by cmp (flat_map entries (drop i (values list))) key ≡ true) → AllBelow cmp total key (flat_map entries (take i (values list)))
   front_there list i key up (inl first) = rw first tt
   front_there list i key up (inr begins) = front_begins cmp total (flat_map entries (take i (values list))) (flat_map entries (drop i (values list))) key (rw (← halves entries (values list) i) up) begins

@@ -1,15 +1,14 @@
 -- Changes of a map that is made of parts.
-use Rattle.std.proofs.Common.{◌≡◌, ℕ, zero, suc, ◌+◌, ◌<◌, ◌≤◌, List, [], ◌∷◌, ◌++◌, length, get_or, take, drop, Option, Some, None, Bool, true, false, if◌then◌else◌, refl, sym, ap, ◌∙◌, arith, append_assoc}
+use Rattle.std.proofs.Common.{◌≡◌, suc, ◌+◌, ◌<◌, ◌≤◌, List, [], ◌∷◌, ◌++◌, length, get_or, take, drop, Option, Some, None, Bool, true, false, refl, sym, ap, subst, ◌∙◌, arith, append_assoc}
 use Rattle.std.proofs.lemmas.List.{append-nil}
 use Rattle.std.specs.List.{AllByRecursion}
 use Rattle.std.specs.Ordering.{is_le}
 use Rattle.std.specs.Cmp.{IsTotalOrder}
 use Rattle.std.specs.declared.cmp.Ordering.{Ordering}
-use Rattle.std.specs.declared.cmp.Ordering.TheVariants.{Less, Equal, Greater}
+use Rattle.std.specs.declared.cmp.Ordering.TheVariants.{Less}
 use Rattle.cat_codes.specs.Code.{ascends}
-use Rattle.cat_ordered.specs.Maps.{IsMap, after_change, after_changes, present, placed, begins_by, share_of}
+use Rattle.cat_ordered.specs.Maps.{IsMap, after_change, after_changes, present, begins_by, share_of}
 use Rattle.cat_ordered.proofs.Order.{less_is, split3, head_tail, ascends_any, ascends_lower, IsMap-after_change}
-use Rattle.cat_ordered.proofs.Lists.{drop_at}
 use Rattle.cat_ordered.proofs.LookUps.{AllBelow, front_begins}
 
 module _ {K V : Type 0} (cmp : K → K → Ordering) (total : IsTotalOrder cmp) where
@@ -40,6 +39,10 @@ module _ {K V : Type 0} (cmp : K → K → Ordering) (total : IsTotalOrder cmp) 
 
   past_from : (c : K × Option V) (cs : List (K × Option V)) (a b : List (K × V)) → AllBelow cmp total c.0 a → ascends cmp None (c ∷ cs) ≡ true → after_changes cmp (c ∷ cs) (a ++ b) ≡ a ++ after_changes cmp (c ∷ cs) b
   past_from c cs a b below up = ap (after_changes cmp cs) (past_one c a b below) ∙ past_all cs c.0 a (after_change cmp c b) (under_below c.0 a below) (head_tail cmp total None c cs up).1
+
+  pub past_first : (cs : List (K × Option V)) (c : K × Option V) (a b : List (K × V)) → 0 < length cs → c ≡ get_or cs 0 c → AllBelow cmp total c.0 a → ascends cmp None cs ≡ true → after_changes cmp cs (a ++ b) ≡ a ++ after_changes cmp cs b
+  past_first [] c a b some e below up = absurd (omega arith)
+  past_first (d ∷ cs) c a b some e below up = past_from d cs a b (subst (λ (x : K × Option V). AllBelow cmp total x.0 a) e below) up
 
   -- a change leaves what begins above it
   before : (c : K × Option V) (a b : List (K × V)) → begins_by cmp b c.0 ≡ false → after_change cmp c (a ++ b) ≡ after_change cmp c a ++ b

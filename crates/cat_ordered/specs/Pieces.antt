@@ -64,6 +64,7 @@ module _ {E T : Type 0} (entries : T → List E) (size : T → ℕ) (least : ℕ
     pub longer : length old ≤ length list
     pub long : length more ≤ length list
     pub few : copied ≤ 128
+    pub level : AreLarge more → copied + debt list ≤ debt old
     pub spent : copied + debt list ≤ debt old + 128
 
   -- the list is what a longer one of so many parts was cut into

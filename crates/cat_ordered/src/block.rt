@@ -167,7 +167,7 @@ fn changed_pairs<K: Ord + Drop, V: Drop>(
     requires ascend { IsTrue (ascends K.cmp None changes.now) }
     ensures { IfOk result (λ v. v.items ≡ after_changes K.cmp changes.now pairs.now) }
 {
-    let mut out = Vec::new(alloc);
+    let mut out = Vec::with_capacity(alloc, pairs.len().saturating_add(changes.len()))?;
     let mut left = pairs;
     for change in changes {
         left = take_up(&mut out, left, change)?;
@@ -189,6 +189,7 @@ fn blocks<K: Drop, V: Drop>(
     let mut rest = pairs;
     while rest.len() > MOST {
         let others = rest.split_off(MOST / 2)?;
+        rest.shrink_to_fit();
         out.push(Arc::new(alloc, Block { pairs: rest })?)?;
         rest = others;
     }
@@ -207,7 +208,7 @@ fn joined_pairs<K: Drop, V: Drop>(
 ) -> Result<Vec<Pair<K, V>>, AllocError>
     ensures { IfOk result (λ v. v.items ≡ first.now ++ next.now) }
 {
-    let mut pairs = Vec::new(alloc);
+    let mut pairs = Vec::with_capacity(alloc, first.len().saturating_add(next.len()))?;
     copy_into(&mut pairs, first)?;
     copy_into(&mut pairs, next)?;
     Ok(pairs)

@@ -6,22 +6,27 @@ ghost use Rattle.cat_ordered.specs.Maps.{kept};
 use crate::pair::Pair;
 use std::alloc::{AllocError, Global};
 use std::marker::Model;
-use std::sync::Arc;
+
+/// The pair that stands for its key from then on, or the key that goes.
+#[derive(Drop)]
+pub(crate) enum Left<K, V> {
+    Put(Pair<K, V>),
+    Gone(K),
+}
 
 /// A key and its new value, or none where the key goes.
 #[derive(Drop)]
 pub struct Change<K, V> {
-    key: Arc<K>,
-    value: Option<Arc<V>>,
+    left: Left<K, V>,
 }
 
 impl<K, V> Model for Change<K, V> {
-    ghost use Rattle.std.specs.Prelude.{Option, option_map};
-    ghost use Rattle.std.specs.Arc.{arc_value};
+    ghost use Rattle.std.specs.Prelude.{Option};
+    ghost use Rattle.cat_ordered.specs.Changes.{said};
 
     ghost Value = { K × Option V };
 
-    ghost view = { λ c. (arc_value c.key, option_map arc_value c.value) };
+    ghost view = { λ c. said c.left };
 }
 
 impl<K: Drop, V: Drop> Change<K, V> {
@@ -29,30 +34,30 @@ impl<K: Drop, V: Drop> Change<K, V> {
     pub fn put(alloc: Global, key: K, value: V) -> Result<Change<K, V>, AllocError>
         ensures { IfOk result (λ change. change ≡ (key, Some value)) }
     {
+        let pair = Pair::new(alloc, key, value)?;
         Ok(Change {
-            key: Arc::new(alloc, key)?,
-            value: Some(Arc::new(alloc, value)?),
+            left: Left::Put(pair),
         })
     }
 
-    /// The change that takes a key away, if it is there.
+    /// The change that takes a key away, if it is there. It takes no memory.
     pub fn remove(alloc: Global, key: K) -> Result<Change<K, V>, AllocError>
         ensures { IfOk result (λ change. change ≡ (key, None)) }
     {
+        let _ = alloc;
         Ok(Change {
-            key: Arc::new(alloc, key)?,
-            value: None,
+            left: Left::Gone(key),
         })
     }
 
-    /// The pair that the change leaves, which shares its key and value.
+    /// The pair that the change leaves, with one owner more.
     pub(crate) fn pair(&self) -> Result<Option<Pair<K, V>>, AllocError>
         ensures { IfOk result (λ pair. pair ≡ kept self.now) }
     {
-        match &self.value {
-            None => Ok(None),
-            Some(value) => {
-                let pair = Pair::sharing(&self.key, value)?;
+        match &self.left {
+            Left::Gone(_) => Ok(None),
+            Left::Put(pair) => {
+                let pair = pair.share()?;
                 Ok(Some(pair))
             }
         }
@@ -64,6 +69,9 @@ impl<K, V> Change<K, V> {
     pub fn key(&self) -> &K
         ensures { result.now ≡ self.now.0 }
     {
-        &*self.key
+        match &self.left {
+            Left::Put(pair) => pair.key(),
+            Left::Gone(key) => key,
+        }
     }
 }

@@ -10,7 +10,7 @@ ghost use Rattle.cat_ordered.specs.Shared.{values};
 
 use crate::change::Change;
 use crate::piece::{LEAST, Made, Piece};
-use crate::pieces::begins_by;
+use crate::pieces::{begins_by, front_of, seat};
 use std::alloc::{AllocError, Global};
 use std::sync::Arc;
 
@@ -96,7 +96,8 @@ fn append<K: Ord, V, P: Piece<K, V>>(
     }
 }
 
-/// Adds pieces, joined where they are small, and answers how many pairs were copied.
+/// Adds pieces, the first one joined where it or the last one is small, and answers how many pairs
+/// were copied.
 pub(crate) fn append_all<K: Ord, V, P: Piece<K, V>>(
     alloc: Global,
     out: &mut Vec<Arc<P>>,
@@ -108,11 +109,11 @@ pub(crate) fn append_all<K: Ord, V, P: Piece<K, V>>(
         (λ copied. AppendsAll P.entries P.size P.least (values out.old.items) (values pieces.now)
         (values out.new.items) copied) }
 {
-    let mut copied = 0u64;
-    for piece in pieces {
-        let copies = append::<K, V, P>(alloc, out, piece)?;
-        copied += copies;
+    if pieces.is_empty() {
+        return Ok(0);
     }
+    let copied = append::<K, V, P>(alloc, out, &pieces[0])?;
+    share_all(out, rest_of(pieces, 1))?;
     Ok(copied)
 }
 
@@ -158,8 +159,7 @@ fn other_changes<K, V>(changes: &[Change<K, V>], n: usize) -> &[Change<K, V>]
     &changes[n..]
 }
 
-/// Adds what changes make of a piece, or the piece itself where there are none, and answers how
-/// many pairs were copied.
+/// Adds what changes make of a piece, and answers how many pairs were copied.
 fn add<K: Ord, V, P: Piece<K, V>>(
     alloc: Global,
     out: &mut Vec<Arc<P>>,
@@ -171,21 +171,17 @@ fn add<K: Ord, V, P: Piece<K, V>>(
         P.least }
     requires map { IsMap K.cmp (P.entries (arc_value piece.now)) }
     requires ascend { IsTrue (ascends K.cmp None changes.now) }
+    requires some { 0 < length changes.now }
     ensures made { OnOk result
         (Makes P.entries P.size P.least
         (flat_map P.entries (values out.old.items)
         ++ after_changes K.cmp changes.now (P.entries (arc_value piece.now)))
         (values out.new.items)) }
     ensures spent { IfOk result
-        (λ copied. (0 < length changes.now) ⊎ (16 ≤ P.size (arc_value piece.now))
-        → copied + debt P.entries P.size P.least (values out.new.items)
+        (λ copied. copied + debt P.entries P.size P.least (values out.new.items)
         ≤ debt P.entries P.size P.least (values out.old.items)
         + (P.rate + 128) * length changes.now) }
 {
-    if changes.is_empty() {
-        let copied = append::<K, V, P>(alloc, out, piece)?;
-        return Ok(copied);
-    }
     let made = piece.changed(alloc, changes)?;
     let appended = append_all::<K, V, P>(alloc, out, made.pieces.as_slice())?;
     Ok(made.copied.saturating_add(appended))
@@ -211,19 +207,26 @@ pub(crate) fn changed<K: Ord, V, P: Piece<K, V>>(
         let made = P::empty(alloc).changed(alloc, changes)?;
         return Ok(made);
     }
-    let mut out = Vec::new(alloc);
+    let mut out = Vec::with_capacity(alloc, pieces.len().saturating_add(1))?;
     let mut copied = 0u64;
+    let mut rest = pieces;
     let mut left = changes;
-    for (i, piece) in pieces.iter().enumerate() {
-        let others = rest_of(pieces, i + 1);
-        let n = share(left, others);
+    while !left.is_empty() {
+        let (at, _) = seat(rest, left[0].key());
+        let front = front_of(rest, at);
+        let others = rest_of(rest, at + 1);
+        let later = other_changes(left, 1);
+        let n = 1 + share(later, others);
         let first = first_changes(left, n);
-        let copies = add(alloc, &mut out, piece, first)?;
-        copied = copied.saturating_add(copies);
+        let joined = append_all::<K, V, P>(alloc, &mut out, front)?;
+        let copies = add(alloc, &mut out, &rest[at], first)?;
+        copied = copied.saturating_add(joined).saturating_add(copies);
+        rest = others;
         left = other_changes(left, n);
     }
+    let last = append_all::<K, V, P>(alloc, &mut out, rest)?;
     Ok(Made {
         pieces: out,
-        copied,
+        copied: copied.saturating_add(last),
     })
 }

@@ -45,7 +45,7 @@ impl<K: Ord + Drop, V: Drop> Clone for OrderedMap<K, V> {
     /// The same map, which shares all pairs. It takes memory for one list of owners, unless the map
     /// is empty: one owner for each 4,096 to 262,144 pairs.
     fn clone(&self) -> Result<OrderedMap<K, V>, AllocError> {
-        let mut root = Vec::new(*self.root.allocator());
+        let mut root = Vec::with_capacity(*self.root.allocator(), self.root.len())?;
         growing::share_all(&mut root, self.root.as_slice())?;
         Ok(OrderedMap {
             root,

@@ -1,17 +1,15 @@
 //! A key and its value.
 
 ghost use Rattle.std.specs.Prelude.{◌≡◌, IfOk};
-ghost use Rattle.std.specs.Arc.{arc_value};
 
-use std::alloc::AllocError;
+use std::alloc::{AllocError, Global};
 use std::marker::Model;
 use std::sync::Arc;
 
-/// A key and its value, which copies share.
+/// A key and its value, which copies share: one count of owners for both.
 #[derive(Drop)]
 pub struct Pair<K, V> {
-    key: Arc<K>,
-    value: Arc<V>,
+    both: Arc<(K, V)>,
 }
 
 impl<K, V> Model for Pair<K, V> {
@@ -19,7 +17,7 @@ impl<K, V> Model for Pair<K, V> {
 
     ghost Value = { K × V };
 
-    ghost view = { λ p. (arc_value p.key, arc_value p.value) };
+    ghost view = { λ p. arc_value p.both };
 }
 
 impl<K, V> Pair<K, V> {
@@ -27,35 +25,35 @@ impl<K, V> Pair<K, V> {
     pub fn key(&self) -> &K
         ensures { result.now ≡ self.now.0 }
     {
-        &*self.key
+        let both = &*self.both;
+        &both.0
     }
 
     /// The value.
     pub fn value(&self) -> &V
         ensures { result.now ≡ self.now.1 }
     {
-        &*self.value
+        let both = &*self.both;
+        &both.1
     }
 }
 
 impl<K: Drop, V: Drop> Pair<K, V> {
-    /// The pair of a key and a value, with one owner more of each; refused only where a count of
-    /// owners is full.
-    pub(crate) fn sharing(key: &Arc<K>, value: &Arc<V>) -> Result<Pair<K, V>, AllocError>
-        ensures { IfOk result (λ pair. pair ≡ (arc_value key.now, arc_value value.now)) }
+    /// The pair of a key and a value.
+    pub(crate) fn new(alloc: Global, key: K, value: V) -> Result<Pair<K, V>, AllocError>
+        ensures { IfOk result (λ pair. pair ≡ (key, value)) }
     {
         Ok(Pair {
-            key: Arc::try_clone(key)?,
-            value: Arc::try_clone(value)?,
+            both: Arc::new(alloc, (key, value))?,
         })
     }
 
-    /// The same pair, with one owner more of its key and value; refused only where a count of
-    /// owners is full.
+    /// The same pair, with one owner more; refused only where the count of owners is full.
     pub(crate) fn share(&self) -> Result<Pair<K, V>, AllocError>
         ensures { IfOk result (λ pair. pair ≡ self.now) }
     {
-        let pair = Pair::sharing(&self.key, &self.value)?;
-        Ok(pair)
+        Ok(Pair {
+            both: Arc::try_clone(&self.both)?,
+        })
     }
 }

@@ -25,7 +25,10 @@ pub(crate) fn begins_by<K: Ord, V, P: Piece<K, V>, Q: Seek<K>>(piece: &Arc<P>, k
 
 /// The last piece whose first key isn't above a key, or the first one, and how many keys it was
 /// compared with.
-fn seat<K: Ord, V, P: Piece<K, V>, Q: Seek<K>>(pieces: &[Arc<P>], key: &Q) -> (usize, u32)
+pub(crate) fn seat<K: Ord, V, P: Piece<K, V>, Q: Seek<K>>(
+    pieces: &[Arc<P>],
+    key: &Q,
+) -> (usize, u32)
     requires some { 0 < length pieces.now }
     requires fine { AreFine P.entries P.size P.least (values pieces.now) }
     ensures within { result.0 < length pieces.now }
@@ -100,7 +103,7 @@ pub(crate) fn total<K: Ord, V, P: Piece<K, V>>(pieces: &[Arc<P>]) -> Option<usiz
 }
 
 /// The first pieces.
-fn front_of<P>(pieces: &[Arc<P>], n: usize) -> &[Arc<P>]
+pub(crate) fn front_of<P>(pieces: &[Arc<P>], n: usize) -> &[Arc<P>]
     requires { n ≤ length pieces.now }
     ensures { result.now ≡ take n pieces.now }
 {

@@ -72,6 +72,7 @@ fn runs<K: Ord, V, P: Piece<K, V>>(
     let mut rest = pieces;
     while rest.len() > MOST {
         let others = rest.split_off(MOST / 2)?;
+        rest.shrink_to_fit();
         let run = run_of(rest)?;
         out.push(Arc::new(alloc, run)?)?;
         rest = others;
@@ -138,7 +139,8 @@ impl<K: Ord, V, P: Piece<K, V>> Piece<K, V> for Run<K, V, P> {
     }
 
     fn joined(&self, alloc: Global, next: &Run<K, V, P>) -> Result<Made<Run<K, V, P>>, AllocError> {
-        let mut out = Vec::new(alloc);
+        let room = self.pieces.len().saturating_add(next.pieces.len());
+        let mut out = Vec::with_capacity(alloc, room)?;
         growing::share_all(&mut out, self.pieces.as_slice())?;
         let copied = growing::append_all::<K, V, P>(alloc, &mut out, next.pieces.as_slice())?;
         Ok(Made {

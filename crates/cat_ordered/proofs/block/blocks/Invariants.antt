@@ -1,4 +1,4 @@
-use Rattle.std.proofs.Common.{◌≡◌, ◌++◌, length}
+use Rattle.std.proofs.Common.{length}
 use Rattle.cat_ordered.specs.Shared.{values}
 use Rattle.cat_ordered.proofs.Cutting.{Cut}
 use Rattle.cat_ordered.proofs.block.blocks.Given as goal

@@ -1,4 +1,4 @@
-use Rattle.std.proofs.Common.{◌∙◌, ◌≤◌, ◌+◌, ◌-◌, ◌/◌, length, sym, arith}
+use Rattle.std.proofs.Common.{◌∙◌, ◌+◌, ◌-◌, ◌/◌, length, sym, arith}
 use Rattle.cat_ordered.proofs.Costs.{search_step}
 use Rattle.cat_ordered.proofs.Found.{before_place, from_place, place_within}
 use Rattle.cat_ordered.proofs.block.place.Goals as goal

@@ -1,4 +1,4 @@
-use Rattle.std.proofs.Common.{◌≡◌, inl, inr, refl, sym, ◌∙◌, ◌+◌, ◌-◌, ◌/◌, length, ap, arith}
+use Rattle.std.proofs.Common.{◌≡◌, inl, inr, refl, sym, ◌∙◌, ◌+◌, ◌-◌, ◌/◌, length, arith}
 use Rattle.cat_ordered.proofs.Costs.{search_step}
 use Rattle.cat_ordered.proofs.Seats.{piece_at, begins_at, none_begins}
 use Rattle.cat_ordered.proofs.pieces.seat.Goals as goal

@@ -1,4 +1,4 @@
-use Rattle.std.proofs.Common.{◌≡◌, ◌+◌, ◌*◌, ◌<◌, ◌≤◌, ◌++◌, ◌∙◌, length, refl, sym, ap, arith}
+use Rattle.std.proofs.Common.{◌≡◌, ◌+◌, ◌<◌, ◌≤◌, ◌++◌, ◌∙◌, length, refl, sym, ap, arith}
 use Rattle.std.proofs.lemmas.Bool.{eqb-true, eqb-false}
 use Rattle.std.specs.List.{flat_map}
 use Rattle.cat_ordered.specs.Shared.{values}
@@ -12,26 +12,26 @@ pub loop-rest-init : goal.loop-rest-init
 loop-rest-init g c = record { fine = c.requires; cut = rw c.new-out.ensures.items (cut_start _ _ _ _ _) }
 
 pub run_of-requires : goal.run_of-requires
-run_of-requires g c = fine_front g.P.Piece.entries g.P.Piece.size g.P.Piece.least c.loop-rest.rest.items _ 32 c.in_ok-others.ensures.items c.loop-rest.invariant.fine
+run_of-requires g c = fine_front g.P.Piece.entries g.P.Piece.size g.P.Piece.least c.loop-rest.rest.items _ 32 (c.shrink_to_fit.ensures.items ∙ c.in_ok-others.ensures.items) c.loop-rest.invariant.fine
 
 pub loop-rest-preserved : goal.loop-rest-preserved
 loop-rest-preserved g c =
     let rest = c.loop-rest.rest.items in
     let lt : 64 < length rest = omega arith in
-    let front = c.in_ok-others.ensures.items in
+    let front = c.shrink_to_fit.ensures.items ∙ c.in_ok-others.ensures.items in
     let back = c.in_ok-others.ensures.tail in
-    let size : length c.split_off.new.self.items ≡ 32 = ap length front ∙ length_of_take 32 rest (omega arith) in
+    let size : length c.shrink_to_fit.new.self.items ≡ 32 = ap length front ∙ length_of_take 32 rest (omega arith) in
     let left : length c.in_ok-others.others.items + 32 ≡ length rest = rw back (length_of_drop 32 rest (omega arith)) in
-    let parts : rest ≡ c.split_off.new.self.items ++ c.in_ok-others.others.items = rw (front, back) (take_drop 32 rest) in
-    let fine = fine_front g.P.Piece.entries g.P.Piece.size g.P.Piece.least rest c.split_off.new.self.items 32 front c.loop-rest.invariant.fine in
+    let parts : rest ≡ c.shrink_to_fit.new.self.items ++ c.in_ok-others.others.items = rw (front, back) (take_drop 32 rest) in
+    let fine = fine_front g.P.Piece.entries g.P.Piece.size g.P.Piece.least rest c.shrink_to_fit.new.self.items 32 front c.loop-rest.invariant.fine in
     record {
       fine = fine_rest g.P.Piece.entries g.P.Piece.size g.P.Piece.least rest c.in_ok-others.others.items 32 back c.loop-rest.invariant.fine;
       cut =
           cut_off _ _ _ (flat_map g.P.Piece.entries (values c.args.pieces.items)) (length c.args.pieces.items) c.loop-rest.out.items c.push.new.self.items c.in_ok-new.field-0
-          (record { entries = flat_map g.P.Piece.entries (values c.split_off.new.self.items); size = length c.split_off.new.self.items })
+          (record { entries = flat_map g.P.Piece.entries (values c.shrink_to_fit.new.self.items); size = length c.shrink_to_fit.new.self.items })
           (flat_map g.P.Piece.entries (values rest)) (flat_map g.P.Piece.entries (values c.in_ok-others.others.items)) (length rest) (length c.in_ok-others.others.items)
-          c.loop-rest.invariant.cut c.in_ok-push.ensures.items (c.in_ok-new.ensures.ok ∙ c.in_ok-run.ensures) (value_halves g.P.Piece.entries g.P.Piece.size g.P.Piece.least rest c.split_off.new.self.items c.in_ok-others.others.items parts)
-          (run_of_pieces g.P.Piece.entries g.P.Piece.size g.P.Piece.least c.split_off.new.self.items fine (omega arith) (omega arith)) size lt left;
+          c.loop-rest.invariant.cut c.in_ok-push.ensures.items (c.in_ok-new.ensures.ok ∙ c.in_ok-run.ensures) (value_halves g.P.Piece.entries g.P.Piece.size g.P.Piece.least rest c.shrink_to_fit.new.self.items c.in_ok-others.others.items parts)
+          (run_of_pieces g.P.Piece.entries g.P.Piece.size g.P.Piece.least c.shrink_to_fit.new.self.items fine (omega arith) (omega arith)) size lt left;
     }
 
 pub returns-then-is_empty : goal.returns-then-is_empty

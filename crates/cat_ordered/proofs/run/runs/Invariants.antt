@@ -1,4 +1,4 @@
-use Rattle.std.proofs.Common.{◌≡◌, ◌++◌, ◌*◌, length}
+use Rattle.std.proofs.Common.{◌*◌, length}
 use Rattle.std.specs.List.{flat_map}
 use Rattle.cat_ordered.specs.Pieces.{AreFine}
 use Rattle.cat_ordered.specs.Shared.{values}

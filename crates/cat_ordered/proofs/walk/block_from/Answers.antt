@@ -1,4 +1,4 @@
-use Rattle.std.proofs.Common.{◌+◌, ◌≤◌, length, arith}
+use Rattle.std.proofs.Common.{arith}
 use Rattle.cat_ordered.proofs.Steps.{whole_from, fits_from, walk_from}
 use Rattle.cat_ordered.proofs.walk.block_from.Goals as goal
 

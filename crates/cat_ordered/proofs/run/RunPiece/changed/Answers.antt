@@ -1,8 +1,6 @@
 use Rattle.std.proofs.Common.{ap, ◌∙◌}
-use Rattle.std.specs.List.{flat_map}
 use Rattle.cat_ordered.specs.Maps.{after_changes}
 use Rattle.cat_ordered.specs.Pieces.{Shape}
-use Rattle.cat_ordered.specs.Shared.{values}
 use Rattle.cat_ordered.proofs.Cutting.{cuts_make}
 use Rattle.cat_ordered.proofs.Runs.{map_inside}
 use Rattle.cat_ordered.proofs.run.RunPiece.changed.Goals as goal
