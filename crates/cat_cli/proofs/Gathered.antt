@@ -1,12 +1,11 @@
 -- A collection on the only pass of a desk: from its answer to the store, and to the journal that the store was opened from.
-use Rattle.std.proofs.Common.{◌≡◌, ◌≢◌, ◌⊎◌, ℕ, ◌<◌, List, [], ◌∷◌, ◌++◌, reverse, length, Option, Some, None, IfSome, Bool, true, false, Result, Ok, Err, ◌+◌, refl, sym, ◌∙◌, ap, subst, inl, inr, ⊎_elim, arith}
+use Rattle.std.proofs.Common.{◌≡◌, ◌≢◌, ◌⊎◌, ℕ, ◌<◌, List, [], ◌∷◌, ◌++◌, reverse, length, Option, Some, None, IfSome, Bool, true, false, Result, Ok, Err, ◌+◌, refl, sym, ◌∙◌, ap, subst, inl, inr}
 use Rattle.std.specs.Prelude.{nat_lt, nat_le}
 use Rattle.std.specs.Option.{option_map}
 use Rattle.std.proofs.lemmas.List.{reverse-append, reverse-reverse}
 use Rattle.sha2.specs.Sha256.{sha256}
 use Rattle.cat_checks.specs.Histories.{IsLegalFrom}
 use Rattle.cat_core.specs.Stored.{Stored, opened_of}
-use Rattle.cat_io.specs.Causes.{Rose}
 use Rattle.cat_io.specs.Clocks.{Ticks}
 use Rattle.cat_io.specs.Places.{stood, taken}
 use Rattle.cat_names.specs.declared.hash.Hash.{Hash}
@@ -24,7 +23,7 @@ use Rattle.cat_model.specs.declared.sweep.Sweep.{Sweep}
 use Rattle.cat_model.specs.Book.{Book, first_book}
 use Rattle.cat_model.specs.Calls.{Called}
 use Rattle.cat_model.specs.Drafts.{no_names}
-use Rattle.cat_model.specs.Mark.{FailedAppend, Mark}
+use Rattle.cat_model.specs.Mark.{FailedAppend}
 use Rattle.cat_model.specs.Moves.{needs_log}
 use Rattle.cat_model.specs.Past.{past_of, swept_on}
 use Rattle.cat_model.specs.Refusing.{◌>>=◌, Tested, needs, needs_at_most}
@@ -46,7 +45,7 @@ use Rattle.cat_cli.specs.Opening.{HoldsLog, IsStored}
 use Rattle.cat_cli.specs.Lines.{disk_fault_line, limit_line, no_memory_line, swept_line}
 use Rattle.cat_cli.specs.Runs.{TellsKnown, spares_disks}
 use Rattle.cat_cli.specs.Serving.{IsWritten, Sunk, opened_by_program}
-use Rattle.cat_cli.specs.Surviving.{Images, IsBegun, KeepsThrough, LeavesLog, StandsAs, Survives, images_at, images_of}
+use Rattle.cat_cli.specs.Surviving.{Images, IsBegun, KeepsThrough, StandsAs, Survives, images_at, images_of}
 use Rattle.cat_cli.proofs.HostedStores.{limits_of}
 use Rattle.cat_cli.proofs.Opened.{begins_at, left_at}
 use Rattle.cat_cli.proofs.Ran.{log_of}

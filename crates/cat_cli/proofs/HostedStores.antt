@@ -30,7 +30,6 @@ use Rattle.cat_cli.specs.Hosting.{Comes, CountStays, Heard, Hosts, IsAsBefore, I
 use Rattle.cat_cli.specs.HostingLaws.{all_begin}
 use Rattle.cat_cli.specs.Journals.{Begins, Holds}
 use Rattle.cat_cli.specs.Opening.{HoldsLog, IsStored}
-use Rattle.cat_cli.specs.Runs.{CountedBy}
 use Rattle.cat_cli.specs.Serving.{Hosted, OpenedOnly, flying_at}
 use Rattle.cat_cli.specs.Surviving.{IsBegun, KeepsThrough, LeavesLog, images_of}
 use Rattle.cat_cli.proofs.Counted.{opens}

@@ -1,7 +1,6 @@
 -- What a run of `serve` says, once the journal's disk is back at its path.
 use Rattle.std.proofs.Common.{◌≡◌, ◌≢◌, ℕ, ◌<◌, ◌≤◌, List, ◌++◌, Option, Some, None, IfSome, Bool, true, false, refl, sym, ◌∙◌, ap, subst, inl, inr, arith}
 use Rattle.std.specs.Prelude.{◌⊎◌}
-use Rattle.std.specs.Option.{option_map}
 use Rattle.cat_desk.specs.Pass.{mark_of}
 use Rattle.cat_io.specs.Places.{stood, taken}
 use Rattle.cat_model.specs.Mark.{FailedAppend}
@@ -14,13 +13,13 @@ use Rattle.cat_cli.specs.declared.status.Status.{Status}
 use Rattle.cat_cli.specs.declared.status.Status.TheVariants as statuses
 use Rattle.cat_cli.specs.declared.unopened.Unopened.{Unopened}
 use Rattle.cat_cli.specs.declared.unopened.Unopened.TheVariants as whys
-use Rattle.cat_cli.specs.Hosting.{Comes, CountStays, Heard, Service}
-use Rattle.cat_cli.specs.Journals.{Holds, StandsFor, TellsAs, told_at}
+use Rattle.cat_cli.specs.Hosting.{Comes, Heard, Service}
+use Rattle.cat_cli.specs.Journals.{Holds, StandsFor, told_at}
 use Rattle.cat_cli.specs.Opening.{EndsFor, IsReason, RefusedKnown}
 use Rattle.cat_cli.specs.Lines.{no_memory_line}
 use Rattle.cat_cli.specs.Runs.{CountedBy, TellsKnown, spares_disks, spares_listener}
 use Rattle.cat_cli.specs.Serving.{Ended, Hosted, HostedWell, IsToldOf, OpenedOnly, RefusedFor, RefusesKnown, ServesKnown, Sunk, flying_at, status_after}
-use Rattle.cat_cli.specs.Surviving.{Images, Spared, StandsAs, Survives, images_at, images_of}
+use Rattle.cat_cli.specs.Surviving.{Spared, StandsAs, Survives, images_at, images_of}
 use Rattle.cat_cli.proofs.Counted.{opens_there}
 use Rattle.cat_cli.proofs.HostedStores.{comes_on}
 use Rattle.cat_cli.proofs.Opened.{EndsAtFault, begins_at, left_at, no_fault, reason_at, stands_back, stands_untouched}

@@ -1,7 +1,6 @@
 -- From what is watched of a keeper to what a crash leaves of the journal of a run.
 use Rattle.std.proofs.Common.{◌≡◌, ◌⊎◌, ℕ, suc, ◌+◌, ◌-◌, ◌≤◌, List, [], ◌∷◌, ◌++◌, length, take, Option, Some, None, Result, Ok, Err, refl, sym, ◌∙◌, ap, subst, inl, inr, ⊎_elim, arith, append_assoc, length-append}
 use Rattle.std.specs.Prelude.{◌↔◌, IfSome, ⊤}
-use Rattle.std.specs.Option.{option_map}
 use Rattle.std.proofs.lemmas.List.{append-nil, take_all}
 use Rattle.cat_io.specs.Crashes.{Only, Told}
 use Rattle.cat_io.specs.Places.{IsHanded, stood, taken}

@@ -1,6 +1,5 @@
 -- Where an append failed, a request of its caller was told so.
 use Rattle.std.proofs.Common.{◌≡◌, ℕ, ◌+◌, List, [], ◌∷◌, ◌++◌, length, Option, Some, None, Bool, Result, Ok, Err, refl, sym, ◌∙◌, ap, subst, inl, inr}
-use Rattle.std.specs.Prelude.{◌⊎◌}
 use Rattle.cat_collect.specs.Answers.{Answers as CollectionAnswers, Causes as CollectionCauses}
 use Rattle.cat_io.specs.Causes.{Rose}
 use Rattle.cat_desk.specs.Log.{IsAmong}

@@ -1,8 +1,8 @@
 -- What the requests of each worker made of a log, and which of them was told of the append that failed.
-use Rattle.std.specs.Prelude.{ℕ, ◌+◌, ◌≡◌, ◌⊎◌, Bool, List, [], ◌∷◌, ◌++◌, length, map, Option, Some, None, Result, Err}
+use Rattle.std.specs.Prelude.{ℕ, ◌+◌, ◌≡◌, ◌⊎◌, Bool, List, [], ◌∷◌, ◌++◌, map, Option, Some, None, Err}
 use Rattle.cat_io.specs.Causes.{Rose}
 use Rattle.cat_desk.specs.Log.{IsAmong}
-use Rattle.cat_desk.specs.Pass.{DeskId, mark_of, number_of}
+use Rattle.cat_desk.specs.Pass.{DeskId, mark_of}
 use Rattle.cat_desk.specs.declared.pass.Pass.{Pass}
 use Rattle.cat_model.specs.declared.log_entry.LogEntry.{LogEntry}
 use Rattle.cat_model.specs.declared.refusal.Refusal.TheVariants as refusals

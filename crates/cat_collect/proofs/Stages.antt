@@ -1,5 +1,5 @@
 -- What the opening and a round of a collection come to.
-use Rattle.std.proofs.Common.{◌≡◌, ◌≤◌, ℕ, List, [], length, true, Err, sym, subst, ◌∙◌, arith}
+use Rattle.std.proofs.Common.{◌≡◌, ◌≤◌, ℕ, [], length, true, Err, sym, subst, ◌∙◌, arith}
 use Rattle.cat_checks.specs.Histories.{IsLegalFrom}
 use Rattle.cat_core.specs.declared.sweeping.Sweep.{Sweep}
 use Rattle.cat_desk.specs.Pass.{DeskId, Keeps, known, left_by, seen}
@@ -12,7 +12,6 @@ use Rattle.cat_model.specs.declared.cutoff.Resolved.{Resolved}
 use Rattle.cat_model.specs.declared.refusal.Refused.{Refused}
 use Rattle.cat_model.specs.Drafts.{nothing_open}
 use Rattle.cat_model.specs.State.{State}
-use Rattle.cat_names.specs.declared.hash.Hash.{Hash}
 use Rattle.cat_collect.specs.Turns.{Comes, DrainsIn, DropsIn, Going, Holds, IsOpenIn, LeavesIn, OpensSweep, is_nothing, out_of_memory}
 use Rattle.cat_collect.proofs.Endings.{drops}
 use Rattle.cat_collect.proofs.Goings.{begins, begins_held, begins_open, drained_goes, nothing_added, now_marked, now_open, still_goes, still_open, walked_view}

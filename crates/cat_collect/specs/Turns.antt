@@ -1,5 +1,5 @@
 -- What the turns of a collection find and leave.
-use Rattle.std.specs.Prelude.{◌≡◌, ◌≤◌, ℕ, ◌+◌, List, [], length, Bool, ◌&&◌, nat_eq, Some, None, Result, Err}
+use Rattle.std.specs.Prelude.{◌≡◌, ◌≤◌, ℕ, ◌+◌, [], length, Bool, ◌&&◌, nat_eq, Some, None, Result, Err}
 use Rattle.sha2.specs.Sha256.{sha256}
 use Rattle.cat_names.specs.declared.hash.Hash.{Hash}
 use Rattle.cat_mark.specs.declared.roots.Roots.{Roots}

@@ -1,13 +1,12 @@
 -- What a sweep that was closed keeps is what it kept while it was open, and it may be logged.
-use Rattle.std.proofs.Common.{◌≡◌, ℕ, ◌+◌, ◌-◌, ◌≤◌, List, [], ◌∷◌, ◌++◌, length, filter, Option, Some, None, Result, Ok, Err, Bool, true, false, not, ◌||◌, ◌&&◌, cond, nat_le, nat_lt, fold, IsTrue, refl, sym, ap, ◌∙◌, subst, arith}
+use Rattle.std.proofs.Common.{◌≡◌, ◌-◌, ◌≤◌, List, [], ◌∷◌, length, Bool, true, false, not, ◌||◌, ◌&&◌, refl, sym, ap, ◌∙◌, subst, arith}
 use Rattle.std.specs.List.{flat_map, list_all, list_any}
 use Rattle.std.proofs.lemmas.Bool.{le-leb}
 use Rattle.sha2.specs.Sha256.{sha256}
 use Rattle.cat_checks.specs.Legal.{may_be_swept, most_patterns}
-use Rattle.cat_frames.specs.Sweeps.{hashes_ascend, resolved_is_logged, sweep_is_logged}
+use Rattle.cat_frames.specs.Sweeps.{resolved_is_logged, sweep_is_logged}
 use Rattle.cat_mark.specs.declared.roots.Roots.{Roots}
-use Rattle.cat_mark.specs.Marks.{is_marked, live_of}
-use Rattle.cat_model.specs.declared.content.Content.{Content}
+use Rattle.cat_mark.specs.Marks.{live_of}
 use Rattle.cat_model.specs.declared.sweep.Sweep.{Sweep}
 use Rattle.cat_model.specs.Base.{is_among}
 use Rattle.cat_model.specs.Book.{Book}
@@ -16,8 +15,8 @@ use Rattle.cat_model.specs.Cutoffs.{visible}
 use Rattle.cat_model.specs.Drafts.{Names, OpenSweep}
 use Rattle.cat_model.specs.Past.{past_of}
 use Rattle.cat_model.specs.Same.{same_hash}
-use Rattle.cat_model.specs.State.{State, is_known}
-use Rattle.cat_model.specs.Sweeps.{hash_set, kept_by_names, live_since, names_in, saved, since, sweep_of}
+use Rattle.cat_model.specs.State.{is_known}
+use Rattle.cat_model.specs.Sweeps.{hash_set, kept_by_names, live_since, saved, since, sweep_of}
 use Rattle.cat_names.specs.declared.hash.Hash.{Hash}
 use Rattle.cat_graph.specs.GraphLaws.{same_is, same_self}
 use Rattle.cat_core.specs.Stored.{AreKnown}

@@ -1,9 +1,8 @@
 -- Roots that say all that a sweep has to keep.
-use Rattle.std.proofs.Common.{◌≡◌, ℕ, zero, suc, ◌+◌, ◌-◌, ◌≤◌, List, [], ◌∷◌, ◌++◌, length, take, drop, reverse, map, Option, Some, None, Bool, true, false, ◌||◌, ◌&&◌, IsTrue, refl, sym, ap, ◌∙◌, subst, arith}
+use Rattle.std.proofs.Common.{◌≡◌, ℕ, zero, ◌+◌, ◌-◌, ◌≤◌, List, [], ◌∷◌, ◌++◌, length, take, drop, reverse, map, Bool, true, false, ◌||◌, refl, sym, ap, ◌∙◌, subst, arith}
 use Rattle.std.proofs.lemmas.List.{length-reverse, reverse-reverse, take-append-drop}
 use Rattle.std.specs.List.{flat_map, list_all, list_any}
 use Rattle.sha2.specs.Sha256.{sha256}
-use Rattle.cat_checks.specs.Histories.{IsLegalFrom, book_at}
 use Rattle.cat_graph.specs.Linked.{AreLinked}
 use Rattle.cat_mark.specs.declared.roots.Roots.{Roots}
 use Rattle.cat_mark.specs.Marks.{live_of}
@@ -12,11 +11,10 @@ use Rattle.cat_model.specs.declared.cutoff.Cutoff.{Cutoff}
 use Rattle.cat_model.specs.declared.cutoff.Cutoff.TheVariants as cutoffs
 use Rattle.cat_model.specs.declared.cutoff.Resolved.{Resolved}
 use Rattle.cat_model.specs.declared.log_entry.LogEntry.{LogEntry}
-use Rattle.cat_model.specs.declared.reference.Reference.{Reference}
 use Rattle.cat_model.specs.Base.{is_among}
 use Rattle.cat_model.specs.Book.{Book}
 use Rattle.cat_model.specs.Chain.{Commits, chain, entries, map_of}
-use Rattle.cat_model.specs.Cutoffs.{cutoff_for, kept, live, live_from, visible}
+use Rattle.cat_model.specs.Cutoffs.{kept, live, live_from, visible}
 use Rattle.cat_model.specs.Drafts.{Names, OpenSweep}
 use Rattle.cat_model.specs.Past.{course, past_of}
 use Rattle.cat_model.specs.State.{State}
@@ -27,7 +25,7 @@ use Rattle.cat_core.specs.Noting.{and_names}
 use Rattle.cat_core.specs.Stored.{is_headed}
 use Rattle.cat_core.specs.Sweeps.{Completes, alone, first_roots, given_by, head_at, head_made, if_head, kept_by, roots_since}
 use Rattle.cat_core.proofs.Looking.{among_both, any_last, any_of_lists, is_live_then, since_is}
-use Rattle.cat_core.proofs.Since.{AreLegalBack, left_by, legal_backwards, made_is, more_live, past_at, state_at}
+use Rattle.cat_core.proofs.Since.{AreLegalBack, left_by, made_is, more_live, past_at, state_at}
 use Rattle.cat_core.proofs.Spared.{chain_first}
 
 -- ---- commits alone

@@ -1,5 +1,5 @@
 -- What settling a sweep answers and leaves.
-use Rattle.std.proofs.Common.{◌≡◌, ℕ, List, Option, Some, None, Result, Ok, Err, true, refl, sym, ap, ◌∙◌, subst}
+use Rattle.std.proofs.Common.{◌≡◌, ℕ, List, Option, Some, None, Result, Err, true, refl, sym, ap, ◌∙◌, subst}
 use Rattle.sha2.specs.Sha256.{sha256}
 use Rattle.cat_checks.specs.Legal.{may_be_swept}
 use Rattle.cat_frames.specs.Sweeps.{sweep_is_logged}
@@ -8,7 +8,6 @@ use Rattle.cat_keeper.specs.declared.keeper.Keeper.{Ghosts}
 use Rattle.cat_model.specs.declared.refusal.Refusal.TheVariants.{Down, NoMemory}
 use Rattle.cat_model.specs.declared.refusal.Refused.{Refused}
 use Rattle.cat_model.specs.declared.reply.Told.{Told}
-use Rattle.cat_model.specs.Calls.{Called}
 use Rattle.cat_model.specs.Drafts.{OpenSweep, Opening}
 use Rattle.cat_model.specs.declared.sweep.Sweep.{Sweep}
 use Rattle.cat_model.specs.Sweeps.{sweep_of}

@@ -1,5 +1,5 @@
 -- Drafts as a store holds them, and what its calls on them leave.
-use Rattle.std.proofs.Common.{◌≡◌, ◌≤◌, ℕ, ◌+◌, max, List, [], ◌∷◌, ◌++◌, length, reverse, map, Option, None, Result, Ok, Err, Bool, true, false, cond, not, ◌&&◌, nat_eq, refl, sym, ap, ◌∙◌, subst, arith}
+use Rattle.std.proofs.Common.{◌≡◌, ◌≤◌, ℕ, ◌+◌, max, List, [], ◌∷◌, ◌++◌, length, reverse, map, Option, Result, Ok, Err, Bool, true, false, cond, not, ◌&&◌, nat_eq, refl, sym, ap, ◌∙◌, subst, arith}
 use Rattle.std.proofs.lemmas.List.{map-append}
 use Rattle.std.specs.List.{filter}
 use Rattle.std.specs.Prelude.{is_err, is_ok, if◌then◌else◌}
@@ -14,7 +14,6 @@ use Rattle.cat_model.specs.declared.command.Command.{Command}
 use Rattle.cat_model.specs.Book.{Book}
 use Rattle.cat_model.specs.Drafts as drafts
 use Rattle.cat_model.specs.Drafts.{Opening, drafts_of}
-use Rattle.cat_model.specs.Mark.{FailedAppend, Mark}
 use Rattle.cat_model.specs.Naming.{names_of}
 use Rattle.cat_model.specs.Later.{IsLater}
 use Rattle.cat_model.specs.State.{State, first_state}
@@ -24,8 +23,8 @@ use Rattle.cat_core.specs.declared.draft.Draft.{Draft}
 use Rattle.cat_core.specs.declared.tickets.Fallen.{Fallen}
 use Rattle.cat_core.specs.declared.tickets.OpenDraft.{OpenDraft}
 use Rattle.cat_core.specs.declared.tickets.Ticket.{Ticket}
-use Rattle.cat_core.specs.Drafts.{IsOpen, closed, holding, open_draft_of, opening_in, without}
-use Rattle.cat_core.specs.Stored.{IsFree, IsInStep, IsSound, Stored, draft_held, held_mark, held_open, log_of, opening_at}
+use Rattle.cat_core.specs.Drafts.{IsOpen, closed, open_draft_of, without}
+use Rattle.cat_core.specs.Stored.{IsFree, IsInStep, IsSound, Stored, draft_held, log_of, opening_at}
 use Rattle.cat_core.proofs.Sound.{sound_with}
 use Rattle.cat_core.proofs.Waiting.{in_all, none_left, waiting_closed, waiting_more, waits}
 

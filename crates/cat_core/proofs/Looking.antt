@@ -1,7 +1,7 @@
 -- What was live at the states since a place: what is live now, and from the references that were taken since.
-use Rattle.std.proofs.Common.{◌≡◌, ℕ, zero, suc, ◌+◌, ◌-◌, ◌≤◌, List, [], ◌∷◌, ◌++◌, length, take, drop, reverse, map, filter, Option, Some, None, Bool, true, false, not, ◌||◌, ◌&&◌, cond, IsTrue, if◌then◌else◌, refl, sym, ap, ◌∙◌, subst, append_assoc, arith}
+use Rattle.std.proofs.Common.{◌≡◌, ℕ, zero, suc, ◌+◌, ◌-◌, ◌≤◌, List, [], ◌∷◌, ◌++◌, length, take, drop, reverse, map, Option, Some, None, Bool, true, false, not, ◌||◌, if◌then◌else◌, refl, sym, ap, ◌∙◌, append_assoc, arith}
 use Rattle.std.proofs.lemmas.Grind.{reverse_onto}
-use Rattle.std.proofs.lemmas.List.{length-append, length-drop, length-reverse, reverse-append, take-append-drop, take_at}
+use Rattle.std.proofs.lemmas.List.{length-drop, length-reverse, reverse-append, take-append-drop, take_at}
 use Rattle.std.proofs.lemmas.List.Folds.{list_any-append}
 use Rattle.std.specs.List.{flat_map, list_all, list_any, prefix_len, take_while}
 use Rattle.cat_names.specs.declared.hash.Hash.{Hash}
@@ -12,9 +12,9 @@ use Rattle.cat_model.specs.declared.cutoff.Resolved.{Resolved}
 use Rattle.cat_model.specs.declared.reference.Reference.{Reference}
 use Rattle.cat_model.specs.declared.sweep.Sweep.{Sweep}
 use Rattle.cat_model.specs.Base.{is_among}
-use Rattle.cat_model.specs.Chain.{Commits, chain, commit_of, entries}
+use Rattle.cat_model.specs.Chain.{Commits, chain, entries}
 use Rattle.cat_model.specs.Cutoffs.{cutoff_for, is_older, kept, kept_after, live, live_from, visible}
-use Rattle.cat_model.specs.Later.{Adds, IsLater}
+use Rattle.cat_model.specs.Later.{Adds}
 use Rattle.cat_model.specs.Same.{same_hash}
 use Rattle.cat_model.specs.State.{State}
 use Rattle.cat_model.specs.Sweeps.{kept_by_names, live_since, names_in, saved, since}
@@ -23,7 +23,7 @@ use Rattle.cat_graph.specs.Linked.{AreLinked, is_known}
 use Rattle.cat_tables.specs.References.{heads_pass}
 use Rattle.cat_tables.specs.ReferenceLaws.{and_true, both_true}
 use Rattle.cat_decisions.specs.AddedLaws.{chain_later, entries_later, known_later}
-use Rattle.cat_core.specs.Sweeping.{AreTaken, IsTaken, live_at, live_if, live_taken, rooted, taken_passes}
+use Rattle.cat_core.specs.Sweeping.{AreTaken, live_at, live_if, live_taken, rooted, taken_passes}
 
 -- ---- lists
 

@@ -1,15 +1,15 @@
 -- Sweeps that are opened, given roots and closed are turns of their callers.
-use Rattle.std.proofs.Common.{◌≡◌, ◌≢◌, ◌≤◌, ℕ, ◌+◌, min, max, List, [], ◌∷◌, ◌++◌, Option, Some, None, Result, Bool, true, false, cond, nat_eq, refl, sym, ap, ◌∙◌, subst, inl, inr, le_refl, ne_eqb, arith}
+use Rattle.std.proofs.Common.{◌≡◌, ◌≢◌, ◌≤◌, ℕ, Option, Some, None, Result, Bool, cond, refl, sym, ap, ◌∙◌, subst, inl, inr, le_refl, ne_eqb, arith}
 use Rattle.cat_checks.specs.Histories.{IsLegalFrom}
-use Rattle.cat_model.specs.Drafts.{Awaits, IsNamed, LeavesOthers, Names, Open, OpenSweep, Opening, StaysOpen, SweepAwaits, drafts_of, open_of, sweep_of}
-use Rattle.cat_model.specs.Mark.{ClosedSweep, FailedAppend, Later, Mark, closed_number, last_sweep, open_number}
+use Rattle.cat_model.specs.Drafts.{LeavesOthers, Open, OpenSweep, Opening, SweepAwaits, sweep_of}
+use Rattle.cat_model.specs.Mark.{ClosedSweep, Later, Mark, closed_number, last_sweep, open_number}
 use Rattle.cat_mark.specs.declared.roots.Roots.{Roots}
 use Rattle.cat_model.specs.declared.cutoff.Resolved.{Resolved}
 use Rattle.cat_model.specs.declared.refusal.Refused.{Refused}
 use Rattle.cat_model.specs.declared.reply.Told.{Told}
 use Rattle.cat_model.specs.State.{State}
 use Rattle.cat_model.specs.Sweeps as collections
-use Rattle.cat_model.specs.TurnLaws.{acts_on, later_self, stays_self}
+use Rattle.cat_model.specs.TurnLaws.{acts_on, later_self}
 use Rattle.cat_model.specs.Turns.{Acts}
 use Rattle.cat_core.specs.declared.sweeping.Sweep.{Sweep}
 use Rattle.cat_core.specs.Stored.{IsMarked, IsSound, Stored, log_of, opened_of, snap}

@@ -1,21 +1,20 @@
 -- What was live at the states since a place: what was live up to an earlier state, and from the heads that the entries behind it left.
-use Rattle.std.proofs.Common.{◌≡◌, ℕ, zero, suc, ◌+◌, ◌-◌, ◌≤◌, List, [], ◌∷◌, ◌++◌, length, take, reverse, Option, Some, None, Result, Ok, Err, Bool, true, false, ◌||◌, ◌&&◌, nat_lt, if◌then◌else◌, max, refl, sym, ap, ◌∙◌, subst, arith}
+use Rattle.std.proofs.Common.{◌≡◌, ℕ, suc, ◌+◌, ◌-◌, ◌≤◌, List, [], ◌∷◌, ◌++◌, length, take, reverse, Option, Some, None, Ok, Err, Bool, true, false, ◌||◌, ◌&&◌, nat_lt, if◌then◌else◌, refl, sym, ap, ◌∙◌, subst, arith}
 use Rattle.std.proofs.lemmas.List.{reverse-append, reverse-reverse}
 use Rattle.std.specs.List.{flat_map, list_all, list_any}
 use Rattle.sha2.specs.Sha256.{sha256}
-use Rattle.cat_checks.specs.Histories.{AreLegal, after_entry, begun, book_after, book_at}
+use Rattle.cat_checks.specs.Histories.{AreLegal, begun, book_at}
 use Rattle.cat_checks.specs.HistoryLaws.{book_more, course_is, legal_back, legal_front}
 use Rattle.cat_checks.specs.LeadingLaws.{legal_place, replayed_later}
 use Rattle.cat_checks.specs.Legal.{IsLegal, draft_after, replayed_action, replayed_by, replayed_call, turn_of}
 use Rattle.cat_frames.specs.Entries.{of_nobody}
-use Rattle.cat_graph.specs.Linked.{AreLinked, is_known}
+use Rattle.cat_graph.specs.Linked.{AreLinked}
 use Rattle.cat_model.specs.declared.command.Command.{Command}
 use Rattle.cat_model.specs.declared.cutoff.Resolved.{Resolved}
 use Rattle.cat_model.specs.declared.log_entry.Action.{Action}
 use Rattle.cat_model.specs.declared.log_entry.Action.TheVariants as actions
 use Rattle.cat_model.specs.declared.log_entry.LogEntry.{LogEntry}
 use Rattle.cat_model.specs.declared.reference.Reference.{Reference}
-use Rattle.cat_model.specs.declared.refusal.Refusal.{Refusal}
 use Rattle.cat_model.specs.declared.reply.Reply.{Reply}
 use Rattle.cat_model.specs.declared.sweep.Sweep.{Sweep}
 use Rattle.cat_model.specs.Base.{is_among}
@@ -24,16 +23,15 @@ use Rattle.cat_model.specs.Calls.{Called, attempt, entry_made, stepped}
 use Rattle.cat_model.specs.Chain.{Commits}
 use Rattle.cat_model.specs.Cutoffs.{cutoff_for, live, live_from}
 use Rattle.cat_model.specs.Later.{Adds, IsLater}
-use Rattle.cat_model.specs.Past.{Course, course, past_of}
+use Rattle.cat_model.specs.Past.{course, past_of}
 use Rattle.cat_model.specs.Refusing.{Outcome, Tested}
 use Rattle.cat_model.specs.State.{State}
-use Rattle.cat_model.specs.Step.{Turn, head_left, logged_command, opening, step}
+use Rattle.cat_model.specs.Step.{Turn, head_left, opening, step}
 use Rattle.cat_model.specs.Sweeps.{needs_sweep_room, since, step_sweep, sweep_call, swept_by}
 use Rattle.cat_model.specs.Turns.{Opened}
 use Rattle.cat_names.specs.declared.hash.Hash.{Hash}
-use Rattle.cat_tables.specs.References.{heads_pass}
 use Rattle.cat_core.specs.Stored.{is_headed}
-use Rattle.cat_core.specs.Sweeping.{live_at, name_in}
+use Rattle.cat_core.specs.Sweeping.{name_in}
 use Rattle.cat_core.specs.Sweeps.{head_by, head_made, if_head}
 use Rattle.cat_core.proofs.Left.{Leaves, Test, left_passes, seen, step_leaves}
 use Rattle.cat_core.proofs.Looking.{adds_on, among_both, is_live, is_live_then, live_then}

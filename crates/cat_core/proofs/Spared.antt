@@ -1,15 +1,11 @@
 -- What a sweep leaves: the contents that it keeps, and all that is visible at heads.
-use Rattle.std.proofs.Common.{◌≡◌, ℕ, ◌+◌, ◌-◌, List, [], ◌∷◌, ◌++◌, take, map, filter, Option, Some, None, is_some, Bool, true, false, not, ◌||◌, ◌&&◌, cond, if◌then◌else◌, refl, sym, ap, ◌∙◌, subst}
+use Rattle.std.proofs.Common.{◌≡◌, ◌-◌, List, [], ◌∷◌, take, map, filter, Option, Some, is_some, Bool, true, false, not, ◌||◌, ◌&&◌, if◌then◌else◌, refl, sym, ap, ◌∙◌, subst}
 use Rattle.std.specs.List.{flat_map, list_all, list_any}
-use Rattle.std.proofs.lemmas.List.{append-nil}
-use Rattle.cat_names.specs.Fields.{Key}
 use Rattle.cat_names.specs.declared.hash.Hash.{Hash}
 use Rattle.cat_model.specs.declared.commit.Commit.{Commit}
 use Rattle.cat_model.specs.declared.content.Content.{Content}
 use Rattle.cat_model.specs.declared.cutoff.Cutoff.{Cutoff}
-use Rattle.cat_model.specs.declared.cutoff.Cutoff.TheVariants as cutoffs
 use Rattle.cat_model.specs.declared.cutoff.Resolved.{Resolved}
-use Rattle.cat_model.specs.declared.entry.Entry.{Entry}
 use Rattle.cat_model.specs.declared.reference.Reference.{Reference}
 use Rattle.cat_model.specs.declared.sweep.Sweep.{Sweep}
 use Rattle.cat_model.specs.Base.{is_among}

@@ -1,5 +1,5 @@
 -- What a sweep of the log brings where it is executed again, and what each entry takes.
-use Rattle.std.proofs.Common.{◌≡◌, ℕ, ◌+◌, ◌≤◌, ◌<◌, max, List, [], ◌∷◌, ◌++◌, length, reverse, Option, Some, None, Result, Ok, Err, IfOk, is_ok, is_some, IsTrue, Bool, true, false, not, ◌&&◌, ◌||◌, nat_eq, nat_le, nat_lt, if◌then◌else◌, refl, sym, ap, ◌∙◌, subst, arith}
+use Rattle.std.proofs.Common.{◌≡◌, ℕ, ◌+◌, ◌≤◌, ◌<◌, max, List, [], ◌∷◌, ◌++◌, length, Option, None, Result, Ok, Err, IfOk, is_ok, is_some, IsTrue, Bool, true, false, not, ◌&&◌, ◌||◌, nat_eq, nat_le, nat_lt, if◌then◌else◌, refl, sym, ap, ◌∙◌, subst, arith}
 use Rattle.std.proofs.lemmas.Bool.{le-leb, leb-true, ltb-true}
 use Rattle.std.proofs.lemmas.Bool.Decides.{nat_tests}
 use Rattle.std.proofs.lemmas.Map.Views.{exact_unsigned_eq}
@@ -22,10 +22,8 @@ use Rattle.cat_model.specs.declared.refusal.Refusal.{Refusal}
 use Rattle.cat_model.specs.declared.refusal.Refusal.TheVariants.{Limit}
 use Rattle.cat_model.specs.declared.sweep.Sweep.{Sweep}
 use Rattle.cat_model.specs.Base.{is_among}
-use Rattle.cat_model.specs.Book.{Book, after_call, first_book}
+use Rattle.cat_model.specs.Book.{Book, first_book}
 use Rattle.cat_model.specs.Calls.{Called, attempt, stepped}
-use Rattle.cat_model.specs.Later.{IsLater}
-use Rattle.cat_model.specs.Moves.{needs_log}
 use Rattle.cat_model.specs.Past.{past_of}
 use Rattle.cat_model.specs.Refusing.{◌>>=◌, Outcome, Tested, needs, needs_at_most}
 use Rattle.cat_model.specs.State.{State, first_state, reference_of}

@@ -1,5 +1,5 @@
 -- What an accepted step takes: at most the reference of its command's name.
-use Rattle.std.proofs.Common.{◌≡◌, ℕ, List, [], ◌∷◌, filter, map, filter_map, length, Option, Some, None, Result, Ok, Err, Bool, true, false, not, ◌||◌, ◌&&◌, cond, if◌then◌else◌, refl, sym, ap, ◌∙◌, subst}
+use Rattle.std.proofs.Common.{◌≡◌, ℕ, List, [], ◌∷◌, map, filter_map, length, Option, Some, None, Result, Ok, Err, Bool, true, false, not, ◌||◌, ◌&&◌, if◌then◌else◌, refl, sym, ap, ◌∙◌, subst}
 use Rattle.std.specs.List.{list_all, list_any}
 use Rattle.std.specs.Str.{bytes_eq}
 use Rattle.cat_names.specs.declared.hash.Hash.{Hash}
@@ -29,7 +29,7 @@ use Rattle.cat_model.specs.Judge.{judge}
 use Rattle.cat_model.specs.Merges.{Planned, Plans, all_conflicts, applied, commits_made, has_changes, merge_opening, merge_plans, needs_planned_room, needs_set_contents, planned_commit, step_applied, step_merge, step_planned, step_unless_conflicts, with_planned}
 use Rattle.cat_model.specs.Moves.{needs_contents, needs_head, needs_log, needs_new_name, needs_other_than_default, step_assign, step_create, step_delete}
 use Rattle.cat_model.specs.Records.{added, commit_bytes, content_bytes, with_commit, with_content, with_contents}
-use Rattle.cat_model.specs.Refusing.{◌>>=◌, Outcome, found, named, needs, needs_branch, needs_kind, needs_room, needs_source_kind, perhaps_named, pointed}
+use Rattle.cat_model.specs.Refusing.{◌>>=◌, found, named, needs, needs_branch, needs_kind, needs_room, needs_source_kind, perhaps_named, pointed}
 use Rattle.cat_model.specs.State.{Digest, State, commit_hash, content_hash, moved_reference, reference_of, with_reference, without_reference}
 use Rattle.cat_model.specs.Step.{Turn, step}
 use Rattle.cat_model.specs.Transplants.{are_consecutive, needs_on_chain, step_transplant, transplant_opening, transplant_plans}

@@ -1,5 +1,5 @@
 -- A sweep that isn't made: for want of room, or of memory.
-use Rattle.std.proofs.Common.{◌≡◌, ℕ, ◌+◌, length, nat_lt, nat_le, Ok, Err, refl, sym, ap, subst, arith}
+use Rattle.std.proofs.Common.{◌≡◌, ℕ, ◌+◌, length, nat_lt, nat_le, Err, refl, sym, ap, subst, arith}
 use Rattle.sha2.specs.Sha256.{sha256}
 use Rattle.cat_model.specs.declared.limits.Quantity.TheVariants as quantities
 use Rattle.cat_model.specs.declared.refusal.Refusal.{Refusal}

@@ -6,7 +6,7 @@ use Rattle.cat_checks.specs.HistoryLaws.{AreAtMost, new_above}
 use Rattle.cat_checks.specs.Legal.{draft_is_new}
 use Rattle.cat_names.specs.declared.hash.Hash.{Hash}
 use Rattle.cat_model.specs.declared.log_entry.LogEntry.{LogEntry}
-use Rattle.cat_model.specs.Drafts.{Awaits, IsNamed, LeavesOthers, Names, Open, OpenDraft, OpenSweep, Opening, SweepAwaits, drafts_of, open_of, sweep_of}
+use Rattle.cat_model.specs.Drafts.{IsNamed, LeavesOthers, Names, Open, OpenDraft, OpenSweep, Opening, SweepAwaits, drafts_of, open_of, sweep_of}
 use Rattle.cat_model.specs.TurnLaws.{stays_self}
 use Rattle.cat_core.specs.Drafts.{IsOpen, without}
 use Rattle.cat_core.specs.Noting.{and_names, noting}

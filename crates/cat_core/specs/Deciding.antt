@@ -1,5 +1,5 @@
 -- What was decided of a call in its turn, and what its change makes of a book.
-use Rattle.std.specs.Prelude.{◌≡◌, ◌+◌, Result, Ok, Err, IsTrue}
+use Rattle.std.specs.Prelude.{◌+◌, Result, Ok, Err, IsTrue}
 use Rattle.sha2.specs.Sha256.{sha256}
 use Rattle.cat_frames.specs.Entries.{is_logged}
 use Rattle.cat_model.specs.declared.command.Command.{Command}

@@ -1,5 +1,5 @@
 -- What a call does to what keeps the log, by what was told.
-use Rattle.std.specs.Prelude.{◌≡◌, ℕ, List, Option, Result, Ok, Err, IfErr, OnOk}
+use Rattle.std.specs.Prelude.{◌≡◌, ℕ, List, Result, Ok, Err, IfErr, OnOk}
 use Rattle.cat_keeper.specs.declared.keeper.Keeper.{Ghosts}
 use Rattle.cat_model.specs.Calls.{Called}
 use Rattle.cat_model.specs.declared.log_entry.LogEntry.{LogEntry}

@@ -1,5 +1,5 @@
 -- Names that drafts give an open sweep.
-use Rattle.std.specs.Prelude.{List, [], ◌∷◌, ◌++◌, Option, Some, None}
+use Rattle.std.specs.Prelude.{List, ◌++◌, Option, Some, None}
 use Rattle.std.specs.List.{flat_map}
 use Rattle.cat_model.specs.Drafts.{Names, OpenDraft, OpenSweep}
 

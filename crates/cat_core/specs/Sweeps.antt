@@ -1,5 +1,5 @@
 -- Sweeps: what opening, draining, settling and dropping one answers, and what it leaves.
-use Rattle.std.specs.Prelude.{◌≡◌, ℕ, ◌+◌, ◌-◌, min, List, [], ◌∷◌, ◌++◌, map, length, drop, Option, Some, None, is_some, Result, Ok, Err, ◌||◌, ◌&&◌, not, IsTrue}
+use Rattle.std.specs.Prelude.{◌≡◌, ℕ, ◌+◌, ◌-◌, min, List, [], ◌∷◌, ◌++◌, map, length, drop, Option, Some, None, is_some, Result, ◌||◌, ◌&&◌, not, IsTrue}
 use Rattle.std.specs.List.{flat_map}
 use Rattle.sha2.specs.Sha256.{sha256}
 use Rattle.cat_names.specs.declared.hash.Hash.{Hash}
@@ -23,8 +23,8 @@ use Rattle.cat_model.specs.Book.{Book}
 use Rattle.cat_model.specs.Calls.{Called}
 use Rattle.cat_model.specs.Chain.{Commits}
 use Rattle.cat_model.specs.Cutoffs.{cutoff_for}
-use Rattle.cat_model.specs.Drafts.{Names, Open, OpenDraft, OpenSweep, Opening}
-use Rattle.cat_model.specs.Mark.{ClosedSweep, Mark, last_sweep}
+use Rattle.cat_model.specs.Drafts.{Names, OpenDraft, OpenSweep, Opening}
+use Rattle.cat_model.specs.Mark.{Mark, last_sweep}
 use Rattle.cat_model.specs.Past.{Course, course, past_of}
 use Rattle.cat_model.specs.State.{State}
 use Rattle.cat_model.specs.Sweeps.{hash_set, saved, since, sweep_call, sweep_of}

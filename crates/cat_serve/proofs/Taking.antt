@@ -1,7 +1,7 @@
 -- Passes that were taken in, one after another.
-use Rattle.std.proofs.Common.{◌≡◌, ℕ, subst}
+use Rattle.std.proofs.Common.{ℕ}
 use Rattle.cat_desk.specs.LogLaws.{follows_itself, follows_on}
-use Rattle.cat_desk.specs.Pass.{CarriesOn, HasNumber, mark_of, seen}
+use Rattle.cat_desk.specs.Pass.{CarriesOn, HasNumber, seen}
 use Rattle.cat_desk.specs.declared.pass.Pass.{Pass}
 use Rattle.cat_serve.specs.Serving.{TakenIn}
 

@@ -12,7 +12,7 @@ use Rattle.cat_desk.specs.Pass.{CarriesOn, DeskId, Keeps, Remembers, number_of, 
 use Rattle.cat_desk.specs.declared.pass.Pass.{Pass}
 use Rattle.cat_work.specs.Passes.{IsReady}
 use Rattle.cat_serve.specs.declared.worker.Worker.{Worker}
-use Rattle.cat_serve.specs.Hiring.{AreBack, AreDealt, AreDone, AreNumbered, Counts, IsDone, IsHired, ServesOwn}
+use Rattle.cat_serve.specs.Hiring.{AreBack, AreDealt, AreNumbered, Counts, IsDone, IsHired, ServesOwn}
 use Rattle.cat_serve.specs.Serving.{GrowsTo, TakenIn}
 use Rattle.cat_serve.specs.ServingLaws.{grows_to_itself, grows_to_on}
 use Rattle.cat_serve.specs.Sessions.{Readings}

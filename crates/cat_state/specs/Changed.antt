@@ -8,7 +8,6 @@ use Rattle.cat_model.specs.Chain.{Commits}
 use Rattle.cat_model.specs.Maps.{Map}
 use Rattle.cat_model.specs.State.{reference_of}
 use Rattle.cat_tables.specs.Tables.{are_distinct}
-use Rattle.cat_state.specs.declared.additions.Additions.{Additions}
 use Rattle.cat_state.specs.declared.change.Change.{Change}
 use Rattle.cat_state.specs.declared.change.ReferenceChange.{ReferenceChange}
 use Rattle.cat_state.specs.declared.change.ReferenceChange.TheVariants.{Made, Moved, Removed}

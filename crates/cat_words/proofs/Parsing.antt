@@ -1,6 +1,5 @@
 -- What a parse says of the command line, which is simple.
 use Rattle.std.proofs.Common.{◌≡◌, ℕ, List, [], ◌∷◌, inl, inr, IfErr, IfOk, Result, Ok, Err, true, refl, subst}
-use Rattle.std.specs.Prelude.{◌⊎◌}
 use Rattle.clap.specs.Faults.{is_simple_and_free}
 use Rattle.clap.specs.Kinds.{FailsBy, HasKind, Kinds}
 use Rattle.clap.specs.Words.{App, HasMatchesOf, fault_of, is_simple, kind_of, subcommand_of, subcommand_rows_of}

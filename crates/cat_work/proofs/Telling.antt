@@ -1,6 +1,6 @@
 -- What a turn tells of a call, seen from the pass as it was at the call.
 use Rattle.std.proofs.Common.{◌≡◌, ◌≤◌, ◌⊎◌, inl, inr, ℕ, ◌+◌, List, [], ◌∷◌, ◌++◌, reverse, Option, Some, None, Ok, Err, Bool, true, false, refl, sym, ap, subst, ◌∙◌, arith}
-use Rattle.std.proofs.lemmas.List.{reverse-append, reverse-reverse}
+use Rattle.std.proofs.lemmas.List.{reverse-append}
 use Rattle.sha2.specs.Sha256.{sha256}
 use Rattle.cat_names.specs.Fields.{Key}
 use Rattle.cat_decisions.specs.declared.building.Built.{Built}
@@ -24,14 +24,12 @@ use Rattle.cat_model.specs.declared.reply.Told.{Told}
 use Rattle.cat_model.specs.Book.{Book, IsCalled, IsGivenUp, after_call, call_on}
 use Rattle.cat_model.specs.Calls.{Called, entry_made}
 use Rattle.cat_model.specs.Drafts.{Open}
-use Rattle.cat_model.specs.Mark.{FailedAppend, Grows, Mark}
+use Rattle.cat_model.specs.Mark.{FailedAppend, Mark}
 use Rattle.cat_model.specs.Refusing.{Outcome}
 use Rattle.cat_model.specs.State.{State}
 use Rattle.cat_model.specs.Step.{opening, opens_draft, step}
-use Rattle.cat_model.specs.TurnLaws.{grows_on}
 use Rattle.cat_work.specs.Answers.{Answers, AnswersAlone, BeganAt, Causes, ComesToIn, HadNumber, IsAt, IsDraftAbove, IsEntryOf, IsRuledOut, NoFaultIsNew, RefusesAlone}
-use Rattle.cat_work.specs.Passes.{IsAlone, book_of, state_of}
-use Rattle.cat_work.specs.Turns.{Turned}
+use Rattle.cat_work.specs.Passes.{book_of, state_of}
 pub use Rattle.cat_work.specs.TurnLaws.{Left, book_found, grew_in, left_by_turn}
 use Rattle.cat_work.proofs.Callings.{Brings, Entering, IsGone, Telling, call_gone, draft_gone, entry_draft_is, entry_is, refused_is, told_is, undrafted}
 use Rattle.cat_work.proofs.Expiring.{gone_at_draft, gone_at_state}

@@ -3,7 +3,6 @@ use Rattle.std.proofs.Common.{◌≡◌, ◌≢◌, ℕ, ◌+◌, ◌<◌, ◌�
 use Rattle.std.proofs.lemmas.List.{append-nil, take-append-le}
 use Rattle.std.proofs.lemmas.Option.{same_Some}
 use Rattle.std.proofs.Math.Seq.{take-length}
-use Rattle.sha2.specs.Sha256.{sha256}
 use Rattle.cat_names.specs.declared.hash.Hash.{Hash}
 use Rattle.cat_decisions.specs.BuildLaws.{commit_opened}
 use Rattle.cat_decisions.specs.Builds.{HasHead, IsBuilt, IsMadeAt, command_of}
@@ -12,15 +11,12 @@ use Rattle.cat_decisions.specs.declared.building.Work.{Work}
 use Rattle.cat_decisions.specs.declared.building.Work.TheVariants as works
 use Rattle.cat_decisions.specs.declared.call.Call.{Call}
 use Rattle.cat_decisions.specs.declared.call.Call.TheVariants as calls
-use Rattle.cat_checks.specs.Histories.{IsLegalFrom, begun, book_at}
-use Rattle.cat_checks.specs.HistoryLaws.{begins_legal, book_more, books_later, place_is}
+use Rattle.cat_checks.specs.Histories.{IsLegalFrom}
 use Rattle.cat_desk.specs.Log.{Follows}
 use Rattle.cat_desk.specs.Pass.{DeskId}
 use Rattle.cat_model.specs.declared.command.Command.{Command}
 use Rattle.cat_model.specs.declared.log_entry.LogEntry.{LogEntry}
 use Rattle.cat_model.specs.declared.reference.Reference.{Reference}
-use Rattle.cat_model.specs.Book.{Book}
-use Rattle.cat_model.specs.Later.{IsLater}
 use Rattle.cat_model.specs.State.{State}
 use Rattle.cat_decisions.specs.OpenedLaws.{merge_opened, transplant_opened}
 use Rattle.cat_work.specs.Answers.{AreHeadsAt, Climbs, IsHeadAt, Rises, first_place}

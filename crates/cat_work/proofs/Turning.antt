@@ -1,27 +1,22 @@
 -- What the desk's calls and the store's say of a turn, taken together.
-use Rattle.std.proofs.Common.{◌≡◌, ℕ, ◌+◌, List, [], ◌∷◌, ◌++◌, Result, Ok, Err, IfOk, IfErr, inl, inr, sym, ap, subst, ◌∙◌}
+use Rattle.std.proofs.Common.{◌≡◌, ℕ, ◌+◌, List, [], ◌∷◌, ◌++◌, Result, Ok, Err, IfOk, IfErr, inl, inr, ap, subst, ◌∙◌}
 use Rattle.cat_names.specs.declared.hash.Hash.{Hash}
 use Rattle.cat_decisions.specs.declared.building.Built.{Built}
 use Rattle.cat_decisions.specs.Builds.{IsBuilt}
 use Rattle.cat_decisions.specs.declared.call.Call.{Call}
 use Rattle.cat_checks.specs.Histories.{book_at}
 use Rattle.cat_core.specs.Drafts.{IsOpening, NotOpened}
-use Rattle.cat_core.specs.Stored as stored
 use Rattle.cat_core.specs.Stored.{Stored, log_of, opened_of}
 use Rattle.cat_core.specs.declared.draft.Draft.{Draft}
 use Rattle.cat_desk.specs.Log.{Follows}
-use Rattle.cat_desk.specs.Marks.{Linked}
-use Rattle.cat_desk.specs.Pass.{DeskId, left_by, mark_of, number_of, seen}
+use Rattle.cat_desk.specs.Pass.{DeskId, number_of, seen}
 use Rattle.cat_desk.specs.declared.pass.Pass.{Pass}
 use Rattle.cat_model.specs.declared.command.Command.{Command}
 use Rattle.cat_model.specs.declared.refusal.Refused.{Refused}
 use Rattle.cat_model.specs.declared.reply.Told.{Told}
-use Rattle.cat_model.specs.Drafts.{StaysOpen, open_of}
 use Rattle.cat_model.specs.Later.{IsLater}
-use Rattle.cat_model.specs.Mark.{Grows}
 use Rattle.cat_model.specs.State.{State}
-use Rattle.cat_model.specs.Turns.{Opened}
-use Rattle.cat_work.specs.Passes.{IsAlone, state_of}
+use Rattle.cat_work.specs.Passes.{state_of}
 use Rattle.cat_work.specs.Turns.{EndsLast, Opens, OpensNone, SettlesLast, Turned}
 use Rattle.cat_work.specs.TurnLaws.{goes_later, led_from}
 pub use Rattle.cat_work.specs.TurnLaws.{turned}

@@ -1,5 +1,5 @@
 -- Laws of turns: what the desk's calls and the store's say of one, taken together, and what it leaves; and of logs that go on.
-use Rattle.std.proofs.Common.{◌≡◌, ◌≤◌, ℕ, ◌+◌, List, ◌++◌, length, length-append, reverse, sym, ap, subst, ◌∙◌, arith}
+use Rattle.std.proofs.Common.{◌≡◌, ◌≤◌, ℕ, ◌+◌, List, length, length-append, reverse, sym, ap, subst, ◌∙◌, arith}
 use Rattle.std.proofs.lemmas.List.{reverse-reverse}
 use Rattle.sha2.specs.Sha256.{sha256}
 use Rattle.cat_checks.specs.Histories.{IsLegalFrom, begun, book_at}
@@ -15,7 +15,6 @@ use Rattle.cat_model.specs.Book.{Book}
 use Rattle.cat_model.specs.Drafts.{StaysOpen, open_of}
 use Rattle.cat_model.specs.Later.{IsLater}
 use Rattle.cat_model.specs.Mark.{Grows, Mark}
-use Rattle.cat_model.specs.State.{State}
 use Rattle.cat_model.specs.TurnLaws.{grows_on}
 use Rattle.cat_model.specs.Turns.{Opened}
 use Rattle.cat_work.specs.Passes.{IsAlone, book_of, state_of}

@@ -1,8 +1,6 @@
-use Rattle.std.proofs.Common.{rules, ◌≡◌, ℕ, ◌<◌, true, false, inl, inr, refl, ◌∙◌}
-use Rattle.std.specs.Prelude.{◌⊎◌}
+use Rattle.std.proofs.Common.{rules, ◌≡◌, ◌<◌, inl, inr, refl, ◌∙◌}
 use Rattle.cat_cli.specs.Journals.{DisksFell}
-use Rattle.cat_cli.specs.Serving.{Sunk}
-use Rattle.cat_cli.proofs.Gathered.{disks_fell, disks_level, gathers}
+use Rattle.cat_cli.proofs.Gathered.{gathers}
 use Rattle.cat_cli.proofs.Opened.{disk_fell, rose_first}
 use Rattle.cat_cli.proofs.Refused.{of_err, of_ok}
 use Rattle.cat_cli.proofs.ServedRuns.{none_opened, refused_back}

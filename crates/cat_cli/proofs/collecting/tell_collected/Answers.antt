@@ -1,4 +1,4 @@
-use Rattle.std.proofs.Common.{rules, inl, inr}
+use Rattle.std.proofs.Common.{rules}
 use Rattle.cat_cli.proofs.Gathered.{limit_told, swept_told}
 use Rattle.cat_cli.proofs.collecting.tell_collected.Goals as goal
 

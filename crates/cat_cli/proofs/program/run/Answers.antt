@@ -1,5 +1,4 @@
 use Rattle.std.proofs.Common.{rules, ◌≡◌, ℕ, List, [], map, Bor, Option, Some, inr, refl, sym, ◌∙◌, ap}
-use Rattle.cat_policy.specs.declared.policy.Policy.{Policy}
 use Rattle.cat_policy.specs.Policies.{policy_of}
 use Rattle.cat_words.specs.Asked.{Task, asked, check, gc, script, serve, task}
 use Rattle.cat_serve.specs.ReadingLaws.{some_readings}

@@ -1,9 +1,8 @@
 use Rattle.std.proofs.Common.{rules, ◌≡◌, inl, inr, refl, ◌∙◌}
 use Rattle.cat_cli.specs.Journals.{DisksFell, RoseBy}
-use Rattle.cat_cli.specs.Serving.{Sunk}
 use Rattle.cat_cli.proofs.Opened.{disk_fell, rose_first, rose_there}
 use Rattle.cat_cli.proofs.Refused.{of_err, of_ok}
-use Rattle.cat_cli.proofs.ServedRuns.{heard_failing, heard_well, none_opened, refused_back, serves_there}
+use Rattle.cat_cli.proofs.ServedRuns.{none_opened, refused_back, serves_there}
 use Rattle.cat_cli.proofs.Surviving.{stands_as}
 use Rattle.cat_cli.proofs.serving.serve.Goals as goal
 

@@ -1,4 +1,4 @@
-use Rattle.std.proofs.Common.{◌≡◌, ◌++◌, ◌∙◌, ap, sym, length, arith}
+use Rattle.std.proofs.Common.{◌++◌, ◌∙◌, ap, sym}
 use Rattle.cat_model.specs.Maps.{Map}
 use Rattle.cat_keymap.specs.Walking.{walk}
 use Rattle.cat_keymap.proofs.Walks.{goes_on}

@@ -1,5 +1,4 @@
-use Rattle.std.proofs.Common.{inl, ◌≡◌, ℕ, ◌+◌, ◌<◌, List, drop, length, ap, Bool, Some, IsTrue, vec_len, rules, arith, ◌||◌, false, ap₂, refl, sym, ◌∙◌, subst}
-use Rattle.cat_desk.specs.declared.pass.Pass.{Pass}
+use Rattle.std.proofs.Common.{inl, ◌≡◌, ℕ, ◌+◌, ◌<◌, drop, length, ap, Bool, Some, IsTrue, vec_len, rules, arith, ◌||◌, false, ap₂, refl, sym, ◌∙◌, subst}
 use Rattle.cat_io.specs.Listening.{first_of}
 use Rattle.cat_serve.specs.Hiring.{IsBack, IsDone, IsIdle}
 use Rattle.cat_serve.specs.Workers.{ends_of}

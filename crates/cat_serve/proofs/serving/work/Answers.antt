@@ -1,5 +1,4 @@
 use Rattle.std.proofs.Common.{◌≡◌, List, length, rules, subst, sym, ap, ◌∙◌}
-use Rattle.std.specs.List.{All}
 use Rattle.std.proofs.lemmas.List.Elements.{All-same}
 use Rattle.cat_serve.specs.Hiring.{AreDealt, AreDone, AreNumbered, IsHired}
 use Rattle.cat_serve.specs.Workers.{ends_of}

@@ -1,5 +1,3 @@
-use Rattle.std.proofs.Common.{map}
-use Rattle.clap.specs.Words.{app_of}
 use Rattle.cat_words.proofs.Parsing.{fails, rows, taken}
 use Rattle.cat_words.proofs.line.parse.Goals as goal
 

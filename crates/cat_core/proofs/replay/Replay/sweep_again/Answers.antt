@@ -1,4 +1,4 @@
-use Rattle.std.proofs.Common.{◌≡◌, ◌<◌, arith}
+use Rattle.std.proofs.Common.{◌<◌, arith}
 use Rattle.cat_core.proofs.Swept.{place_below, swept_again, sweep_spares}
 use Rattle.cat_core.proofs.replay.Replay.sweep_again.Goals as goal
 

@@ -1,5 +1,4 @@
 use Rattle.std.proofs.Common.{refl, rules, ◌∙◌}
-use Rattle.cat_core.specs.declared.tickets.OpenSweep.{OpenSweep}
 use Rattle.cat_core.proofs.Giving.{begun_is}
 use Rattle.cat_core.proofs.Held.{at_least}
 use Rattle.cat_core.proofs.Lasting.{holding_begun}

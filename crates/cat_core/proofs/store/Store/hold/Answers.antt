@@ -1,4 +1,4 @@
-use Rattle.std.proofs.Common.{◌≡◌, refl, rules, sym, ap, subst, ◌∙◌}
+use Rattle.std.proofs.Common.{refl, rules, sym, ap, subst, ◌∙◌}
 use Rattle.cat_decisions.specs.Builds.{command_of}
 use Rattle.cat_model.specs.Book.{Book}
 use Rattle.cat_model.specs.Drafts.{Names}

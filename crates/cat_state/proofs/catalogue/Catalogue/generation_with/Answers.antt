@@ -1,4 +1,4 @@
-use Rattle.std.proofs.Common.{◌≡◌, ◌≤◌, ℕ, length, sym, subst}
+use Rattle.std.proofs.Common.{◌≤◌, ℕ, length, sym, subst}
 use Rattle.cat_graph.specs.GraphLaws.{generation_bound}
 use Rattle.cat_model.specs.Chain.{Commits}
 use Rattle.cat_state.specs.Changing.{with_additions}

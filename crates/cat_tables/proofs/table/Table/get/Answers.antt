@@ -1,4 +1,4 @@
-use Rattle.std.proofs.Common.{◌≡◌, ◌∙◌, List, Option, ap, sym}
+use Rattle.std.proofs.Common.{◌∙◌, List, ap, sym}
 use Rattle.std.specs.Option.{option_map}
 use Rattle.cat_names.specs.declared.hash.Hash.{Hash}
 use Rattle.cat_tables.specs.Tables.{value_of}

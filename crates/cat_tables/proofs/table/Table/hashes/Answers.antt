@@ -1,4 +1,4 @@
-use Rattle.std.proofs.Common.{◌≡◌, ◌∙◌, List, Option, None, true, is_some, map, ap, sym, subst}
+use Rattle.std.proofs.Common.{◌∙◌, List, None, is_some, map, ap}
 use Rattle.cat_codes.specs.Code.{keys_ascend}
 use Rattle.cat_model.specs.Base.{is_among}
 use Rattle.cat_names.specs.declared.hash.Hash.{Hash}

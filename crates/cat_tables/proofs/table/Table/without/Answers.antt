@@ -1,4 +1,4 @@
-use Rattle.std.proofs.Common.{◌≡◌, ◌∙◌, List, Option, None, not, filter, ap}
+use Rattle.std.proofs.Common.{◌∙◌, List, Option, None, not, filter, ap}
 use Rattle.cat_model.specs.Base.{is_among}
 use Rattle.cat_names.specs.declared.hash.Hash.{Hash}
 use Rattle.cat_ordered.specs.Maps.{after_changes}
