@@ -124,6 +124,16 @@ def served(load):
             show(f"commits to a branch each by {size} connections", f"{told.rate / hand:.2f} of the limit: {told}, by hand {hand:.0f}")
 
 
+def opened(path):
+    """The seconds until a run on the journal has answered its first request."""
+    began = time.perf_counter()
+    run = requests.Run(path)
+    run.ask(b"GET /api/v2/config HTTP/1.1\r\n\r\n")
+    took = time.perf_counter() - began
+    run.end()
+    return took
+
+
 def opening(folder, count):
     """Opens a journal of so many commits of a new key each, and one of its first tenth."""
     with Server(PROGRAM, "--workers", 1) as server:
@@ -143,7 +153,7 @@ def opening(folder, count):
         size += 5 + len(payload)
     with open(whole, "rb") as held, open(tenth, "wb") as out:
         out.write(held.read(size) + b"\0")
-    times = [min(journal.timed(["check", path], b"") for _ in range(2)) for path in (tenth, whole)]
+    times = [min(opened(path) for _ in range(2)) for path in (tenth, whole)]
     show(f"opening {count // 10} and {count} commits", f"{times[0]:.2f} s and {times[1]:.2f} s ({times[1] / times[0]:.1f})")
 
 
