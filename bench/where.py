@@ -85,7 +85,7 @@ class Times:
     def __init__(self, path, threads):
         self.count, self.taken, self.asleep, self.woken = (collections.Counter() for _ in range(4))
         self.preempted, self.threads = 0, set()
-        inside, out, wakes, began, ended, kept = {}, {}, {}, None, None, None
+        inside, out, wakes, began, ended = {}, {}, {}, None, None
         for thread, now, kind, rest in events(path):
             if kind == "sys_enter" and thread in threads:
                 name = name_of(rest)
