@@ -7,8 +7,8 @@ On a journal of so many keys, 500 commits come at once to `nessie script`. Of th
 when all are answered is counted with the calls that asked for it (bench/live.c), and with 8 bytes of the allocator's own.
 The map at the commit is what `KeyMap::with_changes` asked for, the tables what the paths to their new values took, and the
 rest is the commit's own record: its entry in the log, the commit, its content, its keys. A list that grows by doubling is
-counted as it stands. `--each` tells each way of calls too. The proved program keeps no frames,
-so of it only the sum is told; the parts want one that was built without proofs, and optimised.
+counted as it stands. `--each` tells each way of calls too. The proved program keeps no frames, so of it only the sum is
+told; the parts want one that was built without proofs, and optimised.
 """
 import argparse
 import bisect
