@@ -36,6 +36,7 @@ use cat_names::hash::Hash;
 use cat_names::ref_name::RefName;
 use cat_state::catalogue::Catalogue;
 use cat_state::failure::Failure;
+use cat_state::shared::SharedCatalogue;
 use std::alloc::Global;
 use std::collections::HashSet;
 
@@ -51,6 +52,8 @@ pub(crate) struct Replay {
     /// finds what was live since its opening. None for an entry that made a reference, and for a
     /// sweep.
     pub(crate) taken: Vec<Option<Reference>>,
+    /// An empty catalogue, which takes the place of the ledger's while that is changed.
+    pub(crate) spare: SharedCatalogue,
 }
 
 /// The entry that bytes spell, if they spell one.
@@ -68,6 +71,7 @@ fn read(alloc: Global, payload: &[u8]) -> Result<Option<LogEntry>, NoMemory>
 fn run_again(
     alloc: Global,
     ledger: &mut Ledger,
+    spare: &SharedCatalogue,
     entry: &LogEntry,
     command: &Command,
 ) -> Result<bool, NoMemory>
@@ -78,7 +82,7 @@ fn run_again(
         (RunsAgain (replayed_call sha256 ledger.old entry.now) ledger.old ledger.new) }
 {
     let place = ledger.place();
-    match ledger.replay(alloc, entry, command) {
+    match ledger.replay(alloc, spare, entry, command) {
         // What was told is let go by a call, so that the proof doesn't take each kind of it apart.
         Ok(told) => {
             drop(told);
@@ -193,6 +197,7 @@ impl Replay {
             ledger: Ledger::new(alloc, limits)?,
             drafts: HashSet::new(alloc),
             taken: Vec::new(alloc),
+            spare: SharedCatalogue::new(alloc, limits)?,
         })
     }
 
@@ -238,7 +243,7 @@ impl Replay {
         let references = self.ledger.catalogue().references();
         references.known();
         let found = reference_in(self.ledger.catalogue(), command)?;
-        let ran = run_again(alloc, &mut self.ledger, entry, command)?;
+        let ran = run_again(alloc, &mut self.ledger, &self.spare, entry, command)?;
         if ran {
             self.taken.push(found)?;
         }

@@ -143,5 +143,7 @@ pub(crate) fn with_ids(
         given.give(alloc, id, op, left)?;
         left = op.left_after(left);
     }
+    given.ops.fit();
+    given.contents.fit();
     Ok(given)
 }

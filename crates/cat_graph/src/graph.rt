@@ -165,6 +165,17 @@ impl Graph {
         })
     }
 
+    /// The graph with the commits of a batch, as by [`Graph::with`]. One commit is put in the
+    /// graph's own memory where no other graph shares it.
+    pub fn into_with(self, alloc: Global, more: Batch<Commit>) -> Result<Graph, NoMemory>
+        requires { AreLinked (more.list ++ self) }
+        ensures { IfOk result (λ graph. graph ≡ more.list ++ self) }
+    {
+        Ok(Graph {
+            table: self.table.into_with(alloc, more)?,
+        })
+    }
+
     /// The graph with one commit more. One that is there changes nothing, and another commit under
     /// the hash is a collision.
     pub fn add(&self, alloc: Global, hash: Hash, commit: Commit) -> Result<Graph, AddFault>

@@ -82,4 +82,15 @@ impl Maps {
             table: self.table.with(alloc, more)?,
         })
     }
+
+    /// The maps with those of a batch, as by [`Maps::with`]. One map is put in their own memory where
+    /// no others share it.
+    pub fn into_with(self, alloc: Global, more: Batch<KeyMap>) -> Result<Maps, NoMemory>
+        requires { IsTrue (are_distinct (more.list ++ self)) }
+        ensures { IfOk result (λ maps. maps ≡ more.list ++ self) }
+    {
+        Ok(Maps {
+            table: self.table.into_with(alloc, more)?,
+        })
+    }
 }

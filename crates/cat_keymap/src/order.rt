@@ -80,6 +80,7 @@ fn listed_changes(
     for op in sorted {
         note_change(&mut out, op)?;
     }
+    out.fit();
     Ok(out)
 }
 

@@ -14,7 +14,7 @@ module _ {E T : Type 0} (entries : T → List E) (size : T → ℕ) (least : ℕ
 
   -- ---- what may still be copied
 
-  no_debt : (list : List T) → AreLarge entries size least list → debt entries size least list ≡ 0
+  pub no_debt : (list : List T) → AreLarge entries size least list → debt entries size least list ≡ 0
   no_debt [] large = refl
   no_debt (x ∷ list) large = let yes : nat_le 16 (size x) ≡ true = le-leb 16 (size x) large.0 in rw yes (no_debt list large.1)
 

@@ -16,11 +16,11 @@ use Rattle.cat_ordered.proofs.Splits.{AllUnder, past_all}
 -- ---- what a change leaves of its key
 
 module _ {K V : Type 0} where
-  left_none : (change : K × Option V) → kept change ≡ None → present change ≡ []
+  pub left_none : (change : K × Option V) → kept change ≡ None → present change ≡ []
   left_none (key, None) e = refl
   left_none (key, Some value) e = absurd cc
 
-  left_one : (change : K × Option V) (pair : K × V) → kept change ≡ Some pair → present change ≡ pair ∷ []
+  pub left_one : (change : K × Option V) (pair : K × V) → kept change ≡ Some pair → present change ≡ pair ∷ []
   left_one (key, None) pair e = absurd cc
   left_one (key, Some value) pair e = let same : (key, value) ≡ pair = cc in ap (λ (p : K × V). p ∷ []) same
 
@@ -55,7 +55,7 @@ module _ {K V : Type 0} (cmp : K → K → Ordering) (total : IsTotalOrder cmp) 
       (λ e. let no = other y (record { within = rw e (omega arith); read = rw e refl }) in let yes : is_eq (cmp y.0 key) ≡ true = rw e refl in absurd cc)
       (λ e. rw e refl)
 
-  parts : (map : List (K × V)) (change : K × Option V) → after_change cmp change map ≡ below cmp map change.0 ++ (present change ++ above cmp map change.0)
+  pub parts : (map : List (K × V)) (change : K × Option V) → after_change cmp change map ≡ below cmp map change.0 ++ (present change ++ above cmp map change.0)
   parts [] change = sym (append-nil (present change))
   parts (x ∷ map) change = split3 (cmp x.0 change.0)
       (λ e. rw e (ap (λ (m : List (K × V)). x ∷ m) (parts map change)))

@@ -67,7 +67,7 @@ module _ {E T : Type 0} (entries : T → List E) (size : T → ℕ) (least : ℕ
   pub cut_none : (parts : ℕ) → Cutting parts [] parts
   cut_none parts = record { pieces = tt; large = tt; after = λ some. absurd (omega arith); many = λ many. many }
 
-  cut_more : (parts : ℕ) (list : List T) (left now : ℕ) (x : T) → Cutting parts list left → 64 < left → now + 32 ≡ left → IsPiece (entries x) (size x) least → size x ≡ 32 → Cutting parts (list ++ x ∷ []) now
+  cut_more : (parts : ℕ) (list : List T) (left now : ℕ) (x : T) → Cutting parts list left → 32 < left → now + 16 ≡ left → IsPiece (entries x) (size x) least → size x ≡ 16 → Cutting parts (list ++ x ∷ []) now
   cut_more parts list left now x so_far lt e piece n = record {
     pieces = all_append (λ y. IsPiece (entries y) (size y) least) list (x ∷ []) so_far.pieces (piece, tt);
     large = all_append (λ y. 16 ≤ size y) list (x ∷ []) so_far.large (omega arith, tt);
@@ -120,9 +120,9 @@ module _ {E T : Type 0} (entries : T → List E) (size : T → ℕ) (least : ℕ
 
   -- ---- as the code cuts
 
-  -- 32 parts are cut off
+  -- 16 parts are cut off
   pub cut_off : {Z : Type 0} (map : List E) (parts : ℕ) (out new : List (Arc T Z)) (a : Arc T Z) (x : T) (left now : List E) (n m : ℕ)
-      → Cut map parts (values out) left n → new ≡ out ++ a ∷ [] → arc_value a ≡ x → left ≡ entries x ++ now → IsPiece (entries x) (size x) least → size x ≡ 32 → 64 < n → m + 32 ≡ n
+      → Cut map parts (values out) left n → new ≡ out ++ a ∷ [] → arc_value a ≡ x → left ≡ entries x ++ now → IsPiece (entries x) (size x) least → size x ≡ 16 → 32 < n → m + 16 ≡ n
       → Cut map parts (values new) now m
   cut_off map parts out new a x left now n m so_far e v l piece s lt k =
       let list : values new ≡ values out ++ x ∷ [] = ap values e ∙ map-append arc_value out (a ∷ []) ∙ ap (λ (y : T). values out ++ y ∷ []) v in

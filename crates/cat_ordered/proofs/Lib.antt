@@ -6,6 +6,7 @@ pub mod Found
 pub mod Lists
 pub mod LookUps
 pub mod Order
+pub mod InPlace
 pub mod Seats
 pub mod Splits
 pub mod Steps

@@ -25,7 +25,7 @@ module _ {K V : Type 0} (cmp : K → K → Ordering) (total : IsTotalOrder cmp) 
   below_under k key (x ∷ map) lt under = (under.0 key lt, below_under k key map lt under.1)
 
   -- a change passes over keys below its own
-  past_one : (c : K × Option V) (a b : List (K × V)) → AllBelow cmp total c.0 a → after_change cmp c (a ++ b) ≡ a ++ after_change cmp c b
+  pub past_one : (c : K × Option V) (a b : List (K × V)) → AllBelow cmp total c.0 a → after_change cmp c (a ++ b) ≡ a ++ after_change cmp c b
   past_one c [] b below = refl
   past_one c (x ∷ a) b below = rw below.0 (ap (λ (m : List (K × V)). x ∷ m) (past_one c a b below.1))
 
@@ -45,7 +45,7 @@ module _ {K V : Type 0} (cmp : K → K → Ordering) (total : IsTotalOrder cmp) 
   past_first (d ∷ cs) c a b some e below up = past_from d cs a b (subst (λ (x : K × Option V). AllBelow cmp total x.0 a) e below) up
 
   -- a change leaves what begins above it
-  before : (c : K × Option V) (a b : List (K × V)) → begins_by cmp b c.0 ≡ false → after_change cmp c (a ++ b) ≡ after_change cmp c a ++ b
+  pub before : (c : K × Option V) (a b : List (K × V)) → begins_by cmp b c.0 ≡ false → after_change cmp c (a ++ b) ≡ after_change cmp c a ++ b
   before (key, value) [] [] miss = sym (append-nil (present (key, value)))
   before (key, value) [] (z ∷ b) miss = split3 (cmp z.0 key)
       (λ o. let yes : is_le (cmp z.0 key) ≡ true = rw o refl in absurd cc)

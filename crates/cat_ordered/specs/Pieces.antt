@@ -1,5 +1,5 @@
 -- Pieces of a map, and lists of pieces that a map is made of.
-use Rattle.std.specs.Prelude.{◌≡◌, ◌⊎◌, ℕ, ◌+◌, ◌<◌, ◌≤◌, List, [], ◌∷◌, ◌++◌, length, nat_le, if◌then◌else◌}
+use Rattle.std.specs.Prelude.{◌≡◌, ◌⊎◌, ℕ, ◌+◌, ◌<◌, ◌≤◌, List, [], ◌∷◌, ◌++◌, length, take, drop, nat_le, if◌then◌else◌}
 use Rattle.std.specs.List.{flat_map, AllByRecursion}
 use Rattle.std.specs.declared.cmp.Ordering.{Ordering}
 use Rattle.cat_ordered.specs.Maps.{IsMap}
@@ -66,6 +66,11 @@ module _ {E T : Type 0} (entries : T → List E) (size : T → ℕ) (least : ℕ
     pub few : copied ≤ 128
     pub level : AreLarge more → copied + debt list ≤ debt old
     pub spent : copied + debt list ≤ debt old + 128
+
+  -- the list is made of others, among which more pieces stand at a place
+  pub record Inserts (others : List T) (i : ℕ) (more list : List T) : Type 0 where
+    pub whole : flat_map entries list ≡ flat_map entries (take i others) ++ (flat_map entries more ++ flat_map entries (drop i others))
+    pub fine : AreFine list
 
   -- the list is what a longer one of so many parts was cut into
   pub record Cuts (map : List E) (parts : ℕ) (list : List T) : Type 0 where

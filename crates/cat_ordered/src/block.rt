@@ -1,10 +1,10 @@
 //! Blocks of pairs.
 
-ghost use Rattle.std.specs.Prelude.{◌≡◌, ◌+◌, ◌*◌, ◌^◌, ◌<◌, ◌≤◌, ◌++◌, None, IfOk, OnOk, IsTrue, length, take, drop};
+ghost use Rattle.std.specs.Prelude.{◌≡◌, ◌+◌, ◌*◌, ◌^◌, ◌<◌, ◌≤◌, ◌++◌, None, IfOk, OnOk, IsTrue, true, false, length, take, drop};
 ghost use Rattle.std.specs.Option.{option_map};
 ghost use Rattle.std.specs.Ordering.{is_lt, is_eq};
 ghost use Rattle.cat_codes.specs.Code.{ascends};
-ghost use Rattle.cat_ordered.specs.Maps.{IsMap, value_of, present, after_changes};
+ghost use Rattle.cat_ordered.specs.Maps.{IsMap, value_of, present, after_change, after_changes};
 ghost use Rattle.cat_ordered.specs.Pieces.{Cuts};
 ghost use Rattle.cat_ordered.specs.Places.{place_of};
 ghost use Rattle.cat_ordered.specs.Places;
@@ -12,7 +12,7 @@ ghost use Rattle.cat_ordered.specs.Shared.{values};
 
 use crate::change::Change;
 use crate::pair::Pair;
-use crate::piece::{MOST, Made, Piece};
+use crate::piece::{LEAST, MOST, Made, Piece};
 use crate::seek::Seek;
 use std::alloc::{AllocError, Global};
 use std::sync::Arc;
@@ -176,7 +176,82 @@ fn changed_pairs<K: Ord + Drop, V: Drop>(
     Ok(out)
 }
 
-/// Pairs as blocks of at most 64.
+/// Whether the key is there, given its place.
+fn is_there<K: Ord, V>(pairs: &[Pair<K, V>], at: usize, key: &K) -> bool
+    requires { at ≡ place_of K.cmp pairs.now key.now }
+    ensures there { result ≡ true
+        → (at < length pairs.now) × (drop (at + 1) pairs.now ≡ Places.above K.cmp pairs.now key.now) }
+    ensures other { result ≡ false → drop at pairs.now ≡ Places.above K.cmp pairs.now key.now }
+{
+    if at >= pairs.len() {
+        return false;
+    }
+    has_key(&pairs[at], key)
+}
+
+/// Puts what a change leaves of its key in place of a pair.
+fn set_at<K: Drop, V: Drop>(
+    pairs: &mut Vec<Pair<K, V>>,
+    at: usize,
+    change: &Change<K, V>,
+) -> Result<(), AllocError>
+    requires { at < length pairs.old.items }
+    ensures { OnOk result
+        (pairs.new.items
+        ≡ take at pairs.old.items ++ (present change.now ++ drop (at + 1) pairs.old.items)) }
+{
+    match change.pair()? {
+        None => {
+            drop(pairs.remove(at));
+            Ok(())
+        }
+        Some(pair) => {
+            pairs[at] = pair;
+            Ok(())
+        }
+    }
+}
+
+/// Puts in what a change leaves of its key.
+fn insert_at<K: Drop, V: Drop>(
+    pairs: &mut Vec<Pair<K, V>>,
+    at: usize,
+    change: &Change<K, V>,
+) -> Result<(), AllocError>
+    requires { at ≤ length pairs.old.items }
+    ensures { OnOk result
+        (pairs.new.items
+        ≡ take at pairs.old.items ++ (present change.now ++ drop at pairs.old.items)) }
+{
+    match change.pair()? {
+        None => Ok(()),
+        Some(pair) => {
+            pairs.insert(at, pair)?;
+            Ok(())
+        }
+    }
+}
+
+/// Makes a change in the pairs' own memory.
+fn change_pairs<K: Ord + Drop, V: Drop>(
+    pairs: &mut Vec<Pair<K, V>>,
+    change: &Change<K, V>,
+) -> Result<(), AllocError>
+    requires { IsMap K.cmp pairs.old.items }
+    ensures { OnOk result (pairs.new.items ≡ after_change K.cmp change.now pairs.old.items) }
+{
+    let key = change.key();
+    let (at, _) = place(pairs.as_slice(), key);
+    if is_there(pairs.as_slice(), at, key) {
+        set_at(pairs, at, change)?;
+        Ok(())
+    } else {
+        insert_at(pairs, at, change)?;
+        Ok(())
+    }
+}
+
+/// Pairs as blocks of at most 32.
 fn blocks<K: Drop, V: Drop>(
     alloc: Global,
     pairs: Vec<Pair<K, V>>,
@@ -188,7 +263,7 @@ fn blocks<K: Drop, V: Drop>(
     let mut out = Vec::new(alloc);
     let mut rest = pairs;
     while rest.len() > MOST {
-        let others = rest.split_off(MOST / 2)?;
+        let others = rest.split_off(LEAST)?;
         rest.shrink_to_fit();
         out.push(Arc::new(alloc, Block { pairs: rest })?)?;
         rest = others;
@@ -214,7 +289,7 @@ fn joined_pairs<K: Drop, V: Drop>(
     Ok(pairs)
 }
 
-/// Pairs that were copied, as blocks of at most 64.
+/// Pairs that were copied, as blocks of at most 32.
 fn copied_blocks<K: Drop, V: Drop>(
     alloc: Global,
     pairs: Vec<Pair<K, V>>,
@@ -277,6 +352,23 @@ impl<K: Ord + Drop, V: Drop> Piece<K, V> for Block<K, V> {
         let pairs = changed_pairs(alloc, self.pairs.as_slice(), changes)?;
         let made = copied_blocks(alloc, pairs)?;
         Ok(made)
+    }
+
+    fn into_changed(
+        self,
+        alloc: Global,
+        changes: &[Change<K, V>],
+    ) -> Result<Made<Block<K, V>>, AllocError> {
+        if changes.len() > 1 {
+            let made = self.changed(alloc, changes)?;
+            return Ok(made);
+        }
+        let mut pairs = self.pairs;
+        change_pairs(&mut pairs, &changes[0])?;
+        Ok(Made {
+            pieces: blocks(alloc, pairs)?,
+            copied: 0,
+        })
     }
 
     fn joined(&self, alloc: Global, next: &Block<K, V>) -> Result<Made<Block<K, V>>, AllocError> {

@@ -8,11 +8,12 @@ ghost use Rattle.cat_ordered.specs.Places.{place_of};
 
 use crate::block::Block;
 use crate::change::Change;
+use crate::owned::Grown;
 use crate::pair::Pair;
 use crate::run::Run;
 use crate::seek::Seek;
 use crate::walk::Walk;
-use crate::{growing, pieces};
+use crate::{growing, owned, pieces};
 use std::alloc::{AllocError, Global};
 use std::marker::Model;
 use std::sync::Arc;
@@ -148,6 +149,33 @@ impl<K: Ord + Drop, V: Drop> OrderedMap<K, V> {
     {
         let (map, _) = self.with_changes_counted(alloc, changes)?;
         Ok(map)
+    }
+
+    /// The map after changes whose keys ascend, as by [`OrderedMap::with_changes`]. By one change
+    /// the parts of the map that it meets are changed in their own memory where no other map shares
+    /// them.
+    pub fn into_changes(
+        self,
+        alloc: Global,
+        changes: &[Change<K, V>],
+    ) -> Result<OrderedMap<K, V>, AllocError>
+        requires { IsTrue (ascends K.cmp None changes.now) }
+        ensures { IfOk result (λ map. map ≡ after_changes K.cmp changes.now self) }
+    {
+        if changes.is_empty() {
+            return Ok(self);
+        }
+        let Grown { made, len } = owned::into_changed(alloc, self.root, self.len, changes)?;
+        let Some(len) = pieces::counted::<K, V, Run<K, V, Run<K, V, Block<K, V>>>>(
+            made.pieces.as_slice(),
+            len,
+        ) else {
+            return Err(AllocError);
+        };
+        Ok(OrderedMap {
+            root: made.pieces,
+            len,
+        })
     }
 
     /// The pairs from a place on, up to the end of their block.

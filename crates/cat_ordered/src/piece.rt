@@ -17,8 +17,9 @@ use std::sync::Arc;
 /// The fewest parts of a piece that has neighbours.
 pub(crate) const LEAST: usize = 16;
 
-/// The most parts of a piece.
-pub(crate) const MOST: usize = 64;
+/// The most parts of a piece that is made: of more, pieces of [`LEAST`] are cut off. Contracts hold
+/// for twice as many.
+pub(crate) const MOST: usize = 32;
 
 /// Pieces that were made, and how many pairs were copied to make them.
 #[derive(Drop)]
@@ -87,6 +88,18 @@ pub(crate) trait Piece<K: Ord, V>: Drop {
         requires fits { size self.now ≤ 64 }
         ensures made { IfOk result
             (λ made. Makes entries size least (after_changes K.cmp changes.now (entries self.now))
+            (values made.pieces.items)) }
+        ensures few { IfOk result (λ made. made.copied ≤ rate * length changes.now) };
+
+    /// The pieces that it becomes by changes, as by [`Piece::changed`]. By one change it is changed
+    /// in its own memory, and so is each of its parts that nobody else owns.
+    fn into_changed(self, alloc: Global, changes: &[Change<K, V>]) -> Result<Made<Self>, AllocError>
+        requires map { IsMap K.cmp (entries self) }
+        requires ascend { IsTrue (ascends K.cmp None changes.now) }
+        requires some { 0 < length changes.now }
+        requires fits { size self ≤ 64 }
+        ensures made { IfOk result
+            (λ made. Makes entries size least (after_changes K.cmp changes.now (entries self))
             (values made.pieces.items)) }
         ensures few { IfOk result (λ made. made.copied ≤ rate * length changes.now) };
 

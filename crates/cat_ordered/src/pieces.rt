@@ -1,6 +1,6 @@
 //! Looking up in lists of pieces that make a map.
 
-ghost use Rattle.std.specs.Prelude.{◌≡◌, ◌⊎◌, ◌<◌, ◌≤◌, ◌+◌, ◌*◌, ◌^◌, None, MatchOption, true, false, length, take, drop};
+ghost use Rattle.std.specs.Prelude.{◌≡◌, ◌⊎◌, ◌<◌, ◌≤◌, ◌+◌, ◌*◌, ◌^◌, None, IfSome, MatchOption, true, false, length, take, drop};
 ghost use Rattle.std.specs.Arc.{arc_value};
 ghost use Rattle.std.specs.List.{flat_map};
 ghost use Rattle.std.specs.Option.{option_map};
@@ -81,7 +81,7 @@ pub(crate) fn found<'a, K: Ord, V, P: Piece<K, V>, Q: Seek<K>>(
 }
 
 /// How many pairs the piece has.
-fn len_of<K: Ord, V, P: Piece<K, V>>(piece: &Arc<P>) -> usize
+pub(crate) fn len_of<K: Ord, V, P: Piece<K, V>>(piece: &Arc<P>) -> usize
     ensures { result ≡ length (P.entries (arc_value piece.now)) }
 {
     piece.len()
@@ -100,6 +100,21 @@ pub(crate) fn total<K: Ord, V, P: Piece<K, V>>(pieces: &[Arc<P>]) -> Option<usiz
         sum = more;
     }
     Some(sum)
+}
+
+/// How many pairs the pieces have, where a number can say it. They are counted unless it is known.
+pub(crate) fn counted<K: Ord, V, P: Piece<K, V>>(
+    pieces: &[Arc<P>],
+    known: Option<usize>,
+) -> Option<usize>
+    requires { IfSome known (λ n. n ≡ length (flat_map P.entries (values pieces.now))) }
+    ensures { MatchOption result (2 ^ 64 ≤ length (flat_map P.entries (values pieces.now)))
+        (λ n. n ≡ length (flat_map P.entries (values pieces.now))) }
+{
+    match known {
+        None => total::<K, V, P>(pieces),
+        Some(len) => Some(len),
+    }
 }
 
 /// The first pieces.

@@ -1,15 +1,16 @@
 //! Runs of pieces.
 
-ghost use Rattle.std.specs.Prelude.{◌≡◌, ◌*◌, ◌+◌, None, IfOk, IsTrue, length};
+ghost use Rattle.std.specs.Prelude.{◌≡◌, ◌*◌, ◌+◌, ◌<◌, ◌≤◌, None, IfOk, IfSome, IsTrue, length};
 ghost use Rattle.std.specs.List.{flat_map};
 ghost use Rattle.cat_ordered.specs.Pieces.{AreFine, Cuts};
 ghost use Rattle.cat_ordered.specs.Shared.{values};
 
 use crate::change::Change;
+use crate::owned::Grown;
 use crate::pair::Pair;
-use crate::piece::{MOST, Made, Piece};
+use crate::piece::{LEAST, MOST, Made, Piece};
 use crate::seek::Seek;
-use crate::{growing, pieces};
+use crate::{growing, owned, pieces};
 use std::alloc::{AllocError, Global};
 use std::marker::{Model, PhantomData};
 use std::sync::Arc;
@@ -58,7 +59,7 @@ fn run_of<K: Ord, V, P: Piece<K, V>>(pieces: Vec<Arc<P>>) -> Result<Run<K, V, P>
     })
 }
 
-/// Pieces as runs of at most 64.
+/// Pieces as runs of at most 32.
 fn runs<K: Ord, V, P: Piece<K, V>>(
     alloc: Global,
     pieces: Vec<Arc<P>>,
@@ -71,7 +72,7 @@ fn runs<K: Ord, V, P: Piece<K, V>>(
     let mut out = Vec::new(alloc);
     let mut rest = pieces;
     while rest.len() > MOST {
-        let others = rest.split_off(MOST / 2)?;
+        let others = rest.split_off(LEAST)?;
         rest.shrink_to_fit();
         let run = run_of(rest)?;
         out.push(Arc::new(alloc, run)?)?;
@@ -83,6 +84,55 @@ fn runs<K: Ord, V, P: Piece<K, V>>(
     let last = run_of(rest)?;
     out.push(Arc::new(alloc, last)?)?;
     Ok(out)
+}
+
+/// Pieces as one run, given how many pairs they have.
+fn one_run<K: Ord, V, P: Piece<K, V>>(
+    alloc: Global,
+    pieces: Vec<Arc<P>>,
+    len: usize,
+) -> Result<Vec<Arc<Run<K, V, P>>>, AllocError>
+    requires fine { AreFine P.entries P.size P.least (values pieces.items) }
+    requires some { 0 < length pieces.items }
+    requires few { length pieces.items ≤ 64 }
+    requires count { len ≡ length (flat_map P.entries (values pieces.items)) }
+    ensures { IfOk result
+        (λ v. Cuts (λ r. r.entries) (λ r. r.size) (16 * P.least)
+        (flat_map P.entries (values pieces.items)) (length pieces.items) (values v.items)) }
+{
+    let run = Run {
+        pieces,
+        len,
+        of: PhantomData,
+    };
+    let mut out = Vec::new(alloc);
+    out.push(Arc::new(alloc, run)?)?;
+    Ok(out)
+}
+
+/// Pieces as runs of at most 32. They aren't counted where it is known how many pairs they have,
+/// and one run is enough.
+fn counted_runs<K: Ord, V, P: Piece<K, V>>(
+    alloc: Global,
+    pieces: Vec<Arc<P>>,
+    len: Option<usize>,
+) -> Result<Vec<Arc<Run<K, V, P>>>, AllocError>
+    requires fine { AreFine P.entries P.size P.least (values pieces.items) }
+    requires count { IfSome len (λ n. n ≡ length (flat_map P.entries (values pieces.items))) }
+    ensures { IfOk result
+        (λ v. Cuts (λ r. r.entries) (λ r. r.size) (16 * P.least)
+        (flat_map P.entries (values pieces.items)) (length pieces.items) (values v.items)) }
+{
+    let Some(len) = len else {
+        return runs(alloc, pieces);
+    };
+    if pieces.is_empty() {
+        return runs(alloc, pieces);
+    }
+    if pieces.len() > MOST {
+        return runs(alloc, pieces);
+    }
+    one_run(alloc, pieces, len)
 }
 
 impl<K: Ord, V, P: Piece<K, V>> Piece<K, V> for Run<K, V, P> {
@@ -134,6 +184,18 @@ impl<K: Ord, V, P: Piece<K, V>> Piece<K, V> for Run<K, V, P> {
         let made = growing::changed(alloc, self.pieces.as_slice(), changes)?;
         Ok(Made {
             pieces: runs(alloc, made.pieces)?,
+            copied: made.copied,
+        })
+    }
+
+    fn into_changed(
+        self,
+        alloc: Global,
+        changes: &[Change<K, V>],
+    ) -> Result<Made<Run<K, V, P>>, AllocError> {
+        let Grown { made, len } = owned::into_changed(alloc, self.pieces, self.len, changes)?;
+        Ok(Made {
+            pieces: counted_runs(alloc, made.pieces, len)?,
             copied: made.copied,
         })
     }

@@ -30,6 +30,23 @@ fn references_with(
     }
 }
 
+/// The references after one of them is made, moved or removed, in their own memory where no others
+/// share it.
+fn into_references_with(
+    alloc: Global,
+    references: References,
+    change: ReferenceChange,
+) -> Result<References, NoMemory>
+    requires { HasNewName references change }
+    ensures { IfOk result (λ made. made ≡ changed_references references change) }
+{
+    match change {
+        ReferenceChange::Made(reference) => references.into_with(alloc, reference),
+        ReferenceChange::Moved(reference) => references.into_moved(alloc, reference),
+        ReferenceChange::Removed(name) => references.into_without(alloc, &name),
+    }
+}
+
 impl Catalogue {
     /// The catalogue after a sweep, at the next place: without the contents of these hashes. It
     /// shares with this one all else.
@@ -70,6 +87,31 @@ impl Catalogue {
             commits: self.commits.with(alloc, commits)?,
             maps: self.maps.with(alloc, maps)?,
             contents: self.contents.with(alloc, contents)?,
+            limits: self.limits,
+        })
+    }
+
+    /// The catalogue after a change, as by [`Catalogue::after`]. What the change meets is changed in
+    /// its own memory where no other catalogue shares it.
+    pub fn into_after(self, alloc: Global, change: Change) -> Result<Catalogue, NoMemory>
+        requires { MayBeMade self change }
+        ensures { IfOk result (λ catalogue. catalogue ≡ applied self change) }
+    {
+        let Change {
+            additions,
+            reference,
+        } = change;
+        let Additions {
+            contents,
+            commits,
+            maps,
+        } = additions;
+        Ok(Catalogue {
+            place: self.place + 1,
+            references: into_references_with(alloc, self.references, reference)?,
+            commits: self.commits.into_with(alloc, commits)?,
+            maps: self.maps.into_with(alloc, maps)?,
+            contents: self.contents.into_with(alloc, contents)?,
             limits: self.limits,
         })
     }

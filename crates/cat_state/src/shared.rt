@@ -22,6 +22,7 @@ use cat_model::log_entry::LogEntry;
 use cat_names::hash::Hash;
 use std::alloc::Global;
 use std::marker::Model;
+use std::mem;
 use std::sync::Arc;
 
 /// A catalogue that views may share. A change puts another in its place, and a view's stays as it
@@ -45,6 +46,23 @@ fn sharing(alloc: Global, catalogue: Catalogue) -> Result<Arc<Catalogue>, NoMemo
     ensures { IfOk result (λ shared. catalogue_in shared ≡ catalogue) }
 {
     Ok(Arc::new(alloc, catalogue)?)
+}
+
+/// The catalogue after a change, which is changed in its own memory where nothing shares it.
+fn renewed(alloc: Global, old: Arc<Catalogue>, change: Change) -> Result<Arc<Catalogue>, NoMemory>
+    requires { MayBeMade (catalogue_in old) change }
+    ensures { IfOk result (λ next. catalogue_in next ≡ applied (catalogue_in old) change) }
+{
+    match Arc::try_unwrap(old) {
+        Ok(own) => {
+            let next = own.into_after(alloc, change)?;
+            sharing(alloc, next)
+        }
+        Err(shared) => {
+            let next = shared.after(alloc, change)?;
+            sharing(alloc, next)
+        }
+    }
 }
 
 impl SharedCatalogue {
@@ -184,14 +202,21 @@ impl SharedCatalogue {
         Ok(())
     }
 
-    /// Puts the catalogue after a change in the place of the old one; or changes nothing. Views
+    /// Puts the catalogue after a change in the place of the old one, which is changed in its own
+    /// memory where nothing shares it. Where it fails, the catalogue may be the spare one. Views
     /// keep the old one.
-    pub fn apply(&mut self, alloc: Global, change: Change) -> Result<(), NoMemory>
+    pub fn renew(
+        &mut self,
+        alloc: Global,
+        spare: &SharedCatalogue,
+        change: Change,
+    ) -> Result<(), NoMemory>
         requires { MayBeMade self.old change }
-        ensures ok { OnOk result (self.new ≡ applied self.old change) }
-        ensures err { OnErr result (self.new ≡ self.old) }
+        ensures { OnOk result (self.new ≡ applied self.old change) }
     {
-        self.catalogue = self.next(alloc, change)?;
+        let other = Arc::try_clone(&spare.catalogue)?;
+        let old = mem::replace(&mut self.catalogue, other);
+        self.catalogue = renewed(alloc, old, change)?;
         Ok(())
     }
 }

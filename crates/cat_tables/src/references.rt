@@ -178,4 +178,46 @@ impl References {
             named: self.named.with_changes(alloc, &[change])?,
         })
     }
+
+    /// The references with one more, as by [`References::with`], in their own memory where no others
+    /// share it.
+    pub fn into_with(self, alloc: Global, reference: Reference) -> Result<References, NoMemory>
+        requires { reference_of self reference.name ≡ None }
+        ensures { IfOk result (λ made. made ≡ with_reference self reference) }
+    {
+        let name = reference.name.clone()?;
+        let change = Change::put(alloc, name, reference)?;
+        Ok(References {
+            named: self.named.into_changes(alloc, &[change])?,
+        })
+    }
+
+    /// The references with the one of this name set to it, as by [`References::with_moved`], in
+    /// their own memory where no others share it.
+    pub fn into_moved(self, alloc: Global, moved: Reference) -> Result<References, NoMemory>
+        ensures { IfOk result (λ made. made ≡ moved_reference self moved) }
+    {
+        self.known();
+        if self.get(&moved.name).is_none() {
+            return Ok(self);
+        }
+        let name = moved.name.clone()?;
+        let change = Change::put(alloc, name, moved)?;
+        Ok(References {
+            named: self.named.into_changes(alloc, &[change])?,
+        })
+    }
+
+    /// The references without the one of a name, as by [`References::without`], in their own memory
+    /// where no others share it.
+    pub fn into_without(self, alloc: Global, name: &RefName) -> Result<References, NoMemory>
+        ensures { IfOk result (λ made. made ≡ without_reference self name.now) }
+    {
+        self.known();
+        let gone = name.clone()?;
+        let change = Change::remove(alloc, gone)?;
+        Ok(References {
+            named: self.named.into_changes(alloc, &[change])?,
+        })
+    }
 }

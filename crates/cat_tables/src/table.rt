@@ -138,6 +138,20 @@ impl<V: Drop> Table<V> {
         })
     }
 
+    /// The table with the values of a batch, as by [`Table::with`]. One value is put in the table's
+    /// own memory where no other table shares it.
+    pub fn into_with(self, alloc: Global, more: Batch<V>) -> Result<Table<V>, NoMemory>
+        requires { IsTrue (are_distinct (more.list ++ self)) }
+        ensures { IfOk result (λ table. table ≡ more.list ++ self) }
+    {
+        let next = self.next.checked_add(more.len()).ok_or(NoMemory)?;
+        let changes = sorted_changes(alloc, self.next, more.items)?;
+        Ok(Table {
+            placed: self.placed.into_changes(alloc, changes.as_slice())?,
+            next,
+        })
+    }
+
     /// The table without the values of these hashes, which may come in any order and more than
     /// once, and need not be there. The order of the others stays. It sorts the hashes once.
     pub fn without(&self, alloc: Global, hashes: &[Hash]) -> Result<Table<V>, NoMemory>

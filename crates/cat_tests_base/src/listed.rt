@@ -52,6 +52,21 @@ fn next(seed: u64) -> u64 {
         .wrapping_add(1442695040888963407)
 }
 
+/// Whether a map of so many numbers stays as it is while a copy of it is changed.
+fn stays(alloc: Global, count: u64) -> Result<bool, AllocError> {
+    let mut map = OrderedMap::new(alloc);
+    let mut list = Vec::new(alloc);
+    for n in 0..count {
+        put(&mut list, n, n)?;
+        map = map.into_changes(alloc, &[Change::put(alloc, n, n)?])?;
+    }
+    let mut copy = map.clone()?;
+    for n in 0..count {
+        copy = copy.into_changes(alloc, &[Change::remove(alloc, n)?])?;
+    }
+    Ok(copy.is_empty() && is_same(&map, list.as_slice()))
+}
+
 /// Whether a map and a list are the same after so many changes of numbers below a bound, one in
 /// four of which takes a number away.
 fn agree(alloc: Global, below: u64, changes: u32) -> Result<bool, AllocError> {
@@ -68,7 +83,11 @@ fn agree(alloc: Global, below: u64, changes: u32) -> Result<bool, AllocError> {
             put(&mut list, n, seed)?;
             Change::put(alloc, n, seed)?
         };
-        map = map.with_changes(alloc, &[change])?;
+        map = if (seed >> 22) % 2 == 0 {
+            map.with_changes(alloc, &[change])?
+        } else {
+            map.into_changes(alloc, &[change])?
+        };
         if list.len() < 140 && !is_same(&map, list.as_slice()) {
             return Ok(false);
         }
@@ -83,4 +102,12 @@ fn a_map_and_a_list_agree_at_each_size(rt: HostRuntime) {
         assert!(rt; agree(alloc, below, 3000) == Ok(true));
     }
     assert!(rt; agree(alloc, 100_000, 9000) == Ok(true));
+}
+
+#[test]
+fn a_map_stays_while_a_copy_is_changed_in_its_own_memory(rt: HostRuntime) {
+    let alloc = rt.alloc();
+    for count in [1, 16, 33, 600, 2000] {
+        assert!(rt; stays(alloc, count) == Ok(true));
+    }
 }

@@ -16,11 +16,19 @@ use cat_decisions::decision::{Decision, Making};
 use cat_model::log_entry::LogEntry;
 use cat_model::reply::Told;
 use cat_state::change::Change;
+use cat_state::shared::SharedCatalogue;
 use std::alloc::Global;
 
 impl Ledger {
-    /// Makes a change whose entry is kept already: that of a log which is executed again.
-    fn remake(&mut self, alloc: Global, entry: LogEntry, change: Change) -> Result<(), NoMemory>
+    /// Makes a change whose entry is kept already: that of a log which is executed again. Where it
+    /// fails, the catalogue may be the spare one.
+    fn remake(
+        &mut self,
+        alloc: Global,
+        spare: &SharedCatalogue,
+        entry: LogEntry,
+        change: Change,
+    ) -> Result<(), NoMemory>
         requires { MayBeMade self.old.state change }
         ensures { OnOk result
             (self.new ≡ with_entry self.old (applied self.old.state change) entry) }
@@ -30,7 +38,7 @@ impl Ledger {
             drop(change);
             return Err(NoMemory);
         }
-        match self.catalogue.apply(alloc, change) {
+        match self.catalogue.renew(alloc, spare, change) {
             Ok(()) => {
                 self.log.push_reserved(entry);
                 Ok(())
@@ -44,7 +52,13 @@ impl Ledger {
 
     /// Makes the change that a call comes to again, with its entry, and tells the reply at the next
     /// place.
-    fn change_again(&mut self, alloc: Global, turn: Turn, making: Making) -> Result<Told, NoMemory>
+    fn change_again(
+        &mut self,
+        alloc: Global,
+        spare: &SharedCatalogue,
+        turn: Turn,
+        making: Making,
+    ) -> Result<Told, NoMemory>
         requires { MayBeMade self.old.state making.change }
         ensures ok { OnOk result (self.new ≡ made_book self.old turn making) }
         ensures told { IfOk result (λ told. told ≡ made_told self.old making) }
@@ -57,7 +71,7 @@ impl Ledger {
         } = making;
         let place = self.place() + 1;
         let made = entry(place, turn, command, head);
-        match self.remake(alloc, made, change) {
+        match self.remake(alloc, spare, made, change) {
             Ok(()) => Ok(Told { place, reply }),
             Err(_) => {
                 drop(reply);
@@ -71,6 +85,7 @@ impl Ledger {
     pub(crate) fn redo(
         &mut self,
         alloc: Global,
+        spare: &SharedCatalogue,
         turn: Turn,
         decision: Decision,
     ) -> Result<Told, NoMemory>
@@ -86,7 +101,7 @@ impl Ledger {
         self.take(turn.draft);
         match decision {
             Decision::Told(reply) => Ok(self.told(reply)),
-            Decision::Made(making) => self.change_again(alloc, turn, making),
+            Decision::Made(making) => self.change_again(alloc, spare, turn, making),
         }
     }
 }

@@ -20,6 +20,7 @@ use cat_model::command::Command;
 use cat_model::log_entry::LogEntry;
 use cat_model::reply::Told;
 use cat_state::failure::Failure;
+use cat_state::shared::SharedCatalogue;
 use std::alloc::Global;
 
 impl Ledger {
@@ -71,10 +72,12 @@ impl Ledger {
         }
     }
 
-    /// Makes the call of an entry of a log again, in its own draft.
+    /// Makes the call of an entry of a log again, in its own draft. Where memory runs out, its
+    /// catalogue may be the spare one.
     pub fn replay(
         &mut self,
         alloc: Global,
+        spare: &SharedCatalogue,
         entry: &LogEntry,
         command: &Command,
     ) -> Result<Told, Failure>
@@ -90,7 +93,7 @@ impl Ledger {
             opened: self.place(),
             moment: entry.moment,
         };
-        let told = self.redo(alloc, turn, decision)?;
+        let told = self.redo(alloc, spare, turn, decision)?;
         Ok(told)
     }
 }

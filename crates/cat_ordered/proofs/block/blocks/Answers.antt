@@ -12,12 +12,12 @@ loop-rest-init g c = rw c.new-out.ensures.items (cut_start _ _ _ _ _)
 pub loop-rest-preserved : goal.loop-rest-preserved
 loop-rest-preserved g c =
     let rest = c.loop-rest.rest.items in
-    let lt : 64 < length rest = omega arith in
+    let lt : 32 < length rest = omega arith in
     let front = c.shrink_to_fit.ensures.items ∙ c.in_ok-others.ensures.items in
     let back = c.in_ok-others.ensures.tail in
-    let size : length c.shrink_to_fit.new.self.items ≡ 32 = ap length front ∙ length_of_take 32 rest (omega arith) in
-    let left : length c.in_ok-others.others.items + 32 ≡ length rest = rw back (length_of_drop 32 rest (omega arith)) in
-    let parts : rest ≡ c.shrink_to_fit.new.self.items ++ c.in_ok-others.others.items = rw (front, back) (take_drop 32 rest) in
+    let size : length c.shrink_to_fit.new.self.items ≡ 16 = ap length front ∙ length_of_take 16 rest (omega arith) in
+    let left : length c.in_ok-others.others.items + 16 ≡ length rest = rw back (length_of_drop 16 rest (omega arith)) in
+    let parts : rest ≡ c.shrink_to_fit.new.self.items ++ c.in_ok-others.others.items = rw (front, back) (take_drop 16 rest) in
     cut_off _ _ _ c.args.pairs.items (length c.args.pairs.items) c.loop-rest.out.items c.push.new.self.items c.in_ok-new.field-0 _ rest c.in_ok-others.others.items (length rest) (length c.in_ok-others.others.items)
     c.loop-rest.invariant c.in_ok-push.ensures.items c.in_ok-new.ensures.ok parts (block_piece c.shrink_to_fit.new.self.items (omega arith) (omega arith)) size lt left
 

@@ -12,20 +12,20 @@ pub loop-rest-init : goal.loop-rest-init
 loop-rest-init g c = record { fine = c.requires; cut = rw c.new-out.ensures.items (cut_start _ _ _ _ _) }
 
 pub run_of-requires : goal.run_of-requires
-run_of-requires g c = fine_front g.P.Piece.entries g.P.Piece.size g.P.Piece.least c.loop-rest.rest.items _ 32 (c.shrink_to_fit.ensures.items ∙ c.in_ok-others.ensures.items) c.loop-rest.invariant.fine
+run_of-requires g c = fine_front g.P.Piece.entries g.P.Piece.size g.P.Piece.least c.loop-rest.rest.items _ 16 (c.shrink_to_fit.ensures.items ∙ c.in_ok-others.ensures.items) c.loop-rest.invariant.fine
 
 pub loop-rest-preserved : goal.loop-rest-preserved
 loop-rest-preserved g c =
     let rest = c.loop-rest.rest.items in
-    let lt : 64 < length rest = omega arith in
+    let lt : 32 < length rest = omega arith in
     let front = c.shrink_to_fit.ensures.items ∙ c.in_ok-others.ensures.items in
     let back = c.in_ok-others.ensures.tail in
-    let size : length c.shrink_to_fit.new.self.items ≡ 32 = ap length front ∙ length_of_take 32 rest (omega arith) in
-    let left : length c.in_ok-others.others.items + 32 ≡ length rest = rw back (length_of_drop 32 rest (omega arith)) in
-    let parts : rest ≡ c.shrink_to_fit.new.self.items ++ c.in_ok-others.others.items = rw (front, back) (take_drop 32 rest) in
-    let fine = fine_front g.P.Piece.entries g.P.Piece.size g.P.Piece.least rest c.shrink_to_fit.new.self.items 32 front c.loop-rest.invariant.fine in
+    let size : length c.shrink_to_fit.new.self.items ≡ 16 = ap length front ∙ length_of_take 16 rest (omega arith) in
+    let left : length c.in_ok-others.others.items + 16 ≡ length rest = rw back (length_of_drop 16 rest (omega arith)) in
+    let parts : rest ≡ c.shrink_to_fit.new.self.items ++ c.in_ok-others.others.items = rw (front, back) (take_drop 16 rest) in
+    let fine = fine_front g.P.Piece.entries g.P.Piece.size g.P.Piece.least rest c.shrink_to_fit.new.self.items 16 front c.loop-rest.invariant.fine in
     record {
-      fine = fine_rest g.P.Piece.entries g.P.Piece.size g.P.Piece.least rest c.in_ok-others.others.items 32 back c.loop-rest.invariant.fine;
+      fine = fine_rest g.P.Piece.entries g.P.Piece.size g.P.Piece.least rest c.in_ok-others.others.items 16 back c.loop-rest.invariant.fine;
       cut =
           cut_off _ _ _ (flat_map g.P.Piece.entries (values c.args.pieces.items)) (length c.args.pieces.items) c.loop-rest.out.items c.push.new.self.items c.in_ok-new.field-0
           (record { entries = flat_map g.P.Piece.entries (values c.shrink_to_fit.new.self.items); size = length c.shrink_to_fit.new.self.items })
