@@ -1,6 +1,6 @@
 //! Commits and their chains.
 
-ghost use Rattle.std.specs.Prelude.{◌≡◌, ◌≢◌, ◌≤◌, ◌<◌, ◌+◌, ◌-◌, ◌↔◌, [], ◌∷◌, ◌++◌, None, Err, IfOk, IsOk, IsTrue, OnOk, OnErr, length, nat_eq, slice_get, take, drop};
+ghost use Rattle.std.specs.Prelude.{◌≡◌, ◌≢◌, ◌≤◌, ◌<◌, ◌+◌, ◌-◌, ◌↔◌, [], ◌∷◌, ◌++◌, None, Err, IfOk, IsOk, IsTrue, OnOk, OnErr, length, nat_eq, reverse, slice_get, take, drop};
 ghost use Rattle.std.specs.Option.{is_some, option_map};
 ghost use Rattle.sha2.specs.Sha256.{sha256};
 ghost use Rattle.cat_model.specs.State.{no_ancestor};
@@ -70,6 +70,13 @@ impl Graph {
         ensures { AreLinked self.now }
     {
         let _ = &self.table;
+    }
+
+    /// The commits under their hashes, in the order in which they came.
+    pub fn oldest_first(&self, alloc: Global) -> Result<Vec<(&Hash, &Commit)>, NoMemory>
+        ensures { IfOk result (λ pairs. values pairs.items ≡ reverse self.now) }
+    {
+        self.table.by_arrival(alloc)
     }
 
     /// How many commits there are.

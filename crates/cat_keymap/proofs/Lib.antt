@@ -7,3 +7,4 @@ pub mod Walks
 pub mod Twice
 pub mod LookUps
 pub mod Once
+pub mod Formed

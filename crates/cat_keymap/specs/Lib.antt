@@ -11,3 +11,4 @@ pub mod Among
 pub mod MapsAt
 pub mod Walking
 pub mod Unlike
+pub mod Forming

@@ -10,6 +10,7 @@ mod changing;
 mod children;
 mod differing;
 pub mod distinct;
+mod forming;
 pub mod key_map;
 pub mod listing;
 pub mod maps;

@@ -18,7 +18,7 @@ use Rattle.cat_ordered.specs.Maps as ordered
 use Rattle.cat_tables.specs.declared.table.Placed.{Placed}
 use Rattle.cat_tables.specs.Arrivals.{at_place, arrived, puts, IsPlaced}
 use Rattle.cat_tables.specs.HashOrder.{hash_cmp}
-use Rattle.cat_tables.specs.ReferenceLaws.{both_true, and_true}
+use Rattle.cat_tables.specs.ReferenceLaws.{both_true, and_true, split}
 use Rattle.cat_tables.specs.Tables.{same_hash, value_of, are_distinct}
 use Rattle.cat_tables.proofs.Arriving.{less_is, absent_parts, hash_total, ties, both_empty, put_more, at_other, at_own, none_at, arrived_alike, more_pass, below_more, found_more, absent_there}
 
@@ -292,5 +292,12 @@ module _ {V : Type 0} where
       let stands = standing n items after high ∙ ap (λ (l : List (Hash × V)). reverse items ++ l) (arrived_alike n pairs after lower) in
       let view : arrived m after ≡ reverse items ++ arrived n pairs = ap (λ (k : ℕ). arrived k after) long ∙ stands in
       let fit = below_after m None cs pairs up new (below_more n m pairs (omega (arith, long)) are.below) in
+      let alone : (i : ℕ) → length (at_place i after) ≤ 1 = λ i. split (nat_lt i n)
+      (λ e. let size = ap length (lower i (grind (arith, nat_tests))) in let one = are.alone i in omega (arith, size, one))
+      (λ e.
+      let le : n ≤ i = grind (arith, nat_tests) in
+      let size = ap length (at_one i m None cs pairs up new (none_at n i pairs le are.below) (few i)) in
+      let one = few i in
+      omega (arith, size, one)) in
       let once : are_distinct (arrived m after) ≡ true = ap are_distinct view ∙ distinct in
-      subst (λ (l : List (Hash × Placed V)). IsPlaced m l × (arrived m l ≡ reverse items ++ arrived n pairs)) (sym is) (record { below = fit; distinct = once }, view)
+      subst (λ (l : List (Hash × Placed V)). IsPlaced m l × (arrived m l ≡ reverse items ++ arrived n pairs)) (sym is) (record { below = fit; distinct = once; alone = alone }, view)

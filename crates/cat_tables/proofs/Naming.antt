@@ -1,5 +1,7 @@
 -- References held under their names, names ascending.
-use Rattle.std.proofs.Common.{◌≡◌, ℕ, List, [], ◌∷◌, Option, Some, None, Bool, true, false, cond, is_some, map, drop, refl, sym, ap, subst, ◌∙◌, Bor}
+use Rattle.std.proofs.Common.{◌≡◌, ℕ, List, [], ◌∷◌, ◌++◌, append_assoc, Option, Some, None, Bool, true, false, cond, is_some, map, drop, refl, sym, ap, subst, ◌∙◌, Bor}
+use Rattle.std.proofs.lemmas.List.{append-nil}
+use Rattle.std.proofs.lemmas.List.Folds.{list_all-append}
 use Rattle.std.proofs.lemmas.Option.{none-some}
 use Rattle.std.specs.Cmp.Lexicographic.{slice_cmp, texts_ties, nat_list_cmp_total}
 use Rattle.std.specs.List.{list_all, filter}
@@ -11,10 +13,10 @@ use Rattle.std.specs.declared.cmp.Ordering.TheVariants.{Less, Equal, Greater}
 use Rattle.cat_codes.specs.Code.{follows, ascends}
 use Rattle.cat_model.specs.declared.reference.Reference.{Reference}
 use Rattle.cat_model.specs.State.{reference_of, with_reference, without_reference, moved_reference}
-use Rattle.cat_ordered.specs.Maps.{value_of, after_change, first_of, from_key}
-use Rattle.cat_tables.specs.References.{is_below, names_ascend, AreNamed}
+use Rattle.cat_ordered.specs.Maps.{value_of, after_change, after_changes, first_of, from_key}
+use Rattle.cat_tables.specs.References.{is_below, names_ascend, AreNamed, all_named}
 use Rattle.cat_tables.specs.ReferenceLaws.{and_true, both_true, same_name, is_same, below_trans, other_name, not_above, other_name_above, absent_parts}
-use Rattle.cat_tables.proofs.Arriving.{split3}
+use Rattle.cat_tables.proofs.Arriving.{split3, less_is}
 
 abbrev Name : Type 0
 Name = List ℕ
@@ -191,3 +193,65 @@ pub past_none : (name : List ℕ) (named from : List (List ℕ × Reference)) �
     → None ≡ first_of from → held from ≡ filter (λ r. is_below name r.name) (held named)
 past_none name named [] are up is none = ap (λ (l : Named). held (past l name)) is ∙ past_above name named are up
 past_none name named (y ∷ from) are up is none = absurd (none-some y none)
+
+-- ---- references put one after another, names ascending
+
+-- each under its name
+abbrev under_names : List Reference → Named
+under_names list = map (λ r. (r.name, r)) list
+
+put_last : (reference : Reference) (front : Named) → list_all (λ x. is_below x.0 reference.name) front ≡ true → after_change name_cmp (reference.name, Some reference) front ≡ front ++ (reference.name, reference) ∷ []
+put_last reference [] up = refl
+put_last reference (x ∷ front) up =
+    let h = and_true (is_below x.0 reference.name) (list_all (λ y. is_below y.0 reference.name) front) up in
+    let o : name_cmp x.0 reference.name ≡ Less = less_is _ h.0 in
+    rw o (ap (λ (l : Named). x ∷ l) (put_last reference front h.1))
+
+-- all that are put are below each that follows
+abbrev AllBelow : Named → List Reference → Type 0
+AllBelow front list = list_all (λ r. list_all (λ x. is_below x.0 r.name) front) list ≡ true
+
+below_more : (reference : Reference) (front : Named) (list : List Reference) → AllBelow front list → list_all (λ r. is_below reference.name r.name) list ≡ true → AllBelow (front ++ (reference.name, reference) ∷ []) list
+below_more reference front [] below up = refl
+below_more reference front (r ∷ list) below up =
+    let h = and_true (list_all (λ x. is_below x.0 r.name) front) (list_all (λ q. list_all (λ x. is_below x.0 q.name) front) list) below in
+    let k = and_true (is_below reference.name r.name) (list_all (λ q. is_below reference.name q.name) list) up in
+    both_true _ _ (list_all-append (λ x. is_below x.0 r.name) front ((reference.name, reference) ∷ []) ∙ both_true _ _ h.0 (both_true _ _ k.0 refl)) (below_more reference front list h.1 k.1)
+
+none_below : (list : List Reference) → AllBelow [] list
+none_below [] = refl
+none_below (r ∷ list) = none_below list
+
+put_after : (front : Named) (list : List Reference) → names_ascend list ≡ true → AllBelow front list → after_changes name_cmp (all_named list) front ≡ front ++ under_names list
+put_after front [] up below = sym (append-nil front)
+put_after front (r ∷ list) up below =
+    let a = parts r list up in
+    let h = and_true (list_all (λ x. is_below x.0 r.name) front) (list_all (λ q. list_all (λ x. is_below x.0 q.name) front) list) below in
+    ap (after_changes name_cmp (all_named list)) (put_last r front h.0)
+    ∙ put_after (front ++ (r.name, r) ∷ []) list a.1 (below_more r front list h.1 a.0)
+    ∙ append_assoc front ((r.name, r) ∷ []) (under_names list)
+
+named_under : (list : List Reference) → AreNamed (under_names list)
+named_under [] = tt
+named_under (r ∷ list) = (refl, named_under list)
+
+held_under : (list : List Reference) → held (under_names list) ≡ list
+held_under [] = refl
+held_under (r ∷ list) = ap (λ (l : List Reference). r ∷ l) (held_under list)
+
+ascend_above : (name : Name) (list : List Reference) → list_all (λ r. is_below name r.name) list ≡ true → names_ascend list ≡ true → ascends name_cmp (Some name) (all_named list) ≡ true
+ascend_above name [] lower up = refl
+ascend_above name (r ∷ list) lower up =
+    let h = and_true (is_below name r.name) (list_all (λ q. is_below name q.name) list) lower in
+    let a = parts r list up in
+    both_true _ _ h.0 (ascend_above r.name list a.0 a.1)
+
+pub ascend_named : (list : List Reference) → names_ascend list ≡ true → ascends name_cmp None (all_named list) ≡ true
+ascend_named [] up = refl
+ascend_named (r ∷ list) up = let a = parts r list up in both_true _ _ refl (ascend_above r.name list a.0 a.1)
+
+-- what is put so is the list, each under its name
+pub all_put_is : (list : List Reference) (named : List (List ℕ × Reference)) → names_ascend list ≡ true → named ≡ after_changes name_cmp (all_named list) [] → AreNamed named × (held named ≡ list)
+all_put_is list named up is =
+    let whole : named ≡ under_names list = is ∙ put_after [] list up (none_below list) in
+    (subst AreNamed (sym whole) (named_under list), ap held whole ∙ held_under list)

@@ -1,5 +1,5 @@
 -- Tables after values were taken away by their hashes, and the hashes of a table.
-use Rattle.std.proofs.Common.{◌≡◌, ℕ, zero, suc, List, [], ◌∷◌, ◌++◌, Option, Some, None, Bool, true, false, cond, not, ◌||◌, is_none, is_some, map, nat_eq, nat_lt, refl, sym, ap, subst, ◌∙◌}
+use Rattle.std.proofs.Common.{◌≡◌, ℕ, zero, suc, ◌≤◌, length, arith, List, [], ◌∷◌, ◌++◌, Option, Some, None, Bool, true, false, cond, not, ◌||◌, is_none, is_some, map, nat_eq, nat_lt, refl, sym, ap, subst, ◌∙◌}
 use Rattle.std.proofs.lemmas.List.Elements.{filter-append}
 use Rattle.std.proofs.lemmas.List.Sorted.{list_any-IsPermutation}
 use Rattle.std.specs.List.{list_all, filter, dedup, dedup_from, AllByRecursion}
@@ -41,6 +41,12 @@ module _ {A : Type 0} where
       let rest = all_kept p q xs parts.1 in
       split (p x) (λ e. rw e (both_true _ _ parts.0 rest)) (λ e. rw e rest)
 
+  no_longer : (p : A → Bool) (xs : List A) → length (filter p xs) ≤ length xs
+  no_longer p [] = omega arith
+  no_longer p (x ∷ xs) =
+      let rest = no_longer p xs in
+      split (p x) (λ e. rw e (omega (arith, rest))) (λ e. rw e (omega (arith, rest)))
+
 -- ---- hashes that ascend
 
 -- hashes are the same where they compare equal, the other way round
@@ -48,7 +54,7 @@ turned : (a b : Hash) (o : Ordering) → hash_cmp a b ≡ o → same_hash b a �
 turned a b o e = ties b a ∙ ap is_eq (hash_total.antisymm b a ∙ ap ordering_reverse e)
 
 module _ {A : Type 0} where
-  ascends_lower : (hash : Hash) (last : Option Hash) (xs : List (Hash × A)) → follows hash_cmp last hash ≡ true → ascends hash_cmp (Some hash) xs ≡ true → ascends hash_cmp last xs ≡ true
+  pub ascends_lower : (hash : Hash) (last : Option Hash) (xs : List (Hash × A)) → follows hash_cmp last hash ≡ true → ascends hash_cmp (Some hash) xs ≡ true → ascends hash_cmp last xs ≡ true
   ascends_lower hash last [] lt up = refl
   ascends_lower hash None (x ∷ xs) lt up = (and_true (is_lt (hash_cmp hash x.0)) (ascends hash_cmp (Some x.0) xs) up).1
   ascends_lower hash (Some last) (x ∷ xs) lt up =
@@ -171,8 +177,13 @@ module _ {V : Type 0} where
       let stays = λ (hash : Hash). not (is_among given hash) in
       let left : more ≡ filter (λ x. stays x.0) pairs = is ∙ all_removed hashes pairs up ∙ (λ i. filter (λ x. not (same x.0 i)) pairs) in
       let view = arrived_kept stays n pairs in
+      let few : (i : ℕ) → length (at_place i (filter (λ x. stays x.0) pairs)) ≤ 1 = λ i.
+      let size = ap length (at_kept stays i pairs) in
+      let shorter = no_longer (λ x. stays x.0) (at_place i pairs) in
+      let one = are.alone i in
+      omega (arith, size, shorter, one) in
       subst (λ (l : List (Hash × Placed V)). IsPlaced n l × (arrived n l ≡ filter (λ x. stays x.0) (arrived n pairs))) (sym left)
-      (record { below = all_kept (λ x. stays x.0) (λ x. nat_lt x.1.place n) pairs are.below; distinct = ap are_distinct view ∙ distinct_kept (λ x. stays x.0) (arrived n pairs) are.distinct }, view)
+      (record { below = all_kept (λ x. stays x.0) (λ x. nat_lt x.1.place n) pairs are.below; distinct = ap are_distinct view ∙ distinct_kept (λ x. stays x.0) (arrived n pairs) are.distinct; alone = few }, view)
 
   -- ---- the hashes that are there
 

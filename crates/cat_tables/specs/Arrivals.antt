@@ -1,5 +1,5 @@
 -- Values that are held under their hashes, in the order in which they came.
-use Rattle.std.specs.Prelude.{ℕ, zero, suc, List, [], ◌∷◌, ◌++◌, Option, Some, None, nat_eq, nat_lt, if◌then◌else◌, IsTrue}
+use Rattle.std.specs.Prelude.{ℕ, zero, suc, List, [], ◌∷◌, ◌++◌, Option, Some, None, length, ◌≤◌, nat_eq, nat_lt, if◌then◌else◌, IsTrue}
 use Rattle.std.specs.List.{list_all}
 use Rattle.cat_names.specs.declared.hash.Hash.{Hash}
 use Rattle.cat_tables.specs.declared.table.Placed.{Placed}
@@ -25,7 +25,8 @@ abbrev pub removes : {V : Type 0} → List Hash → List (Hash × Option (Placed
 removes [] = []
 removes (hash ∷ hashes) = (hash, None) ∷ removes hashes
 
--- each value came before the next one, and no hash comes twice
+-- each value came before the next one, no hash comes twice, and no two came at one place
 pub record IsPlaced {V : Type 0} (next : ℕ) (placed : List (Hash × Placed V)) : Type 0 where
   pub below : IsTrue (list_all (λ x. nat_lt x.1.place next) placed)
   pub distinct : IsTrue (are_distinct (arrived next placed))
+  pub alone : (i : ℕ) → length (at_place i placed) ≤ 1

@@ -4,3 +4,4 @@ pub mod LookUps
 pub mod ReferenceLaws
 pub mod References
 pub mod Tables
+pub mod Sorted

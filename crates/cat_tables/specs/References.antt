@@ -1,5 +1,5 @@
 -- Named references, by ascending names.
-use Rattle.std.specs.Prelude.{ℕ, List, [], ◌∷◌, Bool, true, ◌&&◌, ◌≡◌}
+use Rattle.std.specs.Prelude.{ℕ, List, [], ◌∷◌, Option, Some, Bool, true, ◌&&◌, ◌≡◌, map}
 use Rattle.std.specs.Cmp.Lexicographic.{slice_cmp}
 use Rattle.std.specs.List.{list_all}
 use Rattle.std.specs.Ordering.{nat_cmp, is_lt}
@@ -23,3 +23,7 @@ AreNamed (x ∷ named) = (x.0 ≡ x.1.name) × AreNamed named
 -- each head passes
 abbrev pub heads_pass : (Hash → Bool) → List Reference → Bool
 heads_pass pass references = list_all (λ r. pass r.head) references
+
+-- the changes that put references under their names
+abbrev pub all_named : List Reference → List (List ℕ × Option Reference)
+all_named references = map (λ r. (r.name, Some r)) references

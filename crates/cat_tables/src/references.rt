@@ -5,9 +5,10 @@ ghost use Rattle.std.specs.Option.{option_copied, option_map};
 ghost use Rattle.cat_model.specs.Pages.{references_after};
 ghost use Rattle.cat_model.specs.State.{moved_reference, reference_of, with_reference, without_reference};
 ghost use Rattle.cat_ordered.specs.Maps.{first_of};
-ghost use Rattle.cat_tables.specs.References.{names_ascend};
+ghost use Rattle.cat_tables.specs.References.{all_named, names_ascend};
 
 use cat_codes::fault::NoMemory;
+use cat_codes::seq::Seq;
 use cat_model::reference::Reference;
 use cat_names::ref_name::RefName;
 use cat_ordered::change::Change;
@@ -76,6 +77,18 @@ impl<'a> ReferenceWalk<'a> {
     }
 }
 
+/// The changes that put references under their names.
+fn all_put(alloc: Global, list: Vec<Reference>) -> Result<Vec<Change<RefName, Reference>>, NoMemory>
+    ensures { IfOk result (λ changes. changes.items ≡ all_named list.items) }
+{
+    let mut changes = Vec::with_capacity(alloc, list.len())?;
+    for reference in list {
+        let name = reference.name.clone()?;
+        changes.push(Change::put(alloc, name, reference)?)?;
+    }
+    Ok(changes)
+}
+
 impl References {
     /// No references. It takes no memory.
     pub fn new(alloc: Global) -> References
@@ -84,6 +97,17 @@ impl References {
         References {
             named: OrderedMap::new(alloc),
         }
+    }
+
+    /// References whose names ascend, each once.
+    pub fn of(alloc: Global, list: Seq<Reference>) -> Result<References, NoMemory>
+        requires { IsTrue (names_ascend list) }
+        ensures { IfOk result (λ references. references ≡ list) }
+    {
+        let changes = all_put(alloc, list.into_vec())?;
+        Ok(References {
+            named: OrderedMap::new(alloc).with_changes(alloc, changes.as_slice())?,
+        })
     }
 
     /// What holds of all references: names ascend, each once.

@@ -31,9 +31,9 @@ pub(crate) struct Placed<V> {
 /// that comes or goes. Contracts see the list, the newest first.
 #[derive(Drop)]
 pub struct Table<V: Drop> {
-    placed: OrderedMap<Hash, Placed<V>>,
+    pub(crate) placed: OrderedMap<Hash, Placed<V>>,
     /// How many values were ever added. What goes leaves its place empty.
-    next: usize,
+    pub(crate) next: usize,
 }
 
 impl<V: Drop> Model for Table<V> {
