@@ -8,3 +8,5 @@ pub mod Written
 pub mod RequestRows
 pub mod Rewritten
 mod CheckpointRows
+mod StandingRows
+pub mod Sizes

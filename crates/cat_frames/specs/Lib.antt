@@ -13,3 +13,7 @@ pub mod EntryLaws
 pub mod Payload
 pub mod Checkpoints
 pub mod CheckpointLaws
+pub mod Bases
+pub mod Standing
+pub mod BaseLaws
+pub mod Sizes

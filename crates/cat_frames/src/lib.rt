@@ -8,6 +8,7 @@ mod asked;
 mod checkpoint;
 mod checkpoint_fields;
 mod checkpoint_records;
+mod checkpoint_size;
 mod command_fields;
 mod entries;
 mod entry_fields;
@@ -19,5 +20,6 @@ mod sweep_fields;
 pub use checkpoint::{
     Checkpoint, checkpoint_from_bytes, checkpoint_to_bytes, is_checkpoint, is_whole_checkpoint,
 };
+pub use checkpoint_size::checkpoint_fits;
 pub use entries::{from_bytes, has_reading, to_bytes};
 pub use request_fields::given_requests_are_logged;
