@@ -7,3 +7,6 @@ pub mod Over
 pub mod Added
 pub mod Upon
 pub mod Made
+pub mod Founding
+pub mod Founded
+pub mod Sorted

@@ -36,12 +36,16 @@ kept_with older (x ∷ commits) [] maps beside are = absurd beside
 kept_with older (x ∷ commits) (m ∷ more) maps beside are = (beside.0, kept_with older commits more maps beside.1 are)
 
 -- no hash of maps that are kept comes twice
-kept_distinct : (maps : List (Hash × Map)) (commits : Commits) → AreKept maps commits → AreLinked commits → are_distinct maps ≡ true
+pub kept_distinct : (maps : List (Hash × Map)) (commits : Commits) → AreKept maps commits → AreLinked commits → are_distinct maps ≡ true
 kept_distinct [] commits are linked = refl
 kept_distinct (m ∷ maps) [] are linked = absurd are
 kept_distinct (m ∷ maps) (x ∷ older) are linked =
     let absent = map_absent maps older m.0 are.1 (subst (λ (h : Hash). commit_of older h ≡ None) (sym (are.0).hash) linked.0) in
     rw (sym (map_is maps m.0) ∙ absent) (kept_distinct maps older are.1 linked.2)
+
+-- nor one that is a new commit's
+pub map_is_new : (maps : List (Hash × Map)) (commits : Commits) (hash : Hash) (map : Map) → AreKept maps commits → AreLinked commits → commit_of commits hash ≡ None → are_distinct ((hash, map) ∷ maps) ≡ true
+map_is_new maps commits hash map are linked absent = rw (sym (map_is maps hash) ∙ map_absent maps commits hash are absent) (kept_distinct maps commits are linked)
 
 -- ---- contents
 

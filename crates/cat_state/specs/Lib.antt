@@ -12,3 +12,4 @@ pub mod HeldLaws
 pub mod Planning
 pub mod Views
 pub mod Counting
+pub mod Starting

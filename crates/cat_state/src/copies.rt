@@ -3,7 +3,7 @@
 ghost use Rattle.std.specs.Prelude.{◌≡◌, IfOk};
 
 use cat_keymap::key_map::KeyMap;
-use cat_model::commit::Meta;
+use cat_model::commit::{Commit, Meta};
 use cat_model::op::Op;
 use std::alloc::AllocError;
 
@@ -12,6 +12,13 @@ pub(crate) fn copy_map(map: &KeyMap) -> Result<KeyMap, AllocError>
     ensures { IfOk result (λ copy. copy ≡ map.now) }
 {
     map.clone()
+}
+
+/// A copy of a commit.
+pub fn copy_commit(commit: &Commit) -> Result<Commit, AllocError>
+    ensures { IfOk result (λ copy. copy ≡ commit.now) }
+{
+    commit.clone()
 }
 
 /// A copy of what is said of a commit.
