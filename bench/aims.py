@@ -134,27 +134,38 @@ def opened(path):
     return took
 
 
-def opening(folder, count):
-    """Opens a journal of so many commits of a new key each, and one of its first tenth."""
+def kept(folder, asked):
+    """The journal of a server that made these changes."""
     with Server(PROGRAM, "--workers", 1) as server:
-        for at in range(0, count, 500):
+        for at in range(0, len(asked), 500):
             with server.link() as link:
-                batch = range(at, min(at + 500, count))
-                link.send(b"".join(request([put("n%07d" % n)]) for n in batch))
+                batch = asked[at : at + 500]
+                link.send(b"".join(batch))
                 for _ in batch:
                     assert link.reply().status == 200
         server.kill()
-        whole = os.path.join(folder, "whole")
-        shutil.copyfile(server.journal, whole)
+        path = os.path.join(folder, "whole")
+        shutil.copyfile(server.journal, path)
+    return path
+
+
+def opening(folder, what, asked):
+    """Opens a journal of these changes, and one of their first tenth: the least of five times each."""
+    whole, few = kept(folder, asked), len(asked) // 10
     tenth, size = os.path.join(folder, "tenth"), 16
     for number, payload in enumerate(journal.payloads(whole)):
-        if number == count // 10:
+        if number == few:
             break
         size += 5 + len(payload)
     with open(whole, "rb") as held, open(tenth, "wb") as out:
         out.write(held.read(size) + b"\0")
-    times = [min(opened(path) for _ in range(2)) for path in (tenth, whole)]
-    show(f"opening {count // 10} and {count} commits", f"{times[0]:.2f} s and {times[1]:.2f} s ({times[1] / times[0]:.1f})")
+    times = [min(opened(path) for _ in range(5)) for path in (tenth, whole)]
+    show(f"opening {few} and {len(asked)} {what}", f"{times[0]:.3f} s and {times[1]:.2f} s ({times[1] / times[0]:.1f})")
+
+
+def branches(count):
+    """Requests for so many branches at the head of `main`, whose names come in no order."""
+    return [post(f"?name=b{n * 40503 % 65536:05}&type=BRANCH", {"type": "BRANCH", "name": "main"}) for n in range(count)]
 
 
 def main():
@@ -169,7 +180,8 @@ def main():
         served(load)
         for m in sizes:
             show(f"memory that such a commit adds, on {m} keys", adds[m])
-        opening(folder, OPTIONS.commits)
+        opening(folder, "commits", [request([put("n%07d" % n)]) for n in range(OPTIONS.commits)])
+        opening(folder, "references", branches(65534))
         times = [merge_and_branch(folder, journals[m]) for m in sizes]
         for name, few, many in zip(("merge of 10 keys", "a branch at a head"), *times):
             show(f"{name}, on {sizes[0]} and {sizes[1]} keys", f"{few * 1000:.2f} and {many * 1000:.2f} ms ({many / few:.1f})")
