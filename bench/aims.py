@@ -7,7 +7,7 @@ Usage: bench/aims.py [--program FILE] [--keys 1000000] [--commits 100000] [--sec
 Commits by a pipe are 900 at once to one run of `nessie script`, the middle one of three runs on copies of one journal. Those
 by connections are `nessie serve`'s, each connection new after 1,000 replies (bench/load.c). Disk calls by hand are those of
 the same entries, on the same disk, right after. A merge adds 10 keys and is a dry run, a branch is made at the head of
-`main`: the least of five by a pipe.
+`main`: the least of five by a pipe. An opening is the least of five starts, up to the first reply.
 """
 import argparse
 import os
