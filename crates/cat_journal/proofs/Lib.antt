@@ -1,4 +1,5 @@
 mod Adding
+mod Ahead
 mod Appended
 mod Entries
 mod Fitting

@@ -1,3 +1,4 @@
+pub mod Ahead
 pub mod AtRest
 pub mod Frames
 pub mod Held

@@ -12,6 +12,7 @@ use crate::append::{append_frame, persist};
 use crate::fault::OpenFault;
 use crate::opening::{format_of, load};
 use crate::points::Points;
+use crate::read_ahead::ReadAhead;
 use crate::reading::read_payload;
 use cat_codes::bytes::Bytes;
 use cat_codes::fault::NoMemory;
@@ -23,7 +24,7 @@ use std::marker::Send;
 /// A journal.
 #[derive(Drop)]
 pub struct Journal<D: Disk> {
-    pub(crate) disk: D,
+    pub(crate) disk: ReadAhead<D>,
     /// 1 or 2.
     pub(crate) format: u32,
     points: Points,
@@ -58,7 +59,7 @@ impl<D: Disk + Send> Journal<D> {
     /// Opens the journal on a disk, and makes a new one where the disk is empty. Where that fails,
     /// an empty disk may have any bytes, up to the 17 of a new journal. Nothing is written to a
     /// disk that has bytes. Once the journal is open, a crash leaves just what its disk reads.
-    pub fn open(alloc: Global, mut disk: D) -> Result<Journal<D>, (D, OpenFault)>
+    pub fn open(alloc: Global, disk: D) -> Result<Journal<D>, (D, OpenFault)>
         ensures payloads { IfOk result
             (λ j. Told (D.told disk) (⟦<Journal<D> as Keeper>⟧.told j)
             (λ bytes ps. recovered bytes ≡ Ok ps)) }
@@ -93,6 +94,7 @@ impl<D: Disk + Send> Journal<D> {
             (λ j. ⟦<Journal<D> as Keeper>⟧.faults j ≡ D.faults disk)
             (λ e. e.1 ≢ OpenFault.Fault → D.faults e.0 ≡ D.faults disk) }
     {
+        let mut disk = ReadAhead::new(disk);
         match load(alloc, &mut disk) {
             Ok((points, newer)) => Ok(Journal {
                 disk,
@@ -101,7 +103,7 @@ impl<D: Disk + Send> Journal<D> {
                 frame: Vec::new(alloc),
                 down: None,
             }),
-            Err(fault) => Err((disk, fault)),
+            Err(fault) => Err((disk.into_inner(), fault)),
         }
     }
 
@@ -142,7 +144,7 @@ impl<D: Disk + Send> Journal<D> {
                 frame,
                 down: None,
             }),
-            Err(_) => Err((disk, OpenFault::Fault)),
+            Err(_) => Err((disk.into_inner(), OpenFault::Fault)),
         }
     }
 
@@ -166,7 +168,7 @@ impl<D: Disk + Send> Journal<D> {
             (λ ps. (c : List ℕ) → D.may_leave result c → WithOrWithout ps p (outcome c)) }
     {
         let Journal { disk, .. } = self;
-        disk
+        disk.into_inner()
     }
 }
 

@@ -12,6 +12,7 @@ mod journal;
 mod migration;
 mod opening;
 mod points;
+mod read_ahead;
 mod reading;
 
 pub use fault::OpenFault;

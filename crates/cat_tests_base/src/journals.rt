@@ -190,10 +190,10 @@ fn are_out_or_in(alloc: Global, disk: &MemoryDisk, calls: u64) -> bool {
     true
 }
 
-/// Whether an append that is stopped after so many calls is told so, and leaves what it may. Seven
+/// Whether an append that is stopped after so many calls is told so, and leaves what it may. Five
 /// calls open the journal of one entry.
 fn is_stopped<R: Abort>(rt: &R, alloc: Global, bytes: &[u8], calls: u64) -> bool {
-    let mut journal = journal(rt, alloc, bytes, &[], calls.saturating_add(7));
+    let mut journal = journal(rt, alloc, bytes, &[], calls.saturating_add(5));
     let added = add(alloc, &mut journal, &A);
     let disk = journal.into_disk();
     let told = if calls < 4 {

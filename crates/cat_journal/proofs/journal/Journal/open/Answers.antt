@@ -3,7 +3,7 @@ use Rattle.cat_journal.proofs.journal.Journal.open.Goals as goal
 
 pub invariant_of-result : goal.invariant_of-result
 invariant_of-result g c =
-    let t = g.D.Disk.told c.args.disk in
+    let t = g.D.Disk.told c.new-disk.result in
     let t1 = g.D.Disk.told c.load.new.disk in
     let x = c.in-Ok.points in
     let newer = c.in-Ok.newer in
@@ -19,4 +19,4 @@ invariant_of-result g c =
     }
 
 pub returns-in-Ok-clause-holds : goal.returns-in-Ok-clause-holds
-returns-in-Ok-clause-holds g c = opened_holds (g.D.Disk.told c.args.disk) (g.D.Disk.told c.load.new.disk) c.in-Ok.points c.in-Ok.newer c.in-Ok.ensures.found
+returns-in-Ok-clause-holds g c = opened_holds (g.D.Disk.told c.new-disk.result) (g.D.Disk.told c.load.new.disk) c.in-Ok.points c.in-Ok.newer c.in-Ok.ensures.found

@@ -1,4 +1,4 @@
-use Rattle.std.proofs.Common.{◌≡◌, ◌+◌, ℕ, None, [], refl, sym, arith, ap, length}
+use Rattle.std.proofs.Common.{◌≡◌, ◌+◌, ℕ, None, refl, sym, arith, ap, length}
 use Rattle.cat_keeper.specs.Kinds.{whole_is_checkpoint, checkpoint_is_not_empty}
 use Rattle.cat_journal.specs.declared.journal.Journal.{Journal}
 use Rattle.cat_journal.specs.Frames.{format_by}
