@@ -129,6 +129,9 @@ impl<D: Disk + Send> Journal<D> {
             (λ c. recovered c ≡ recovered bytes))
             (λ e. LeavesOnly D.moment D.left_since self.disk e.0
             (λ c. recovered c ≡ recovered bytes))) }
+        ensures cause { MatchResult result
+            (λ j. D.faults j.disk ≡ D.faults self.disk)
+            (λ e. Rose (D.faults self.disk) (D.faults e.0)) }
     {
         let Journal {
             mut disk,

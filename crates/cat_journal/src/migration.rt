@@ -1,5 +1,6 @@
 //! Making a journal of format 1 one of format 2.
-ghost use Rattle.std.specs.Prelude.{ℕ, List, [], ◌∷◌, ◌≡◌, ◌<◌, None, length, IfErr, IfOk, IfSome, MatchResult, Ok};
+ghost use Rattle.std.specs.Prelude.{ℕ, List, [], ◌∷◌, ◌≡◌, ◌≢◌, ◌<◌, None, length, IfErr, IfOk, IfSome, MatchResult, Ok};
+ghost use Rattle.cat_io.specs.Causes.{Rose};
 ghost use Rattle.cat_io.specs.Crashes.{put, Only, Told};
 ghost use Rattle.cat_journal.specs.Frames.{new_journal, recovered};
 ghost use Rattle.cat_journal.specs.Journals.{journal_disk};
@@ -32,6 +33,11 @@ pub fn migrate<D: Disk + Send>(alloc: Global, disk: D) -> Result<Journal<D>, (D,
     ensures images { IfSome (D.told disk) (λ bytes. MatchResult result
         (λ j. MigratesOnly D.may_leave D.moment D.left_since disk (journal_disk j) bytes)
         (λ e. MigratesOnly D.may_leave D.moment D.left_since disk e.0 bytes)) }
+    ensures cause { IfErr result
+        (λ e. e.1 ≡ OpenFault.Fault → Rose (D.faults disk) (D.faults e.0)) }
+    ensures stays { MatchResult result
+        (λ j. ⟦<Journal<D> as Keeper>⟧.faults j ≡ D.faults disk)
+        (λ e. e.1 ≢ OpenFault.Fault → D.faults e.0 ≡ D.faults disk) }
 {
     match Journal::open(alloc, disk) {
         Ok(journal) => {
