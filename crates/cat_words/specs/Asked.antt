@@ -6,10 +6,11 @@ use Rattle.cat_words.specs.declared.asked.Asked.TheVariants as asks
 use Rattle.cat_words.specs.Line.{line}
 use Rattle.cat_words.specs.Numbers.{number_between, number_of}
 
--- a command: a script or a check with its journal, a collection with its journal, the default cutoff and any number of patterns with their cutoffs, a drill with its seed and how many commits it makes, or serving with its journal, its address, how many workers serve, how often each tries, and how many connections are served, where 0 is no end
+-- a command: a script, a check or a migration with its journal, a collection with its journal, the default cutoff and any number of patterns with their cutoffs, a drill with its seed and how many commits it makes, or serving with its journal, its address, how many workers serve, how often each tries, and how many connections are served, where 0 is no end
 pub data Task : Type 0 where
   script : List ℕ → Task
   check : List ℕ → Task
+  migrate : List ℕ → Task
   gc : List ℕ → List ℕ → List (List ℕ) → Task
   drill : ℕ → ℕ → Task
   serve : List ℕ → List ℕ → ℕ → ℕ → ℕ → Task
@@ -18,6 +19,7 @@ pub data Task : Type 0 where
 abbrev pub task : Asked → Task
 task (asks.Script journal) = script journal.now
 task (asks.Check journal) = check journal.now
+task (asks.Migrate journal) = migrate journal.now
 task (asks.Gc journal default rules) = gc journal.now default.now (map (λ rule. rule.now) rules.items)
 task (asks.Drill seed commits) = drill seed commits
 task (asks.Serve journal address workers attempts connections) = serve journal.now address.now workers attempts connections
@@ -26,6 +28,7 @@ task (asks.Serve journal address workers attempts connections) = serve journal.n
 abbrev pub commits_of : Asked → ℕ
 commits_of (asks.Script journal) = 0
 commits_of (asks.Check journal) = 0
+commits_of (asks.Migrate journal) = 0
 commits_of (asks.Gc journal default rules) = 0
 commits_of (asks.Drill seed commits) = commits
 commits_of (asks.Serve journal address workers attempts connections) = 0
@@ -34,6 +37,7 @@ commits_of (asks.Serve journal address workers attempts connections) = 0
 abbrev pub address_in : Task → Option (List ℕ)
 address_in (script journal) = None
 address_in (check journal) = None
+address_in (migrate journal) = None
 address_in (gc journal default rules) = None
 address_in (drill seed commits) = None
 address_in (serve journal address workers attempts connections) = Some address
@@ -46,6 +50,7 @@ IsFew number = (1 ≤ number) × (number ≤ 64)
 abbrev pub IsSet : Asked → Type 0
 IsSet (asks.Script journal) = Unit {0}
 IsSet (asks.Check journal) = Unit {0}
+IsSet (asks.Migrate journal) = Unit {0}
 IsSet (asks.Gc journal default rules) = Unit {0}
 IsSet (asks.Drill seed commits) = Unit {0}
 IsSet (asks.Serve journal address workers attempts connections) = IsFew workers × IsFew attempts
@@ -90,6 +95,7 @@ task_of None = None
 task_of (Some p) =
     if bytes_eq p.0 (codes "script") then option_map script (text (codes "journal") p.1)
     else if bytes_eq p.0 (codes "check") then option_map check (text (codes "journal") p.1)
+    else if bytes_eq p.0 (codes "migrate") then option_map migrate (text (codes "journal") p.1)
     else if bytes_eq p.0 (codes "gc") then gc_of p.1
     else if bytes_eq p.0 (codes "drill") then drill_of p.1
     else if bytes_eq p.0 (codes "serve") then serve_of p.1

@@ -31,6 +31,10 @@ script_shape = shape (codes "script") (word_rule (codes "journal") ∷ [])
 abbrev pub check_shape : Shape
 check_shape = shape (codes "check") (word_rule (codes "journal") ∷ [])
 
+-- `migrate JOURNAL`
+abbrev pub migrate_shape : Shape
+migrate_shape = shape (codes "migrate") (word_rule (codes "journal") ∷ [])
+
 -- `drill --seed S --commits N`
 abbrev pub drill_shape : Shape
 drill_shape = shape (codes "drill") (option_rule (codes "seed") ∷ option_rule (codes "commits") ∷ [])
@@ -68,9 +72,9 @@ serve_shape =
 abbrev pub bare_line : App
 bare_line = record { top = record (new_shape (codes "nessie")) { subcommand_required = true }; subs = [] }
 
--- a session over a journal, and a look at one
+-- a session over a journal, a look at one, and a newer format for one
 abbrev pub session_line : App
-session_line = with_subcommand (with_subcommand bare_line script_shape) check_shape
+session_line = with_subcommand (with_subcommand (with_subcommand bare_line script_shape) check_shape) migrate_shape
 
 -- the commands that serve no connections
 abbrev pub offline_line : App

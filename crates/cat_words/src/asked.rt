@@ -20,6 +20,8 @@ pub enum Asked<'a> {
     Script(&'a str),
     /// How much the journal of this path holds.
     Check(&'a str),
+    /// Format 2 for the journal of this path.
+    Migrate(&'a str),
     /// A collection over the journal of this path, by a default cutoff and any number of
     /// `PATTERN=CUTOFF`. They are texts, whether or not they are a policy.
     Gc {
@@ -158,6 +160,10 @@ fn asked_in<'a>(alloc: Global, matches: &ArgMatches<'a>) -> Result<Option<Asked<
         },
         "check" => match text(found, "journal") {
             Some(journal) => Ok(Some(Asked::Check(journal))),
+            None => Ok(None),
+        },
+        "migrate" => match text(found, "journal") {
+            Some(journal) => Ok(Some(Asked::Migrate(journal))),
             None => Ok(None),
         },
         "gc" => gc(alloc, found),

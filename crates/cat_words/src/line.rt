@@ -4,7 +4,7 @@ ghost use Rattle.std.specs.Prelude.{◌≡◌, [], IfErr, IfOk, IsErrOf, map, fa
 ghost use Rattle.clap.specs.Words.{app_of, fault_of, kind_of, rule_of, shape_of, subcommand_of, subcommand_rows_of};
 ghost use Rattle.clap.specs.declared.builder.command.Command.TheViews.{out-Command};
 ghost use Rattle.cat_words.specs.Asked.{is_free};
-ghost use Rattle.cat_words.specs.Line.{bare_line, check_shape, default_rule, drill_shape, gc_by_default_shape, gc_shape, line, offline_line, option_rule, script_shape, serve_at_shape, serve_by_shape, serve_shape, session_line, word_rule, words_rule};
+ghost use Rattle.cat_words.specs.Line.{bare_line, check_shape, default_rule, drill_shape, gc_by_default_shape, gc_shape, line, migrate_shape, offline_line, option_rule, script_shape, serve_at_shape, serve_by_shape, serve_shape, session_line, word_rule, words_rule};
 
 use clap::error::ErrorKind;
 use clap::{Arg, ArgAction, ArgMatches, Command, Error};
@@ -69,6 +69,13 @@ fn check<'a>(alloc: Global) -> Result<Command<'a>, AllocError>
     Command::new(alloc, "check").arg(word(alloc, "journal"))
 }
 
+fn migrate<'a>(alloc: Global) -> Result<Command<'a>, AllocError>
+    ensures shape { IfOk result (λ c. shape_of c ≡ migrate_shape) }
+    ensures local { IfOk result (λ c. (out-Command c).has_globals ≡ false) }
+{
+    Command::new(alloc, "migrate").arg(word(alloc, "journal"))
+}
+
 fn drill<'a>(alloc: Global) -> Result<Command<'a>, AllocError>
     ensures shape { IfOk result (λ c. shape_of c ≡ drill_shape) }
     ensures local { IfOk result (λ c. (out-Command c).has_globals ≡ false) }
@@ -131,7 +138,11 @@ fn session<'a>(alloc: Global) -> Result<Command<'a>, AllocError>
 {
     let script = script(alloc)?;
     let check = check(alloc)?;
-    bare(alloc).subcommand(script)?.subcommand(check)
+    let migrate = migrate(alloc)?;
+    bare(alloc)
+        .subcommand(script)?
+        .subcommand(check)?
+        .subcommand(migrate)
 }
 
 // The commands that serve no connections.
