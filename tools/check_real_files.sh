@@ -92,12 +92,25 @@ def said(path, text):
     return f"nessie: {path}: {text}\n".encode()
 
 
+def check_formats(held):
+    """A journal of an old format; held is one of one entry."""
+    old = file_of("old", held[:15] + b"\x00" + held[16:])
+    case("a migration", run(["migrate", old]), 0, b"format 2 entries 1\n")
+    tell("and its file", content_of(old) == held, "one byte is another")
+    case("a migration once more", run(["migrate", old]), 0, b"format 2 entries 1\n")
+    tell("and its file", content_of(old) == held, "none is")
+    case("a commit to it", run(["script", old], commit("b")), 0, [200])
+    tell("and its journal", entries(old) == 2, "2 entries")
+    case("a migration of a new journal", run(["migrate", path_of("migrated new")]), 0, b"format 2 entries 0\n")
+    tell("and its file", content_of(path_of("migrated new")) == NEW, "a new journal")
+
+
 def check_statuses():
     journal = path_of("first")
     case("a commit and a read", run(["script", journal], commit("a") + GET), 0, [200, 200])
     tell("and its journal", entries(journal) == 1, "1 entry")
     case("no request", run(["script", journal]), 0, b"")
-    for words in ([], ["script"], ["check", journal, "x"], ["gc", journal], ["gc", journal, "0"], ["gc", journal, "1", "main"], ["gc", path_of("none yet"), "1", "main=P1M"], ["--help"], ["drill", "--seed", "-1", "--commits", "1"], [b"check", b"\xff"], ["serve", journal], ["serve", journal, "127.0.0.1:0", "--workers", "65"]):
+    for words in ([], ["script"], ["check", journal, "x"], ["migrate"], ["migrate", journal, "x"], ["gc", journal], ["gc", journal, "0"], ["gc", journal, "1", "main"], ["gc", path_of("none yet"), "1", "main=P1M"], ["--help"], ["drill", "--seed", "-1", "--commits", "1"], [b"check", b"\xff"], ["serve", journal], ["serve", journal, "127.0.0.1:0", "--workers", "65"]):
         case(f"the words {words}", run(words), 1, b"nessie: usage\n")
     tell("and no journal is made for a policy without a reading", not os.path.exists(path_of("none yet")))
     held = content_of(journal)
@@ -112,13 +125,16 @@ def check_statuses():
     ):
         case(what, run(["script", file_of("other", content)], commit("b")), 3, line)
         case(f"{what}, for a collection", run(["gc", path_of("other"), "1"]), 3, line)
+        case(f"{what}, for a migration", run(["migrate", path_of("other")]), 3, line)
         tell("and the file stays as it is", content_of(path_of("other")) == content)
+    check_formats(held)
     folder = os.open(room.name, os.O_RDONLY)
     case("a read that fails", run(["script", journal], folder), 5, b"")
     os.close(folder)
     with open("/dev/full", "wb") as full:
         case("a write that fails", run(["script", journal], GET, stdout=full), 6, b"")
         case("a line that can't be written", run(["check", journal], stdout=full), 6, b"")
+        case("a line of a migration that can't be written", run(["migrate", journal], stdout=full), 6, b"")
         case("a line of a collection that can't be written", run(["gc", collected, "1"], stdout=full), 6, b"")
         tell("and its journal", entries(collected) == 3, "3 entries")
     case("bytes that are no request", run(["script", journal], GET + b"x\r\n\r\n"), 8, [200, 400])
@@ -192,6 +208,7 @@ def check_two():
         case("script beside script", run(["script", path], commit("b")), 2, FAULT, line)
         case("check beside script", run(["check", path]), 2, FAULT, line)
         case("gc beside script", run(["gc", path, "1"]), 2, FAULT, line)
+        case("migrate beside script", run(["migrate", path]), 2, FAULT, line)
         tell("and the file stays as it is", content_of(path) == held)
         first.stdin.write(commit("b"))
         first.stdin.close()
@@ -242,7 +259,7 @@ def steps(calls, path):
 
 
 def check_syncs():
-    """A lock is l, a sync of the folder d, a write to the journal w, a sync of it s, a write of a reply r. Opening syncs, then writes a new journal and syncs it; an entry is written, synced, closed, synced."""
+    """A lock is l, a sync of the folder d, a write to the journal w, a sync of it s, a write of a reply r. Opening syncs, then writes a new journal and syncs it; an entry is written, synced, closed, synced. A migration opens twice, writes its byte and syncs it."""
     path = path_of("traced")
     (status, output, _), calls = traced(["script", path], commit("a") + GET)
     word = steps(calls, path)
@@ -253,6 +270,11 @@ def check_syncs():
     (status, output, _), calls = traced(["gc", file_of("traced too", content_of(path)), "NONE"], b"")
     word = steps(calls, path_of("traced too"))
     tell("a collection", (status, output) == (0, b"kept 2 removed 0 place 3\n") and re.fullmatch("lswswsr+", word), word)
+    held = content_of(path)
+    old = file_of("traced old", held[:15] + b"\x00" + held[16:])
+    (status, output, _), calls = traced(["migrate", old], b"")
+    word = steps(calls, old)
+    tell("a migration", (status, output) == (0, b"format 2 entries 2\n") and re.fullmatch("lsswsr+", word), word)
     for error in ("EOPNOTSUPP", "ENOLCK"):
         got, _ = traced(["check", path], b"", f"flock:error={error}:when=1")
         tell(f"no locks there, {error}", got[0] == 0 and got[1].startswith(b"entries 2 "), f"status {got[0]}")
@@ -319,6 +341,28 @@ def check_injected_collection():
             case(f"a collection, {name} {number} is interrupted", play(f"{name}:error=EINTR:when={number}")[0], 0, line)
 
 
+def check_injected_migration():
+    """Each call of the system fails once, while a journal of one entry is migrated: it is of one format or the other, and else as it was."""
+    new, path = content_of(path_of("first")), path_of("injected")
+    old = new[:15] + b"\x00" + new[16:]
+
+    def play(*injected):
+        file_of("injected", old)
+        return traced(["migrate", path], b"", *injected)
+
+    line = b"format 2 entries 1\n"
+    got, calls = play()
+    case("a migration, no call fails", got, 0, line)
+    for name, number in ordinals(calls, path):
+        status, output, error = play(f"{name}:error=EIO:when={number}")[0]
+        wanted = (6, b"", b"") if name == "write" else (2, FAULT, said(path, "Input/output error (os error 5)"))
+        left = content_of(path)
+        passed = (status, output, error) == wanted and left in ((new,) if name == "write" else (old, new))
+        tell(f"a migration, {name} {number} fails", passed, f"status {status}, {output.decode().strip()}, then of format {left[15] + 1}")
+        if name in ("write", "pread64", "pwrite64"):
+            case(f"a migration, {name} {number} is interrupted", play(f"{name}:error=EINTR:when={number}")[0], 0, line)
+
+
 def check_full():
     place = path_of("small")
     os.mkdir(place)
@@ -347,6 +391,7 @@ if shutil.which("strace") and subprocess.run(["strace", "-o", path_of("trace"), 
     check_injected(0)
     check_injected(1)
     check_injected_collection()
+    check_injected_migration()
 else:
     leave_out("syncs and failing calls", "strace is missing, or may not trace")
 check_full()

@@ -1,3 +1,4 @@
+pub mod Unadded
 pub mod Starting
 pub mod Left
 pub mod Opened
@@ -5,6 +6,8 @@ pub mod Surviving
 pub mod Refused
 pub mod Ran
 pub mod Counted
+pub mod Renewed
+pub mod Migrated
 pub mod Shares
 pub mod ToldFaults
 pub mod HostedStores

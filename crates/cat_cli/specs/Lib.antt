@@ -1,8 +1,10 @@
 pub mod Lines
+pub mod Unadded
 pub mod Journals
 pub mod Surviving
 pub mod Runs
 pub mod Opening
+pub mod Migrating
 pub mod Stores
 pub mod Hosting
 pub mod HostingLaws

@@ -32,6 +32,10 @@ unfoldable pub counts_line : ℕ → ℕ → ℕ → ℕ → List ℕ → List �
 counts_line entries references commits contents head =
     codes "entries " ++ (decimal entries ++ (codes " references " ++ (decimal references ++ (codes " commits " ++ (decimal commits ++ (codes " contents " ++ (decimal contents ++ (codes " head " ++ (head ++ codes "\n")))))))))
 
+-- that a journal is of format 2, and how many entries its log has
+unfoldable pub migrated_line : ℕ → List ℕ
+migrated_line entries = codes "format 2 entries " ++ (decimal entries ++ codes "\n")
+
 -- what a collection did: how many contents it kept and removed, and the place of its entry
 unfoldable pub swept_line : ℕ → ℕ → ℕ → List ℕ
 swept_line kept removed place = codes "kept " ++ (decimal kept ++ (codes " removed " ++ (decimal removed ++ (codes " place " ++ (decimal place ++ codes "\n")))))

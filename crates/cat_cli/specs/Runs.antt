@@ -5,15 +5,17 @@ use Rattle.cat_model.specs.declared.log_entry.LogEntry.{LogEntry}
 use Rattle.cat_model.specs.Book.{Book}
 use Rattle.std.specs.Option.{option_and_then, option_map}
 use Rattle.cat_state.specs.Kept.{spelling, spellings}
+use Rattle.cat_journal.specs.Frames.{form_gate, is_newer}
+use Rattle.cat_journal.specs.Reading.{IsMigrated}
 use Rattle.cat_policy.specs.Policies.{policy_of}
-use Rattle.cat_words.specs.Asked.{Task, asked, check, drill, gc, script, serve}
+use Rattle.cat_words.specs.Asked.{Task, asked, check, drill, gc, migrate, script, serve}
 use Rattle.cat_serve.specs.declared.ending.Session.{Session as End}
 use Rattle.cat_serve.specs.declared.ending.Session.TheVariants as ends
 use Rattle.cat_cli.specs.declared.unopened.Unopened.{Unopened}
 use Rattle.cat_cli.specs.declared.status.Status.{Status}
 use Rattle.cat_cli.specs.declared.status.Status.TheVariants as statuses
 use Rattle.cat_cli.specs.Journals.{Begins, Holds, IsJournalOf, StandsFor, unopened_of}
-use Rattle.cat_cli.specs.Lines.{check_line, disk_fault_line, no_memory_line, unopened_line}
+use Rattle.cat_cli.specs.Lines.{check_line, disk_fault_line, migrated_line, no_memory_line, unopened_line}
 use Rattle.cat_serve.specs.Sessions.{AreAhead, Readings, ReadsOn, Fallen, Point, Standing, Ends}
 use Rattle.cat_cli.specs.Surviving.{Images, Spared, Survives}
 
@@ -61,6 +63,7 @@ spares_listener _ = true
 abbrev pub judged : Task → Option Task
 judged (script journal) = Some (script journal)
 judged (check journal) = Some (check journal)
+judged (migrate journal) = Some (migrate journal)
 judged (gc journal default rules) = option_map (λ _. gc journal default rules) (policy_of default rules)
 judged (drill seed commits) = Some (drill seed commits)
 judged (serve journal address workers attempts connections) = Some (serve journal address workers attempts connections)
@@ -73,6 +76,7 @@ command_of words = option_and_then judged (asked words)
 abbrev pub journal_of : Task → Option (List ℕ)
 journal_of (script journal) = Some journal
 journal_of (check journal) = Some journal
+journal_of (migrate journal) = Some journal
 journal_of (gc journal default rules) = Some journal
 journal_of (drill seed commits) = None
 journal_of (serve journal address workers attempts connections) = Some journal
@@ -197,6 +201,30 @@ abbrev pub ChecksKnown : Type 0 → Type 0 → Option (List ℕ) → Status → 
 ChecksKnown fell stays held status after before now journal left images =
     (w : List ℕ) → held ≡ Some w
     → (h : List ℕ) × (after ≡ Some h) × Checks fell stays (record { written = w; held = h; before = before; now = now; journal = journal; left = left; images = images }) status
+
+-- ---- a migration
+
+-- the journal was opened, and is one of format 2: its bytes are those before but for the format's gate, or where there were none, a new journal; and it stands for what it did, after a crash too
+pub record Migrates (journal left : Option (List ℕ)) (images : Images) (book : Book) : Type 0 where
+  pub opens : Opens journal left images book
+  pub newer : IfSome left (λ bytes. is_newer (form_gate bytes) ≡ true)
+  pub bytes : IfSome journal (λ before. IfSome left (λ after. IsMigrated before after))
+
+-- it was migrated, by the status; stays says that the disks' count of faults is as it was
+abbrev pub Migrated : Type 0 → Seen → Status → Type 0
+Migrated stays s statuses.Done = (book : Book) × Migrates s.journal s.left s.images book × (s.held ≡ s.written ++ migrated_line book.state.place) × stays
+Migrated stays s statuses.WriteFault = (book : Book) × Migrates s.journal s.left s.images book × IsFront (migrated_line book.state.place) s.written s.held s.before s.now × stays
+Migrated stays s _ = ⊥
+
+-- what a run of `migrate` does, by its status
+abbrev pub MigratesSo : Type 0 → Type 0 → Seen → Status → Type 0
+MigratesSo fell stays s status = Migrated stays s status ⊎ RefusesSo fell stays s status
+
+-- the same where the sink tells what it has
+abbrev pub MigratesKnown : Type 0 → Type 0 → Option (List ℕ) → Status → Option (List ℕ) → ℕ → ℕ → Option (List ℕ) → Option (List ℕ) → Images → Type 0
+MigratesKnown fell stays held status after before now journal left images =
+    (w : List ℕ) → held ≡ Some w
+    → (h : List ℕ) × (after ≡ Some h) × MigratesSo fell stays (record { written = w; held = h; before = before; now = now; journal = journal; left = left; images = images }) status
 
 -- ---- lines
 

@@ -49,8 +49,8 @@ fn check_line<J: Keeper>(alloc: Global, store: &Store<J>) -> Result<String, NoMe
     Ok(counts_line(alloc, &counts, head.as_str())?)
 }
 
-// Tells the line.
-fn tell_counts<K: Sink>(line: &str, sink: &mut K) -> Status
+/// Tells a line on a journal that was opened.
+pub(crate) fn tell_line<K: Sink>(line: &str, sink: &mut K) -> Status
     ensures told { CountedKnown line.now (K.held sink.old) result (K.held sink.new)
         (K.faults sink.old) (K.faults sink.new) }
     ensures fault { result ≢ Status.DiskFault }
@@ -131,7 +131,7 @@ pub(crate) fn check<O: Disks, K: Sink>(
     let (disk, line) = line_on::<Brand, O::D>(alloc, disk);
     disks.back(path, disk);
     match line {
-        Ok(line) => tell_counts(line.as_str(), sink),
+        Ok(line) => tell_line(line.as_str(), sink),
         Err(why) => refuse(alloc, why, sink),
     }
 }

@@ -6,17 +6,20 @@
 //! workers at once, on passes of one desk: at the end the journal has one legal log, of which each
 //! session's pass had seen a beginning. `gc` removes the contents that nothing keeps under a
 //! policy: the journal has one sweep more, that of the catalogue as it was opened, at the one
-//! reading of the clock, and the line has its reply. `check` writes the line of the catalogue, and
-//! `drill` the line of the catalogue that a seed makes.
+//! reading of the clock, and the line has its reply. `check` writes the line of the catalogue,
+//! `migrate` makes a journal of an old format a newer one by one byte, and `drill` writes the line
+//! of the catalogue that a seed makes.
 #![tactic(auto)]
 
 mod checking;
 mod collecting;
 mod journal;
+mod migrating;
 mod program;
 mod scripting;
 mod serving;
 mod status;
+mod still;
 mod telling;
 mod unopened;
 

@@ -4,7 +4,7 @@ ghost use Rattle.std.specs.Prelude.{◌≡◌, ◌≢◌, ◌≤◌, ◌⊎◌, 
 ghost use Rattle.std.specs.Option.{option_and_then};
 ghost use Rattle.cat_io.specs.Causes.{Rose};
 ghost use Rattle.cat_io.specs.Places.{OthersStay};
-ghost use Rattle.cat_words.specs.Asked.{IsFew, asked, check, drill, gc, script, serve};
+ghost use Rattle.cat_words.specs.Asked.{IsFew, asked, check, drill, gc, migrate, script, serve};
 ghost use Rattle.cat_policy.specs.declared.policy.Policy.{Policy};
 ghost use Rattle.cat_policy.specs.Policies.{policy_of};
 ghost use Rattle.cat_drill.specs.Drill.{drill_line};
@@ -13,12 +13,13 @@ ghost use Rattle.cat_cli.specs.Collecting.{CollectsKnown};
 ghost use Rattle.cat_cli.specs.Hosting.{CountStays, heard_of};
 ghost use Rattle.cat_cli.specs.Journals.{DisksFell, IsBack, RoseBy, told_at};
 ghost use Rattle.cat_cli.specs.Lines.{no_memory_line, usage_line};
-ghost use Rattle.cat_cli.specs.Runs.{ChecksKnown, DrillsKnown, SaysKnown, TellsKnown, command_of, ends_drill, journal_of, spares_disks, spares_listener, tells_all};
+ghost use Rattle.cat_cli.specs.Runs.{ChecksKnown, DrillsKnown, MigratesKnown, SaysKnown, TellsKnown, command_of, ends_drill, journal_of, spares_disks, spares_listener, tells_all};
 ghost use Rattle.cat_cli.specs.Serving.{ServesKnown};
 ghost use Rattle.cat_cli.specs.Surviving.{images_at};
 
 use crate::checking::check;
 use crate::collecting::gc;
+use crate::migrating::migrate;
 use crate::scripting::script;
 use crate::serving::{ServeOptions, serve};
 use crate::status::Status;
@@ -33,14 +34,15 @@ use std::thread::Threads;
 /// Runs the command that the words name, the first word being the program's own name. `script`
 /// answers the requests of the source, one after another, on the catalogue of the journal, which
 /// keeps each change before it is told: the replies alone go to the sink. `check` opens the journal
-/// and writes one line on what it holds. An empty file becomes a journal. `drill` makes commits
-/// from a seed in memory, without disks, source or clock, and writes one line. `serve` opens the
-/// journal, and then listens: so many workers answer the requests of so many connections at once,
-/// and nothing goes to the sink, unless the listener fails or memory runs out before. What goes
-/// wrong on a connection ends that one alone. `gc` opens the journal and removes the contents that
-/// nothing keeps under the policy of its words, as its cutoffs are at one reading of the clock: the
-/// journal has one entry more, and one line tells how many contents were kept and removed. No disk
-/// is opened for words that aren't a policy.
+/// and writes one line on what it holds. An empty file becomes a journal. `migrate` opens it, makes
+/// it one of format 2, and writes one line on that. `drill` makes commits from a seed in memory,
+/// without disks, source or clock, and writes one line. `serve` opens the journal, and then listens:
+/// so many workers answer the requests of so many connections at once, and nothing goes to the sink,
+/// unless the listener fails or memory runs out before. What goes wrong on a connection ends that
+/// one alone. `gc` opens the journal and removes the contents that nothing keeps under the policy of
+/// its words, as its cutoffs are at one reading of the clock: the journal has one entry more, and
+/// one line tells how many contents were kept and removed. No disk is opened for words that aren't a
+/// policy.
 #[allow(clippy::too_many_arguments)]
 pub fn run<R: Threads + Wait + Sync, O: Disks, S: Source, K: Sink, C: Clock + Drop, L: Listener>(
     rt: &R,
@@ -84,6 +86,20 @@ pub fn run<R: Threads + Wait + Sync, O: Disks, S: Source, K: Sink, C: Clock + Dr
     ensures checked { (journal : List ℕ)
         → asked (map (λ word. word.now) words.now) ≡ Some (check journal)
         → ChecksKnown
+        (DisksFell (O.refuses disks.old journal) O.D.faults (O.at_path disks.new journal)
+        (O.faults disks.old) (O.faults disks.new)) (O.faults disks.new ≡ O.faults disks.old)
+        (K.held sink.old) result (K.held sink.new) (K.faults sink.old) (K.faults sink.new)
+        (told_at O.D.told (O.at_path disks.old journal))
+        (told_at O.D.told (O.at_path disks.new journal))
+        (images_at O.D.may_leave O.D.moment O.D.left_since (O.at_path disks.old journal)
+        (O.at_path disks.new journal)) }
+    // A migration opens the journal as a check does. Its bytes are then those before but for the
+    // format's gate, which is open, or of an empty file those of a new journal; what it writes is the
+    // line of the place. A crash at any moment leaves a journal that stands for the same, or what one
+    // might have left before.
+    ensures migrated { (journal : List ℕ)
+        → asked (map (λ word. word.now) words.now) ≡ Some (migrate journal)
+        → MigratesKnown
         (DisksFell (O.refuses disks.old journal) O.D.faults (O.at_path disks.new journal)
         (O.faults disks.old) (O.faults disks.new)) (O.faults disks.new ≡ O.faults disks.old)
         (K.held sink.old) result (K.held sink.new) (K.faults sink.old) (K.faults sink.new)
@@ -206,6 +222,7 @@ pub fn run<R: Threads + Wait + Sync, O: Disks, S: Source, K: Sink, C: Clock + Dr
     match asked_of(alloc, words) {
         Ok(Asked::Script(journal)) => script(rt, alloc, journal, disks, source, sink, clock),
         Ok(Asked::Check(journal)) => check(alloc, journal, disks, sink),
+        Ok(Asked::Migrate(journal)) => migrate(alloc, journal, disks, sink),
         Ok(
             Asked::Gc {
                 journal,

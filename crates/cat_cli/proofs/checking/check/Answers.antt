@@ -11,8 +11,8 @@ returns-in-Ok-line-clause-checked g c =
     let line = of_ok _ _ _ _ c.in-Ok-line.is c.line_on-disk.ensures.line in
     let level = of_ok _ _ _ _ c.in-Ok-line.is c.line_on-disk.ensures.level in
     checks g.O.D.Disk.told g.O.D.Disk.may_leave g.O.D.Disk.moment g.O.D.Disk.left_since (g.O.Disks.at_path c.args.disks.now c.args.path.now) _ (g.O.Disks.at_path c.back.new.self c.args.path.now) c.in-Ok.disk c.line_on-disk.result.0 (stands_as g.O.D.Disk.told g.O.D.Disk.may_leave g.O.D.Disk.moment g.O.D.Disk.left_since g.O.Disks.handed g.met.O.Disks.handed_tells g.met.O.Disks.handed_leaves g.met.O.Disks.handed_moment (g.O.Disks.at_path c.args.disks.now c.args.path.now) c.in-Ok.disk c.in-Ok.ensures.given) c.in-Ok.ensures.taken c.back.ensures.stands
-    (DisksFell (g.O.Disks.refuses c.args.disks.now c.args.path.now) g.O.D.Disk.faults (g.O.Disks.at_path c.back.new.self c.args.path.now) (g.O.Disks.faults c.args.disks.now) (g.O.Disks.faults c.back.new.self)) _ (c.back.ensures.level level ∙ c.in-Ok.ensures.cause.stays) c.as_str.result.now line.0 c.tell_counts.result _ _ _ _
-    line.2 (c.as_str.ensures.value ∙ line.1) c.tell_counts.ensures.told
+    (DisksFell (g.O.Disks.refuses c.args.disks.now c.args.path.now) g.O.D.Disk.faults (g.O.Disks.at_path c.back.new.self c.args.path.now) (g.O.Disks.faults c.args.disks.now) (g.O.Disks.faults c.back.new.self)) _ (c.back.ensures.level level ∙ c.in-Ok.ensures.cause.stays) c.as_str.result.now line.0 c.tell_line.result _ _ _ _
+    line.2 (c.as_str.ensures.value ∙ line.1) c.tell_line.ensures.told
 
 pub returns-in-Err-clause-checked : goal.returns-in-Err-clause-checked
 returns-in-Err-clause-checked g c w f =

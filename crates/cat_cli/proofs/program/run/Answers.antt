@@ -1,6 +1,6 @@
 use Rattle.std.proofs.Common.{rules, ◌≡◌, ℕ, List, [], map, Bor, Option, Some, inr, refl, sym, ◌∙◌, ap}
 use Rattle.cat_policy.specs.Policies.{policy_of}
-use Rattle.cat_words.specs.Asked.{Task, asked, check, gc, script, serve, task}
+use Rattle.cat_words.specs.Asked.{Task, asked, check, gc, migrate, script, serve, task}
 use Rattle.cat_serve.specs.ReadingLaws.{some_readings}
 use Rattle.cat_cli.proofs.Commands.{has_journal, is_command, lacks_journal, lacks_policy, no_collection, none_asked, refused_policy}
 use Rattle.cat_cli.proofs.Opened.{stands_untouched}
@@ -10,6 +10,9 @@ use Rattle.cat_cli.proofs.program.run.Goals as goal
 
 same_journal : (a b : List ℕ) → ◌≡◌ {A = Option Task} (Some (script a)) (Some (script b)) → a ≡ b
 same_journal a b e = cc
+
+same_migrated : (a b : List ℕ) → ◌≡◌ {A = Option Task} (Some (migrate a)) (Some (migrate b)) → a ≡ b
+same_migrated a b e = cc
 
 same_checked : (a b : List ℕ) → ◌≡◌ {A = Option Task} (Some (check a)) (Some (check b)) → a ≡ b
 same_checked a b e = cc
@@ -55,6 +58,10 @@ pub returns-in-Ok-Check-clause-checked : goal.returns-in-Ok-Check-clause-checked
 returns-in-Ok-Check-clause-checked g c journal asks =
     rw (same_checked journal c.in-Ok-Check.journal.now (sym asks ∙ c.in-Ok-Check.ensures.ok ∙ ap (λ what. Some (task what)) c.in-Ok-Check.field-0-is)) c.check.ensures.checked
 
+pub returns-in-Ok-Migrate-clause-migrated : goal.returns-in-Ok-Migrate-clause-migrated
+returns-in-Ok-Migrate-clause-migrated g c journal asks =
+    rw (same_migrated journal c.in-Ok-Migrate.journal.now (sym asks ∙ c.in-Ok-Migrate.ensures.ok ∙ ap (λ what. Some (task what)) c.in-Ok-Migrate.field-0-is)) c.migrate.ensures.migrated
+
 pub returns-in-Ok-Script-clause-still : goal.returns-in-Ok-Script-clause-still
 returns-in-Ok-Script-clause-still g c none = absurd (none c.in-Ok-Script.journal.now (c.in-Ok-Script.ensures.ok ∙ ap (λ what. Some (task what)) c.in-Ok-Script.field-0-is))
 
@@ -90,8 +97,14 @@ returns-in-Ok-Script-clause-memory_line g c none = is_command _ _ (c.in-Ok-Scrip
 pub returns-in-Ok-Check-clause-refused : goal.returns-in-Ok-Check-clause-refused
 returns-in-Ok-Check-clause-refused g c none = is_command _ _ (c.in-Ok-Check.ensures.ok ∙ ap (λ what. Some (task what)) c.in-Ok-Check.field-0-is) refl none
 
+pub returns-in-Ok-Migrate-clause-refused : goal.returns-in-Ok-Migrate-clause-refused
+returns-in-Ok-Migrate-clause-refused g c none = is_command _ _ (c.in-Ok-Migrate.ensures.ok ∙ ap (λ what. Some (task what)) c.in-Ok-Migrate.field-0-is) refl none
+
 pub returns-in-Ok-Check-clause-memory_line : goal.returns-in-Ok-Check-clause-memory_line
 returns-in-Ok-Check-clause-memory_line g c none = is_command _ _ (c.in-Ok-Check.ensures.ok ∙ ap (λ what. Some (task what)) c.in-Ok-Check.field-0-is) refl none
+
+pub returns-in-Ok-Migrate-clause-memory_line : goal.returns-in-Ok-Migrate-clause-memory_line
+returns-in-Ok-Migrate-clause-memory_line g c none = is_command _ _ (c.in-Ok-Migrate.ensures.ok ∙ ap (λ what. Some (task what)) c.in-Ok-Migrate.field-0-is) refl none
 
 pub returns-in-Ok-Drill-clause-refused : goal.returns-in-Ok-Drill-clause-refused
 returns-in-Ok-Drill-clause-refused g c none = is_command _ _ (c.in-Ok-Drill.ensures.ok ∙ ap (λ what. Some (task what)) c.in-Ok-Drill.field-0-is) refl none
@@ -110,6 +123,9 @@ returns-in-Ok-Script-clause-untouched g c none = has_journal _ _ c.in-Ok-Script.
 
 pub returns-in-Ok-Check-clause-untouched : goal.returns-in-Ok-Check-clause-untouched
 returns-in-Ok-Check-clause-untouched g c none = has_journal _ _ c.in-Ok-Check.journal.now (c.in-Ok-Check.ensures.ok ∙ ap (λ what. Some (task what)) c.in-Ok-Check.field-0-is) refl none
+
+pub returns-in-Ok-Migrate-clause-untouched : goal.returns-in-Ok-Migrate-clause-untouched
+returns-in-Ok-Migrate-clause-untouched g c none = has_journal _ _ c.in-Ok-Migrate.journal.now (c.in-Ok-Migrate.ensures.ok ∙ ap (λ what. Some (task what)) c.in-Ok-Migrate.field-0-is) refl none
 
 pub returns-in-Ok-Serve-clause-untouched : goal.returns-in-Ok-Serve-clause-untouched
 returns-in-Ok-Serve-clause-untouched g c none = has_journal _ _ c.in-Ok-Serve.journal.now (c.in-Ok-Serve.ensures.ok ∙ ap (λ what. Some (task what)) c.in-Ok-Serve.field-0-is) refl none
@@ -159,6 +175,13 @@ returns-in-Err-NoMemory-clause-replies g c journal asks b w e f =
 
 pub returns-in-Err-NoMemory-clause-checked : goal.returns-in-Err-NoMemory-clause-checked
 returns-in-Err-NoMemory-clause-checked g c journal asks w f =
+    let laws = g.met.O.D.Disk g.world.𝓛 g.world.𝓜 g.world.𝓡 ((λ s x. x), (λ x. x), (λ x. x), λ x. x) in
+    let spared = spared_untouched g.O.D.Disk.told g.O.D.Disk.may_leave g.O.D.Disk.moment g.O.D.Disk.left_since laws.only_now (g.O.Disks.at_path c.args.disks.now journal) in
+    let told = c.tell_no_memory.ensures.told w f in
+    (told.0, told.1, inr (rw c.tell_no_memory.ensures.status ((refl, told.2), stands_untouched _, spared)))
+
+pub returns-in-Err-NoMemory-clause-migrated : goal.returns-in-Err-NoMemory-clause-migrated
+returns-in-Err-NoMemory-clause-migrated g c journal asks w f =
     let laws = g.met.O.D.Disk g.world.𝓛 g.world.𝓜 g.world.𝓡 ((λ s x. x), (λ x. x), (λ x. x), λ x. x) in
     let spared = spared_untouched g.O.D.Disk.told g.O.D.Disk.may_leave g.O.D.Disk.moment g.O.D.Disk.left_since laws.only_now (g.O.Disks.at_path c.args.disks.now journal) in
     let told = c.tell_no_memory.ensures.told w f in
