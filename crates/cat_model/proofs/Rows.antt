@@ -16,5 +16,6 @@ pub mod Transplanting
 pub mod Again
 pub mod Sweeping
 pub mod Collecting
+pub mod Checkpointing
 pub mod Back
 pub mod Functions

@@ -33,6 +33,7 @@ pub mod Drafts
 pub mod Mark
 pub mod Turns
 pub mod TurnLaws
+pub mod Resuming
 pub mod Later
 pub mod Naming
 pub mod Sweeps

@@ -7,7 +7,7 @@ use Rattle.cat_model.specs.Mark.{Mark, Grows, Later, last_sweep}
 use Rattle.cat_model.specs.Turns.{Opened, Snapshot, Own, Adds, Acts}
 
 pub grows_self : (a : Mark) → Grows a a
-grows_self a = record { fault = λ x e. e; draft = le_refl a.draft; drafter = λ _. refl; sweep = le_refl (last_sweep a) }
+grows_self a = record { fault = λ x e. e; draft = le_refl a.draft; drafter = λ _. refl; sweep = le_refl (last_sweep a); format = refl }
 
 pub grows_on : (a b c : Mark) → Grows a b → Grows b c → Grows a c
 grows_on a b c p q = let low : a.draft ≤ b.draft = p.draft in let high : b.draft ≤ c.draft = q.draft in let before : last_sweep a ≤ last_sweep b = p.sweep in let after : last_sweep b ≤ last_sweep c = q.sweep in record {
@@ -15,6 +15,7 @@ grows_on a b c p q = let low : a.draft ≤ b.draft = p.draft in let high : b.dra
   draft = omega arith;
   drafter = λ same. let first : a.draft ≡ b.draft = omega arith in let second : b.draft ≡ c.draft = omega arith in p.drafter first ∙ q.drafter second;
   sweep = omega arith;
+  format = p.format ∙ q.format;
 }
 
 pub later_self : (caller : ℕ) (a : Mark) → Later caller a a

@@ -1,15 +1,21 @@
 -- What a caller may do to a logged value in its turn.
-use Rattle.std.specs.Prelude.{◌≡◌, ℕ, List, [], ◌∷◌, ◌++◌}
+use Rattle.std.specs.Prelude.{◌≡◌, ℕ, ◌+◌, List, [], ◌∷◌, ◌++◌, length}
 use Rattle.cat_model.specs.declared.log_entry.LogEntry.{LogEntry}
 use Rattle.cat_model.specs.State.{State}
 use Rattle.cat_model.specs.Drafts.{Open, LeavesOthers}
 use Rattle.cat_model.specs.Mark.{Mark, Later}
 
--- what a log starts from: a state, at its place, the last draft number that was taken until then, and how many faults its keeper had counted
+-- what a log starts from: a state, at its place, the last draft number that was taken until then, those below it whose drafts may still be settled, how many payloads its keeper had, and how many faults it had counted
 pub record Opened : Type 0 where
   pub state : State
   pub draft : ℕ
+  pub drafts : List ℕ
+  pub payloads : ℕ
   pub faults : ℕ
+
+-- the place after a log
+abbrev pub place_after : Opened → List LogEntry → ℕ
+place_after o log = o.state.place + length log
 
 -- all that contracts see of a logged value at one moment; the log's oldest entry comes first
 pub record Snapshot : Type 0 where

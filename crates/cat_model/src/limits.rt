@@ -17,6 +17,8 @@ pub enum Quantity {
     Names,
     /// Drafts since the first journal of the catalogue.
     Drafts,
+    /// Bytes of a checkpoint.
+    Checkpoint,
 }
 
 /// The most of each quantity.

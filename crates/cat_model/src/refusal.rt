@@ -106,6 +106,9 @@ pub enum Refusal {
     /// The body is encoded.
     #[error("the body is encoded")]
     Encoding,
+    /// The journal is of format 1, in which there are no checkpoints.
+    #[error("the journal is of an old format")]
+    OldFormat,
 }
 
 /// A refusal, and the place of the state that it was decided on; none where no state was looked at.

@@ -126,6 +126,8 @@ pub enum Reply {
     Committed(Committed),
     Merged(Merged),
     Swept(Swept),
+    /// The place of the state that was written into the journal.
+    Checkpoint(u32),
 }
 
 /// A reply, at the place of its entry, or of the state that was read.

@@ -108,7 +108,7 @@ entry = record { place = 4; caller = 7; draft = 0; moment = 4000000; action = ac
 what_it_brings : collected three ≡ record {
   said = Ok (record { place = 4; reply = replies.Swept (record { kept = 1; opened = 3; removed = 2 }) });
   logged = entry ∷ [];
-  after = record { book = record three.book { state = record three.book.state { place = 4; present = held m3 ∷ [] }; log = entry ∷ three.book.log }; readings = 4 };
+  after = record three { book = record three.book { state = record three.book.state { place = 4; present = held m3 ∷ [] }; log = entry ∷ three.book.log }; readings = 4 };
 }
 unfolding u8_spelling u16_spelling u32_spelling u64_spelling i64_spelling i32_spelling list ascending text_code short_text_code hash_code id_code element_code key_code moment_code kind_code entry_code meta_code commit_code table_code namespace_code of_table of_namespace content_code emptied_fault changes_of op_fault judge entries commit_bytes content_bytes with_commit with_content expired_keys given_ops given_request request_commit commit_opening needs_commit_room step_commit needs_contents step_create step_assign step_delete answer_content entry_made attempt script live_from live live_since saved kept_contents removed_contents needs_sweep_room step_sweep sweep_entry sweep_call past_of
 what_it_brings = refl

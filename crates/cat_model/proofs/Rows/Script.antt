@@ -1,5 +1,5 @@
 -- Requests of worked cases, one after another.
-use Rattle.std.specs.Prelude.{ℕ, List, [], ◌∷◌, ◌++◌, Result}
+use Rattle.std.specs.Prelude.{ℕ, List, [], ◌∷◌, ◌++◌, Some, Result}
 use Rattle.cat_model.specs.declared.limits.Limits.{Limits}
 use Rattle.cat_model.specs.declared.log_entry.LogEntry.{LogEntry}
 use Rattle.cat_model.specs.declared.refusal.Refusal.{Refusal}
@@ -7,11 +7,15 @@ use Rattle.cat_model.specs.declared.refusal.Refused.{Refused}
 use Rattle.cat_model.specs.declared.reply.Told.{Told}
 use Rattle.cat_model.specs.State.{Digest, State}
 use Rattle.cat_model.specs.Book.{first_book}
-use Rattle.cat_model.specs.Requests.{Session, Wants, request}
+use Rattle.cat_model.specs.Requests.{Journal, Session, Wants, request}
+
+-- a journal of this format without a checkpoint; what a payload holds decides nothing here
+abbrev pub journal_of : ℕ → Journal
+journal_of format = record { format = format; base = 0; bases = Some 0; payload = λ book. [] }
 
 -- the session on an empty catalogue
 abbrev pub first_session : Digest → Limits → Session
-first_session digest limits = record { book = first_book digest limits; readings = 0 }
+first_session digest limits = record { book = first_book digest limits; readings = 0; journal = journal_of 2 }
 
 -- a session, at another state
 abbrev pub at_state : Session → State → Session
