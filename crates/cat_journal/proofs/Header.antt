@@ -8,6 +8,7 @@ use Rattle.std.proofs.lemmas.Bool.{lt-ltb, le-ltb, ne_eqb}
 use Rattle.std.proofs.lemmas.List.{take-append-le, drop-append-le, take_all, drop_all, drop-drop, drop_more, get_or-take}
 use Rattle.std.proofs.lemmas.Slice.Eq.{bytes_eq-Decides}
 use Rattle.cat_io.specs.Crashes.{put, Only, Told}
+use Rattle.cat_keeper.specs.Keeping.{is_format}
 use Rattle.cat_journal.specs.declared.fault.OpenFault.{OpenFault}
 use Rattle.cat_journal.specs.declared.fault.OpenFault.TheVariants.{Version, Damaged}
 use Rattle.cat_journal.specs.declared.points.Points.{Points}
@@ -115,6 +116,11 @@ opened_holds None (Some b) x newer found = absurd found
 opened_holds (Some a) None x newer found = absurd found
 opened_holds (Some a) (Some b) x newer found =
     recovered-at_rest (form_gate b) (payloads b) x.end b found.0.rest ∙ ap (λ (l : List (List ℕ)). Ok l) (sym (take_all (held_count x) (payloads b) (omega (arith, found.0.held.placed.count))))
+
+-- the number of its format
+pub opened_known : (newer : Bool) (format : ℕ) → format ≡ cond newer 2 1 → is_format format ≡ true
+opened_known true format is = ap is_format is
+opened_known false format is = ap is_format is
 
 -- what a journal knows of a disk on which it was opened
 module _ (x : Points) (newer : Bool) (t t' : Option (List ℕ)) (found : Told t t' (λ before after. IsOpened before after x × (is_newer (form_gate after) ≡ newer))) where

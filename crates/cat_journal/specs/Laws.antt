@@ -60,3 +60,8 @@ module _ (told : Option (List ℕ)) (x : Points) (held : IfSome told (Holds x)) 
 
   pub begun_payloads : first_of ps ≡ x.first
   begun_payloads = (known told held is).1
+
+-- all that are held are counted
+pub counted_all : (told : Option (List ℕ)) (x : Points) → IfSome told (Holds x) → IfSome (option_map (first_payloads (held_count x)) told) (λ ps. held_count x ≡ length ps)
+counted_all None x held = tt
+counted_all (Some bytes) x held = sym held.placed.count

@@ -1,9 +1,9 @@
 //! A keeper on a disk.
-ghost use Rattle.std.specs.Prelude.{ℕ, List, [], ◌∷◌, ◌++◌, None, Some, ◌≡◌, ◌≢◌, ◌<◌, ◌≤◌, ◌+◌, ◌^◌, length, vec_capacity, Ok, IfOk, IfErr, IfSome, MatchResult};
+ghost use Rattle.std.specs.Prelude.{ℕ, List, [], ◌∷◌, ◌++◌, None, Some, ◌≡◌, ◌≢◌, ◌<◌, ◌≤◌, ◌+◌, ◌^◌, length, vec_capacity, Ok, IfOk, IfErr, IfSome, MatchResult, true};
 ghost use Rattle.std.proofs.Props.{props};
 ghost use Rattle.cat_io.specs.Causes.{Rose};
 ghost use Rattle.cat_io.specs.Crashes.{put, LeavesOnly, Told, Only};
-ghost use Rattle.cat_keeper.specs.Keeping.{WithOrWithout};
+ghost use Rattle.cat_keeper.specs.Keeping.{WithOrWithout, is_format};
 ghost use Rattle.cat_journal.specs.Frames.{form_gate, format_by, max_entries, payload_of, recovered, new_journal, frame as frame_of};
 ghost use Rattle.cat_journal.specs.Held.{held_count, outcome, Holds, IsHeld-prop, IsSafe, IsSafe-prop, IsTorn, IsTorn-prop};
 ghost use Rattle.cat_journal.specs.Reading.{OnlyReads, OpensOnly, IsFaultOf};
@@ -38,6 +38,7 @@ pub struct Journal<D: Disk> {
     ghost fits: { points.end + 1 < 2 ^ 64 },
     ghost room: { held_count points ≤ points.end },
     ghost few: { length points.gates.items ≤ max_entries },
+    ghost known: { is_format format ≡ true },
 }
 
 /// A frame and the next gate, closed.
@@ -238,8 +239,14 @@ impl<D: Disk + Send> Keeper for Journal<D> {
 
     ghost begins = { λ j ps told. begun_payloads (D.told j.disk) j.points j.held ps told };
 
+    ghost formed = { λ j. j.known };
+
     fn count(&self) -> u32 {
         self.points.gates.len() as u32
+    }
+
+    fn total(&self) -> u64 {
+        self.points.before + self.points.gates.len() as u64
     }
 
     fn first(&self) -> u32 {

@@ -1,12 +1,12 @@
 -- What is watched stays so through the calls of a keeper.
-use Rattle.std.proofs.Common.{◌≡◌, ◌≤◌, ◌+◌, ◌⊎◌, inl, inr, ⊎_elim, ℕ, List, [], ◌∷◌, ◌++◌, length, Option, Some, None, Result, Ok, Err, refl, sym, ◌∙◌, ap, ap₂, subst, arith, length-append}
+use Rattle.std.proofs.Common.{◌≡◌, ◌≤◌, ◌+◌, ◌⊎◌, inl, inr, ⊎_elim, ℕ, List, [], ◌∷◌, ◌++◌, length, Option, Some, None, Result, Ok, Err, refl, sym, ◌∙◌, ap, ap₂, subst, arith, length-append, append_assoc}
 use Rattle.std.specs.Prelude.{◌↔◌, IfSome, IsErrOf, OnOk, OnErr}
 use Rattle.std.proofs.lemmas.List.{take_all, take_at, take-append-le}
 use Rattle.cat_io.specs.Crashes.{LeavesOnly, Told, never_known}
 use Rattle.cat_keeper.specs.declared.fault.KeepFault.{KeepFault}
 use Rattle.cat_keeper.specs.declared.fault.KeepFault.TheVariants.{Fault, Down, NoMemory}
 use Rattle.cat_keeper.specs.Keeping.{WithOrWithout}
-use Rattle.cat_keeper.specs.Watching.{with_flying, IsFrontOf, IsWatchedSo}
+use Rattle.cat_keeper.specs.Watching.{with_flying, GoOn, IsFrontOf, IsWatchedSo}
 
 -- no bytes are known of it
 pub no_bytes : {K : Type 0} (moment : K → ℕ) (old new : K) (P : List ℕ → Type 0) → moment old ≤ moment new → LeavesOnly moment (λ _. never_known) old new P
@@ -28,6 +28,10 @@ whole least ps p c many either =
     (λ (e : c ≡ Some (ps ++ p ∷ [])). (length (ps ++ p ∷ []), omega (arith, size, many), omega arith, e ∙ ap (λ (l : List (List ℕ)). Some l) (sym (take_all (length (ps ++ p ∷ [])) (ps ++ p ∷ []) (omega arith)))))
     either
 
+-- payloads that go on from others are as many at least
+as_many : (had ps : List (List ℕ)) → GoOn had ps → length had ≤ length ps
+as_many had ps on = omega (arith, ap length on.1, length-append had on.0)
+
 pub equal_told : (told told' : Option (List (List ℕ))) → told' ≡ told → Told told told' (λ a b. b ≡ a)
 equal_told told told' is = subst (λ (t : Option (List (List ℕ))). Told told t (λ a b. b ≡ a)) (sym is) (itself told)
   where
@@ -44,19 +48,19 @@ ok_is_not_err x e is = cc
 
 -- ---- the calls
 
-module _ {K : Type 0} (in_flight : K → Option (List ℕ)) (moment : K → ℕ) (stands_for : List ℕ → Option (List (List ℕ))) (bytes_left : K → List ℕ → Type 0) (bytes_since : K → ℕ → List ℕ → Type 0) (since least : ℕ) (before : List ℕ → Type 0)
+module _ {K : Type 0} (in_flight : K → Option (List ℕ)) (moment : K → ℕ) (stands_for : List ℕ → Option (List (List ℕ))) (bytes_left : K → List ℕ → Type 0) (bytes_since : K → ℕ → List ℕ → Type 0) (since : ℕ) (had : List (List ℕ)) (before : List ℕ → Type 0)
     (counts_now : (k : K) (t : ℕ) (b : List ℕ) → t ≤ moment k → bytes_left k b → bytes_since k t b) where
   -- what is watched of a keeper with these payloads
   abbrev pub So : K → List (List ℕ) → Type 0
-  So k ps = IsWatchedSo stands_for since least before (in_flight k) (moment k) (bytes_since k) ps
+  So k ps = IsWatchedSo stands_for since had before (in_flight k) (moment k) (bytes_since k) ps
 
   same : (old new : K) (ps qs : List (List ℕ)) → qs ≡ ps → in_flight new ≡ in_flight old → LeavesOnly moment bytes_since old new (bytes_left old) → So old ps → So new qs
   same old new ps qs is flies run w =
       let all : with_flying ps (in_flight old) ≡ with_flying qs (in_flight new) = ap₂ with_flying (sym is) (sym flies) in
       record {
         later = omega (arith, w.later, run.later);
-        many = subst (λ (l : List (List ℕ)). least ≤ length l) (sym is) w.many;
-        each = λ b left. subst (λ l. before b ⊎ IsFrontOf least l (stands_for b)) all (w.each b (⊎_elim (λ was. was) (λ now. counts_now old since b w.later now) (run.before since b w.later left)));
+        goes_on = subst (GoOn had) (sym is) w.goes_on;
+        each = λ b left. subst (λ l. before b ⊎ IsFrontOf (length had) l (stands_for b)) all (w.each b (⊎_elim (λ was. was) (λ now. counts_now old since b w.later now) (run.before since b w.later left)));
       }
 
   -- a call that adds nothing
@@ -68,15 +72,15 @@ module _ {K : Type 0} (in_flight : K → Option (List ℕ)) (moment : K → ℕ)
   stays (Some ps) (Some qs) old new is flies run w = same old new ps qs is flies run w
 
   -- an append, whose payload is added, or in flight
-  more : (old new : K) (ps qs : List (List ℕ)) (p : List ℕ) → least ≤ length qs → with_flying qs (in_flight new) ≡ ps ++ p ∷ [] → in_flight old ≡ None
+  more : (old new : K) (ps qs : List (List ℕ)) (p : List ℕ) → GoOn had qs → with_flying qs (in_flight new) ≡ ps ++ p ∷ [] → in_flight old ≡ None
       → LeavesOnly moment bytes_since old new (λ b. WithOrWithout ps p (stands_for b)) → So old ps → So new qs
-  more old new ps qs p many all none run w = record {
+  more old new ps qs p goes_on all none run w = record {
     later = omega (arith, w.later, run.later);
-    many = many;
-    each = λ b left. subst (λ l. before b ⊎ IsFrontOf least l (stands_for b)) (sym all)
+    goes_on = goes_on;
+    each = λ b left. subst (λ l. before b ⊎ IsFrontOf (length had) l (stands_for b)) (sym all)
         (⊎_elim
-        (λ was. ⊎_elim (λ early. inl early) (λ front. inr (longer least ps p (stands_for b) front)) (subst (λ f. before b ⊎ IsFrontOf least (with_flying ps f) (stands_for b)) none (w.each b was)))
-        (λ now. inr (whole least ps p (stands_for b) w.many now))
+        (λ was. ⊎_elim (λ early. inl early) (λ front. inr (longer (length had) ps p (stands_for b) front)) (subst (λ f. before b ⊎ IsFrontOf (length had) (with_flying ps f) (stands_for b)) none (w.each b was)))
+        (λ now. inr (whole (length had) ps p (stands_for b) (as_many had ps w.goes_on) now))
         (run.before since b w.later left));
   }
 
@@ -86,7 +90,7 @@ module _ {K : Type 0} (in_flight : K → Option (List ℕ)) (moment : K → ℕ)
   grown None (Some qs) old new p is none none' run w = absurd is
   grown (Some ps) None old new p is none none' run w = absurd is
   grown (Some ps) (Some qs) old new p is none none' run w =
-      more old new ps qs p (omega (arith, w.many, ap length is, length-append ps (p ∷ []))) (ap (with_flying qs) none' ∙ is) none run w
+      more old new ps qs p (w.goes_on.0 ++ p ∷ [], is ∙ ap (λ (l : List (List ℕ)). l ++ p ∷ []) w.goes_on.1 ∙ append_assoc had w.goes_on.0 (p ∷ [])) (ap (with_flying qs) none' ∙ is) none run w
 
   fallen : (told told' : Option (List (List ℕ))) (old new : K) (p : List ℕ) → Told told told' (λ a b. b ≡ a) → in_flight old ≡ None → in_flight new ≡ Some p
       → LeavesOnly moment bytes_since old new (λ b. IfSome told (λ ps. WithOrWithout ps p (stands_for b))) → IfSome told (So old) → IfSome told' (So new)
@@ -94,7 +98,7 @@ module _ {K : Type 0} (in_flight : K → Option (List ℕ)) (moment : K → ℕ)
   fallen None (Some qs) old new p is none flies run w = absurd is
   fallen (Some ps) None old new p is none flies run w = absurd is
   fallen (Some ps) (Some qs) old new p is none flies run w =
-      more old new ps qs p (omega (arith, w.many, ap length is)) (ap (with_flying qs) flies ∙ ap (λ (l : List (List ℕ)). l ++ p ∷ []) is) none run w
+      more old new ps qs p (subst (GoOn had) (sym is) w.goes_on) (ap (with_flying qs) flies ∙ ap (λ (l : List (List ℕ)). l ++ p ∷ []) is) none run w
 
   -- by its answer
   pub appended : {T : Type 0} (down : K → Option ℕ) (waits : (k : K) → down k ≡ None → in_flight k ≡ None) (told told' : Option (List (List ℕ))) (old new : K) (p : List ℕ) (count : ℕ) (r : Result T KeepFault)

@@ -1,8 +1,10 @@
 -- What the laws of keepers rest on.
-use Rattle.std.specs.Prelude.{◌≡◌, ℕ, List, length, Option, Some, None}
-use Rattle.std.proofs.Common.{ap, sym}
+use Rattle.std.specs.Prelude.{◌≡◌, ◌≢◌, ◌||◌, Bool, true, false, nat_eq, ℕ, List, length, Option, Some, None}
+use Rattle.std.proofs.Common.{ap, arith, refl, sym}
+use Rattle.std.proofs.lemmas.Bool.Decides.{nat_tests}
 use Rattle.std.specs.Option.{option_map}
 use Rattle.cat_keeper.specs.Bases.{entries_of, first_of}
+use Rattle.cat_keeper.specs.Keeping.{is_format}
 
 pub told_is : {A : Type 0} (x y : A) → Some x ≡ Some y → x ≡ y
 told_is x y e = cc
@@ -20,3 +22,12 @@ none_flies p down up = ap (λ d. option_map (λ c. p) d) up
 -- and something is, where one did
 pub one_flies : {A B : Type 0} (p : B) (down : Option A) (c : A) → down ≡ Some c → (q : B) × (option_map (λ (d : A). p) down ≡ Some q)
 one_flies p down c is = (p, ap (λ d. option_map (λ x. p) d) is)
+
+-- a format that isn't 2 is 1
+pub old_format : (n : ℕ) → is_format n ≡ true → n ≢ 2 → n ≡ 1
+old_format n is other = by (nat_eq n 1) (nat_eq n 2) refl refl is
+  where
+    by : (one two : Bool) → nat_eq n 1 ≡ one → nat_eq n 2 ≡ two → (one || two) ≡ true → n ≡ 1
+    by true two e f either = grind (arith, nat_tests, e)
+    by false true e f either = absurd (other (grind (arith, nat_tests, f)))
+    by false false e f either = absurd cc

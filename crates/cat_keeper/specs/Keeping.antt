@@ -1,5 +1,5 @@
 -- What the answers of a keeper say, and what one append may have done.
-use Rattle.std.specs.Prelude.{◌≡◌, ◌≤◌, ◌⊎◌, ℕ, List, [], ◌∷◌, ◌++◌, Option, Some, Result, Ok, Err}
+use Rattle.std.specs.Prelude.{◌≡◌, ◌≤◌, ◌⊎◌, ◌||◌, Bool, nat_eq, ℕ, List, [], ◌∷◌, ◌++◌, Option, Some, Result, Ok, Err}
 use Rattle.cat_io.specs.Causes.{Rose}
 use Rattle.cat_keeper.specs.declared.fault.KeepFault.{KeepFault}
 use Rattle.cat_keeper.specs.declared.fault.KeepFault.TheVariants.{Fault, Down, NoMemory}
@@ -14,3 +14,7 @@ HasKeepCause before now (Err NoMemory) = now ≡ before
 -- an image recovers to the payloads, or to these and one more
 abbrev pub WithOrWithout : List (List ℕ) → List ℕ → Option (List (List ℕ)) → Type 0
 WithOrWithout ps p c = (c ≡ Some ps) ⊎ (c ≡ Some (ps ++ p ∷ []))
+
+-- a format is 1 or 2
+abbrev pub is_format : ℕ → Bool
+is_format n = nat_eq n 1 || nat_eq n 2

@@ -1,10 +1,10 @@
 //! The trait of what keeps payloads.
-ghost use Rattle.std.specs.Prelude.{ℕ, List, [], ◌∷◌, ◌++◌, Option, None, Some, ◌≡◌, ◌≤◌, ◌<◌, ◌+◌, ◌^◌, ◌↔◌, true, length, get_or, IsErrOf, IfOk, IfSome, OnOk, OnErr};
+ghost use Rattle.std.specs.Prelude.{ℕ, List, [], ◌∷◌, ◌++◌, Option, None, Some, ◌≡◌, ◌≤◌, ◌<◌, ◌+◌, ◌^◌, ◌↔◌, true, length, get_or, IsErrOf, IsTrue, IfOk, IfSome, OnOk, OnErr};
 ghost use Rattle.cat_io.specs.Crashes.{Told};
 ghost use Rattle.cat_frames.specs.CheckpointLaws.{is_whole_checkpoint};
 ghost use Rattle.cat_frames.specs.Payload.{has_reading};
 ghost use Rattle.cat_keeper.specs.Bases.{base_of, base_place, entries_of, first_of};
-ghost use Rattle.cat_keeper.specs.Keeping.{HasKeepCause, WithOrWithout};
+ghost use Rattle.cat_keeper.specs.Keeping.{HasKeepCause, WithOrWithout, is_format};
 ghost use Rattle.cat_io.specs.Crashes.{LeavesOnly};
 ghost use Rattle.cat_keeper.specs.Moments.{Within};
 
@@ -64,6 +64,10 @@ pub trait Keeper: Send {
     /// How many entries there are behind the last base.
     fn count(&self) -> u32
         ensures { result ≡ kept self.now };
+
+    /// How many payloads there are, bases and what stands before them among these.
+    fn total(&self) -> u64
+        ensures { IfSome (told self.now) (λ ps. result ≡ length ps) };
 
     /// The place of the last base, and 0 where there is none.
     fn first(&self) -> u32
@@ -243,4 +247,6 @@ pub trait Keeper: Send {
 
     ghost begins: { (k : Self) (ps : List (List ℕ)) → told k ≡ Some ps
         → first_of ps ≡ start k };
+
+    ghost formed: { (k : Self) → IsTrue (is_format (form k)) };
 }

@@ -75,7 +75,7 @@ impl MemKeeper {
 
 impl Keeper for MemKeeper {
     ghost use Rattle.std.specs.Prelude.{ℕ, [], ◌∷◌, ◌++◌, None, Some, true, ◌≡◌, ◌≤◌, ◌<◌, ◌+◌, ◌^◌, ◌↔◌, length, get_or, IsErrOf, IfOk, OnOk, OnErr};
-    ghost use Rattle.std.proofs.Common.{inl, sym, ◌∙◌};
+    ghost use Rattle.std.proofs.Common.{inl, refl, sym, ◌∙◌};
     ghost use Rattle.cat_frames.specs.CheckpointLaws.{is_whole_checkpoint};
     ghost use Rattle.cat_frames.specs.Payload.{has_reading};
     ghost use Rattle.cat_keeper.specs.Bases.{base_of, base_place, entries_of};
@@ -135,8 +135,14 @@ impl Keeper for MemKeeper {
 
     ghost begins = { λ k ps told. told_first (keeper_payloads k) ps told };
 
+    ghost formed = { λ k. refl };
+
     fn count(&self) -> u32 {
         (self.payloads.len() - self.start) as u32
+    }
+
+    fn total(&self) -> u64 {
+        self.payloads.len() as u64
     }
 
     fn first(&self) -> u32 {

@@ -17,25 +17,27 @@ pub trait Since {
     // that moment
     ghost since: { ℕ };
 
-    // how many payloads there were at least
-    ghost least: { ℕ };
+    // the payloads that there were, as far as they are known
+    ghost had: { List (List ℕ) };
 
     // the bytes that a crash might have left from then on, before the first call
     ghost before: { List ℕ → Type 0 };
 }
 
 impl Since for Brand {
+    ghost use Rattle.std.specs.Prelude.{[]};
     ghost use Rattle.cat_io.specs.Crashes.{none_known};
 
     ghost since = { 0 };
 
-    ghost least = { 0 };
+    ghost had = { [] };
 
     ghost before = { none_known };
 }
 
-/// A keeper all of whose calls go through here. Since the moment that is watched a crash leaves a
-/// front of its payloads, or what it might have left before the first call.
+/// A keeper all of whose calls go through here. Its payloads go on from those that there were at the
+/// moment since which it is watched, and since then a crash leaves a front of them that has those, or
+/// what it might have left before the first call.
 #[derive(Drop)]
 pub struct Watched<B: Since + Send, K: Keeper> {
     keeper: K,
@@ -50,14 +52,14 @@ impl<B: Since + Send, K: Keeper> Model for Watched<B, K> {
     ghost view = { λ w. w.keeper };
 
     ghost invariant = { λ w. IsWatched K.told K.in_flight K.moment K.stands_for K.bytes_since
-        B.since B.least B.before w.keeper };
+        B.since B.had B.before w.keeper };
 }
 
 impl<B: Since + Send, K: Keeper> Watched<B, K> {
     /// Watches a keeper from its first call on.
     pub fn new(keeper: K) -> Watched<B, K>
         requires { IsWatched K.told K.in_flight K.moment K.stands_for K.bytes_since B.since
-            B.least B.before keeper }
+            B.had B.before keeper }
         ensures { result ≡ keeper }
     {
         Watched {
@@ -70,7 +72,7 @@ impl<B: Since + Send, K: Keeper> Watched<B, K> {
     pub fn into_inner(self) -> K
         ensures keeper { result ≡ self }
         ensures watched { IsWatched K.told K.in_flight K.moment K.stands_for K.bytes_since B.since
-            B.least B.before self }
+            B.had B.before self }
     {
         let Watched { keeper, since: _ } = self;
         keeper
@@ -126,8 +128,14 @@ impl<B: Since + Send, K: Keeper> Keeper for Watched<B, K> {
 
     ghost begins = { λ k ps told. K.begins k ps told };
 
+    ghost formed = { λ k. K.formed k };
+
     fn count(&self) -> u32 {
         self.keeper.count()
+    }
+
+    fn total(&self) -> u64 {
+        self.keeper.total()
     }
 
     fn first(&self) -> u32 {

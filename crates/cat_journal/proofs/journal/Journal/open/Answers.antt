@@ -1,4 +1,4 @@
-use Rattle.cat_journal.proofs.Header.{not_down, opened_form, opened_held, opened_holds, opened_safe}
+use Rattle.cat_journal.proofs.Header.{not_down, opened_form, opened_held, opened_holds, opened_known, opened_safe}
 use Rattle.cat_journal.proofs.journal.Journal.open.Goals as goal
 
 pub invariant_of-result : goal.invariant_of-result
@@ -16,6 +16,7 @@ invariant_of-result g c =
       fits = c.in-Ok.ensures.fits.0;
       room = c.in-Ok.ensures.fits.1;
       few = c.in-Ok.ensures.fits.2;
+      known = opened_known newer c.format_of.result c.format_of.ensures;
     }
 
 pub returns-in-Ok-clause-holds : goal.returns-in-Ok-clause-holds

@@ -1,3 +1,4 @@
+use Rattle.std.proofs.Common.{refl}
 use Rattle.cat_journal.proofs.Migrated.{formed_newer, held_newer, image_newer, safe_newer, told_images, told_newer, told_stands}
 use Rattle.cat_journal.proofs.journal.Journal.open_format.Goals as goal
 
@@ -14,6 +15,7 @@ invariant_of-result g c =
       fits = j.fits;
       room = j.room;
       few = j.few;
+      known = refl;
     }
 
 pub returns-in-Ok-clause-told : goal.returns-in-Ok-clause-told

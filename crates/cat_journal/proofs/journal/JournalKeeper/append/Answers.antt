@@ -36,6 +36,7 @@ invariant_of-self g c =
       fits = omega (arith, c.in-Ok.ensures.fits);
       room = omega (arith, j.room, more);
       few = omega (arith, c.requires.few, ap length c.push_reserved.ensures.items, length-append j.points.gates.items (j.points.end ∷ []));
+      known = j.known;
     }
 
 pub invariant_of-self-in-Err : goal.invariant_of-self-in-Err
@@ -58,6 +59,7 @@ invariant_of-self-in-Err g c =
       fits = j.fits;
       room = j.room;
       few = j.few;
+      known = j.known;
     }
 
 pub returns-in-Ok-clause-added : goal.returns-in-Ok-clause-added

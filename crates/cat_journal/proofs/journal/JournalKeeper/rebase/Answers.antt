@@ -33,6 +33,7 @@ invariant_of-self g c =
       fits = omega (arith, end, c.in-Ok.ensures.fits);
       room = omega (arith, end, j.room, more);
       few = omega (arith, ap length c.rebase.ensures.gates);
+      known = j.known;
     }
 
 pub invariant_of-self-in-Err : goal.invariant_of-self-in-Err
@@ -55,6 +56,7 @@ invariant_of-self-in-Err g c =
       fits = j.fits;
       room = j.room;
       few = j.few;
+      known = j.known;
     }
 
 pub returns-in-Ok-clause-added : goal.returns-in-Ok-clause-added
