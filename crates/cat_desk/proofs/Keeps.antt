@@ -12,7 +12,7 @@ use Rattle.atomic_table.proofs.Lists.{set_else, set_here, one_turn}
 use Rattle.cat_model.specs.declared.log_entry.LogEntry.{LogEntry}
 use Rattle.cat_model.specs.Drafts.{Open, open_of, StaysOpen, LeavesOthers}
 use Rattle.cat_model.specs.Mark.{Mark, Grows, Later}
-use Rattle.cat_model.specs.Turns.{Opened, Adds}
+use Rattle.cat_model.specs.Turns.{Opened, Adds, place_after}
 use Rattle.cat_model.specs.TurnLaws.{grows_self, grows_on, stays_self, stays_on}
 use Rattle.cat_desk.specs.Sight.{Origin, Stage, Idle, Making, Waiting, Called, Holding, Leaving, Part, no_part, View}
 use Rattle.cat_desk.specs.Log.{IsAmong, WasGiven, Follows, Missed, Since}
@@ -67,7 +67,7 @@ module _ {V : Type 0} (log : V → List LogEntry) (opened : V → Opened) (legal
   -- a step by which the seat id comes to the view w
   step_to : (s : St) (r : Rule s) (id : ℕ) (v w : View) (ws : List ℕ) (hs : List (Maybe (Option V))) (all : List LogEntry) (tickets : ℕ) (owner : ℕ → ℕ) (place : Place V) (last : ℕ) (marks : ℕ → Mark) (opens : Open)
       → ((a b : ℕ) → a ≤ b → b ≤ last → Grows (marks a) (marks b)) → (marks 0 ≡ mark key) → ((j : ℕ) → j ≤ last → IsGiven r.next (mark key) (marks j)) → AreGiven r.next opens → get_elem? s.views id ≡ some v → IsLive w.stage → weight w ≡ weight v
-      → length ws ≡ 67 → get_or ws 0 0 ≡ length all → length all < 4294967296 → get_or ws 1 0 ≡ tickets % 18446744073709551616 → (total queue (set s.views id w) + get_or ws 2 0 ≡ tickets) → legal (opened key) all → Since r.next (log key) all
+      → length ws ≡ 67 → get_or ws 0 0 ≡ place_after (opened key) all → place_after (opened key) all < 4294967296 → get_or ws 1 0 ≡ tickets % 18446744073709551616 → (total queue (set s.views id w) + get_or ws 2 0 ≡ tickets) → legal (opened key) all → Since r.next (log key) all
       → Fits (opened key, log key) all tickets (get_or ws 2 0) r.next r.keeper owner r.named (IsUnborn place) last marks opens id w
       → ((j : ℕ) (d : View) → j ≢ id → get_elem? s.views j ≡ some d → IsLive d.stage → Fits (opened key, log key) all tickets (get_or ws 2 0) r.next r.keeper owner r.named (IsUnborn place) last marks opens j d)
       → SomeoneSaw (set s.views id w) all last → Stands log opened mark left_open (opened key) all (marks last) opens (owner (get_or ws 2 0)) hs (set s.views id w) place
@@ -213,7 +213,7 @@ module _ {V : Type 0} (log : V → List LogEntry) (opened : V → Opened) (legal
 
   pub meets : (slots id : ℕ) (me : M) → me.0.stage ≡ Idle → Allows Rule slots id me 0 (λ n. n) (met me)
   meets slots id me idle s r len here fits = let v : View = me.0 in let w : View = knowing v (word_at s 0) in let live : IsLive v.stage = subst IsLive (sym idle) tt in
-      let f = r.each id v here live in let count : word_at s 0 ≡ length r.all = r.count in let most : v.known ≤ length r.all = f.saw.most in let least : length v.seen ≤ v.known = f.saw.least in let small : length r.all < 4294967296 = r.small in (
+      let f = r.each id v here live in let count : word_at s 0 ≡ place_after (opened key) r.all = r.count in let most : v.known ≤ place_after (opened key) r.all = f.saw.most in let least : place_after (opened key) v.seen ≤ v.known = f.saw.least in let small : place_after (opened key) r.all < 4294967296 = r.small in (
         w,
         keeps,
         tt,
@@ -239,7 +239,7 @@ module _ {V : Type 0} (log : V → List LogEntry) (opened : V → Opened) (legal
       )
 
   -- the slot is taken by the seat whose turn it is
-  taken : (s : St) (r : Rule s) (id : ℕ) (cs : List (ℕ × Option V)) (v : View) (x : Option V) (seen : List LogEntry) (k : ℕ) (m : Mark) (op : Open) (t : ℕ) (ps : Part × Part) → get_elem? s.views id ≡ some v → IsServed v.stage → seen ≡ r.all → length seen ≤ k → k ≤ length r.all → m ≡ r.marks r.last → op ≡ r.opens → t ≡ r.last → IsPart ps.0 seen m × IsPart ps.1 seen m
+  taken : (s : St) (r : Rule s) (id : ℕ) (cs : List (ℕ × Option V)) (v : View) (x : Option V) (seen : List LogEntry) (k : ℕ) (m : Mark) (op : Open) (t : ℕ) (ps : Part × Part) → get_elem? s.views id ≡ some v → IsServed v.stage → seen ≡ r.all → place_after (opened key) seen ≤ k → k ≤ place_after (opened key) r.all → m ≡ r.marks r.last → op ≡ r.opens → t ≡ r.last → IsPart ps.0 seen m × IsPart ps.1 seen m
       → Rule (stepped s 0 (word_at s 0) id cs (record v { seen = seen; known = k; mark = m; found = op; turn = t; stage = Holding; parts = ps }) (takes 0 x))
   taken s r id cs v x seen k m op t ps here sv all least most marks opens last both = let w : View = record v { seen = seen; known = k; mark = m; found = op; turn = t; stage = Holding; parts = ps } in
       let f = r.each id v here (busy_live v.stage (served_busy v.stage sv)) in let turn = my_turn s r id v f sv in
@@ -286,18 +286,20 @@ module _ {V : Type 0} (log : V → List LogEntry) (opened : V → Opened) (legal
   takes_value slots id me is none_held s r len here below = let v : View = me.0 in let sv : IsServed v.stage = subst IsServed (sym is) tt in
       let f = r.each id v here (subst IsLive (sym is) tt) in let turn = my_turn s r id v f sv in
       let h = home_at log opened mark left_open key r.all (r.marks r.last) r.opens (r.owner (word_at s 2)) s.homes s.views id v r.place here turn (λ a. subst IsAlone is a) r.stands in let x : V = h.0 in
-      let most : length (log x) ≤ length r.all = subst (λ l. length (log x) ≤ length l) h.2 (le_refl (length (log x))) in (
-        finding v (log x) (mark x) (left_open x) r.last,
+      let here_is : place_after (opened x) (log x) ≡ place_after (opened key) (log x) = ap (λ (o : Opened). place_after o (log x)) h.3 in
+      let least : place_after (opened key) (log x) ≤ place_after (opened x) (log x) = omega (arith, here_is) in
+      let most : place_after (opened x) (log x) ≤ place_after (opened key) r.all = subst (λ (l : List LogEntry). place_after (opened x) (log x) ≤ place_after (opened key) l) h.2 (omega (arith, here_is)) in (
+        finding v (opened x) (log x) (mark x) (left_open x) r.last,
         takes 0 (Some x),
         h.1,
-        taken s r id me.1 v (Some x) (log x) (length (log x)) (mark x) (left_open x) r.last (no_part, no_part) here sv h.2 (le_refl (length (log x))) most h.4 h.5 refl (λ n is. absurd is, λ n is. absurd is),
-        subst (TookAt log opened legal mark left_open me (finding v (log x) (mark x) (left_open x) r.last, (0, Some x) ∷ me.1)) (sym is) (
+        taken s r id me.1 v (Some x) (log x) (place_after (opened x) (log x)) (mark x) (left_open x) r.last (no_part, no_part) here sv h.2 least most h.4 h.5 refl (λ n is. absurd is, λ n is. absurd is),
+        subst (TookAt log opened legal mark left_open me (finding v (opened x) (log x) (mark x) (left_open x) r.last, (0, Some x) ∷ me.1)) (sym is) (
           x,
           (
             ap (λ l. (0, Some x) ∷ l) none_held,
             refl,
             subst (Follows v.number v.seen) (sym h.2) (missed_follows v.number r.next v.seen r.all (f.saw.missed v.number (inl refl))),
-            subst (λ l. v.known ≤ length l) (sym h.2) f.saw.most,
+            subst (λ (z : Opened × List LogEntry). v.known ≤ place_after z.0 z.1) (λ i. (sym h.3 i, sym h.2 i)) f.saw.most,
             begins_at v.origin x f.saw.based h.3 (subst (legal (opened key)) (sym h.2) r.is_legal),
             f.marked.turn,
             (λ same. (h.4 ∙ (ap r.marks same ∙ sym f.marked.mark), h.5 ∙ sym (f.marked.whole (sym same)))),
@@ -322,9 +324,9 @@ module _ {V : Type 0} (log : V → List LogEntry) (opened : V → Opened) (legal
         subst (TookAt log opened legal mark left_open me (at_stage v Holding, (0, None) ∷ me.1)) (sym is) (ap (λ l. (0, None) ∷ l) none_held, refl),
       )
 
-  given : (s : St) (r : Rule s) (id : ℕ) (v : View) (n : ℕ) (x : V) → 0 < length s.homes → get_elem? s.views id ≡ some v → v.stage ≡ Holding → Adds v.number v.seen (log x) → legal (opened key) (log x) → opened x ≡ opened key → Later v.number v.mark (mark x) → LeavesOthers v.number v.found (left_open x) → n ≡ length (log x) → n < 4294967296
-      → Rule (stepped s 0 n id ((0, Some x) ∷ []) (leaving v (log x) (mark x) (left_open x)) gives)
-  given s r id v n x some_slot here is adds ok from later others_open count small = let w : View = leaving v (log x) (mark x) (left_open x) in let sv : IsServed v.stage = subst IsServed (sym is) tt in
+  given : (s : St) (r : Rule s) (id : ℕ) (v : View) (n : ℕ) (x : V) → 0 < length s.homes → get_elem? s.views id ≡ some v → v.stage ≡ Holding → Adds v.number v.seen (log x) → legal (opened key) (log x) → opened x ≡ opened key → Later v.number v.mark (mark x) → LeavesOthers v.number v.found (left_open x) → n ≡ place_after (opened x) (log x) → n < 4294967296
+      → Rule (stepped s 0 n id ((0, Some x) ∷ []) (leaving v (opened x) (log x) (mark x) (left_open x)) gives)
+  given s r id v n x some_slot here is adds ok from later others_open count small = let w : View = leaving v (opened x) (log x) (mark x) (left_open x) in let here_is : place_after (opened x) (log x) ≡ place_after (opened key) (log x) = ap (λ (o : Opened). place_after o (log x)) from in let sv : IsServed v.stage = subst IsServed (sym is) tt in
       let a : IsAlone v.stage = subst IsAlone (sym is) tt in
       let f = r.each id v here (subst IsLive (sym is) tt) in let turn = my_turn s r id v f sv in
       let own = f.numbered.own_numbers v.number (inl refl) in let was : WasGiven r.next v.number = own.1 in
@@ -349,15 +351,15 @@ module _ {V : Type 0} (log : V → List LogEntry) (opened : V → Opened) (legal
       rebuilt s r 0 n (set s.homes 0 (some (Some x))) (set s.views id w) (step_to s r id v w (n ∷ word_at s 1 ∷ word_at s 2 ∷ behind s.words) (set s.homes 0 (some (Some x))) (log x) r.tickets r.owner (home x) t marks (left_open x)
       grows (old_at 0 (λ e. omega arith) ∙ r.first_mark) given_at
       (are_given_more v.number r.next r.opens (left_open x) was.1 r.opens_given moved_open) here tt refl
-      (as_wide s r) count (omega arith) r.drawn (queue_stays s r id v w here (sym (ap tickets_of is))) ok more_since
+      (as_wide s r) (count ∙ here_is) (omega (arith, count, here_is, small)) r.drawn (queue_stays s r id v w here (sym (ap tickets_of is))) ok more_since
       record {
-        saw = record { based = f.saw.based; since = more_since; missed = λ n is. missed_none n r.next (log x); least = le_refl (length (log x)); most = le_refl (length (log x)) };
+        saw = record { based = f.saw.based; since = more_since; missed = λ n is. missed_none n r.next (log x); least = omega (arith, here_is); most = omega (arith, here_is) };
         numbered = record { own_numbers = f.numbered.own_numbers; stands_for = f.numbered.stands_for; may_give = f.numbered.may_give };
         in_line = record { has_ticket = λ _. f.in_line.has_ticket (served_busy v.stage sv); served = λ _. f.in_line.served sv; alone = λ y. absurd y; making = λ y. absurd y };
         marked = record { turn = le_refl t; mark = sym new_at; linked = λ n is j low high. let from : t ≤ j = low in let to : j ≤ t = high in let same : j ≡ t = omega arith in subst (Linked n (mark x)) (sym new_at ∙ ap marks (sym same)) (linked_self n (mark x)); own = stays_self (open_of v.number (left_open x)); whole = λ _. refl; current = λ y. absurd y };
         parts = (λ n is. absurd is, λ n is. absurd is);
       }
-      (λ j d other at alive. let g = r.each j d at alive in let most : d.known ≤ length r.all = g.saw.most in
+      (λ j d other at alive. let g = r.each j d at alive in let most : d.known ≤ place_after (opened key) r.all = g.saw.most in
       let apart : (m : ℕ) → IsAmong m (numbers_of d) → m ≢ v.number = λ m is e. other (sym (g.numbered.own_numbers m is).0 ∙ (ap r.named e ∙ own.0)) in let before : d.turn ≤ r.last = g.marked.turn in record {
         saw = record {
           based = g.saw.based;
@@ -393,16 +395,16 @@ module _ {V : Type 0} (log : V → List LogEntry) (opened : V → Opened) (legal
   inside ((k, Some x) ∷ xs) d = x
   inside ((k, None) ∷ xs) d = d
 
-  pub gives_value : (slots id : ℕ) (me : M) (n : ℕ) (x : V) → slots ≡ 1 → me.1 ≡ (0, Some x) ∷ [] → me.0.stage ≡ Holding → Adds me.0.number me.0.seen (log x) → legal (opened key) (log x) → opened x ≡ opened key → Later me.0.number me.0.mark (mark x) → LeavesOthers me.0.number me.0.found (left_open x) → n ≡ length (log x) → n < 4294967296
-      → Allows Rule slots id me 0 (λ _. n) (λ _. gave log mark left_open me)
+  pub gives_value : (slots id : ℕ) (me : M) (n : ℕ) (x : V) → slots ≡ 1 → me.1 ≡ (0, Some x) ∷ [] → me.0.stage ≡ Holding → Adds me.0.number me.0.seen (log x) → legal (opened key) (log x) → opened x ≡ opened key → Later me.0.number me.0.mark (mark x) → LeavesOthers me.0.number me.0.found (left_open x) → n ≡ place_after (opened x) (log x) → n < 4294967296
+      → Allows Rule slots id me 0 (λ _. n) (λ _. gave log opened mark left_open me)
   unfolding inside
-  gives_value slots id me n x one held is adds ok from later others count small = subst (λ (c : List (ℕ × Option V)). Allows Rule slots id (me.0, c) 0 (λ _. n) (λ _. gave log mark left_open (me.0, c))) (sym held)
+  gives_value slots id me n x one held is adds ok from later others count small = subst (λ (c : List (ℕ × Option V)). Allows Rule slots id (me.0, c) 0 (λ _. n) (λ _. gave log opened mark left_open (me.0, c))) (sym held)
       (λ s r len here below. (
-        leaving me.0 (log x) (mark x) (left_open x),
+        leaving me.0 (opened x) (log x) (mark x) (left_open x),
         gives,
         tt,
         given s r id me.0 n x (omega arith) here is adds ok from later others count small,
-        λ y e. (ap (λ (z : V). leaving me.0 (log z) (mark z) (left_open z)) (ap (λ l. inside l x) e), refl),
+        λ y e. (ap (λ (z : V). leaving me.0 (opened z) (log z) (mark z) (left_open z)) (ap (λ l. inside l x) e), refl),
       ))
 
   pub serves : (slots id : ℕ) (me : M) (n : ℕ) → me.0.stage ≡ Leaving → n ≡ me.0.ticket + 1 → Allows Rule slots id me 2 (λ _. n) (λ _. served me)

@@ -147,5 +147,5 @@ none_left seen (x ∷ xs) log e le = let n : length log ≡ length seen + length
 pub whole : (n next : ℕ) (seen log : List LogEntry) → Missed n next seen log → length log ≤ length seen → seen ≡ log
 whole n next seen log m le = none_left seen m.0 log m.1 le
 
-pub longer_bound : (xs ys : List LogEntry) (a b : ℕ) → length xs ≤ a → length ys ≤ b → length (longer xs ys) ≤ max a b
-longer_bound xs ys a b p q = longer_cases xs ys (λ l. length l ≤ max a b) (λ _. omega arith) (λ _. omega arith)
+pub longer_bound : (first : ℕ) (xs ys : List LogEntry) (a b : ℕ) → first + length xs ≤ a → first + length ys ≤ b → first + length (longer xs ys) ≤ max a b
+longer_bound first xs ys a b p q = longer_cases xs ys (λ l. first + length l ≤ max a b) (λ _. omega arith) (λ _. omega arith)

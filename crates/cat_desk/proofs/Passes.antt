@@ -11,7 +11,7 @@ use Rattle.atomic_table.proofs.Lists.{at_set, set_else, at_longer}
 use Rattle.cat_model.specs.declared.log_entry.LogEntry.{LogEntry}
 use Rattle.cat_model.specs.Drafts.{Open, nothing_open, open_of, StaysOpen}
 use Rattle.cat_model.specs.Mark.{Mark, Grows}
-use Rattle.cat_model.specs.Turns.{Opened, snapshot}
+use Rattle.cat_model.specs.Turns.{Opened, place_after, snapshot}
 use Rattle.cat_model.specs.TurnLaws.{stays_self}
 use Rattle.cat_desk.specs.Sight.{Stage, Idle, Making, Holding, View}
 use Rattle.cat_desk.specs.declared.pass.Held.{Held}
@@ -166,8 +166,8 @@ module _ {V : Type 0} (log : V → List LogEntry) (opened : V → Opened) (legal
           based = f.saw.based;
           since = since_longer r.next (log key) v.seen w.seen f.saw.since g.saw.since;
           missed = missed;
-          least = longer_bound v.seen w.seen v.known w.known f.saw.least g.saw.least;
-          most = let p : v.known ≤ length r.all = f.saw.most in let q : w.known ≤ length r.all = g.saw.most in omega arith;
+          least = longer_bound (opened key).state.place v.seen w.seen v.known w.known f.saw.least g.saw.least;
+          most = let p : v.known ≤ place_after (opened key) r.all = f.saw.most in let q : w.known ≤ place_after (opened key) r.all = g.saw.most in omega arith;
         };
         numbered = record {
           own_numbers = of_both (λ n. (names n ≡ id) × WasGiven r.next n) (numbers_of v) (numbers_of w) (λ n is. still n id (λ e. apart (sym e)) (f.numbered.own_numbers n is)) (λ n is. over n (g.numbered.own_numbers n is));
@@ -371,6 +371,6 @@ pub stays_at : {m n : ℕ} {a b : Open} (o p : Open) → a ≡ b → m ≡ n →
 stays_at o p left number same is = subst (λ (z : Open × ℕ × Open). StaysOpen z.0 (open_of z.1 z.2)) (λ i. (left i, number i, same i)) is
 
 -- the value is as it was found
-pub found_is : {V : Type 0} (opened : V → Opened) (log : V → List LogEntry) (mark : V → Mark) (left_open : V → Open) (desk : DeskId) (h : Held V) (w : View) → h.seat.me.0 ≡ finding w (log h.value) (mark h.value) (left_open h.value) h.seat.me.0.turn → desk.opened ≡ opened h.value
+pub found_is : {V : Type 0} (opened : V → Opened) (log : V → List LogEntry) (mark : V → Mark) (left_open : V → Open) (desk : DeskId) (h : Held V) (w : View) → h.seat.me.0 ≡ finding w (opened h.value) (log h.value) (mark h.value) (left_open h.value) h.seat.me.0.turn → desk.opened ≡ opened h.value
     → found desk h ≡ snapshot opened log mark left_open h.value
 found_is opened log mark left_open desk h w is from = λ i. record { opened = from i; log = (is i).seen; mark = (is i).mark; left_open = (is i).found }

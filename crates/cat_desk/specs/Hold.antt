@@ -12,7 +12,7 @@ module _ {R V : Type 0} where
   abbrev pub own_desk : Hold R V → DeskId
   own_desk h = h.desk.now
 
-  -- how many entries it awaits, and in at most how many turns
+  -- the place that it awaits, and in at most how many turns
   abbrev pub awaits : Hold R V → ℕ
   awaits h = h.entries
 

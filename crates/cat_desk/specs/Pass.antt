@@ -62,7 +62,7 @@ spare_of p = p.spare
 abbrev pub seen : Pass → List LogEntry
 seen p = seen_in p.badge.views
 
--- how many entries it knows of
+-- the place that it knows of: entries were made up to there
 abbrev pub known : Pass → ℕ
 known p = known_in p.badge.views
 

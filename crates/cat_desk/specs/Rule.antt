@@ -1,5 +1,5 @@
 -- The rule of the desk, and what each step tells.
--- Word 0 is the count, the length of the log; word 1 the next ticket, less as many times 2 ^ 64 as it passed; word 2 the ticket that is served; the 64 words behind them are bells, which callers sleep at, and nothing is said of what they hold. Slot 0 is where the value is at home.
+-- Word 0 is the count, the place after the log; word 1 the next ticket, less as many times 2 ^ 64 as it passed; word 2 the ticket that is served; the 64 words behind them are bells, which callers sleep at, and nothing is said of what they hold. Slot 0 is where the value is at home.
 use Rattle.std.specs.Prelude.{◌≡◌, ◌≢◌, ℕ, ◌+◌, ◌-◌, ◌%◌, ◌<◌, ◌≤◌, List, [], ◌∷◌, ◌++◌, length, slice_index, max, Option, Some, None}
 use mathlib.Core.Option.{some}
 use mathlib.Core.Option.{Option as Maybe}
@@ -8,7 +8,7 @@ use Rattle.atomic_table.specs.Table.{State, Me}
 use Rattle.cat_model.specs.declared.log_entry.LogEntry.{LogEntry}
 use Rattle.cat_model.specs.Drafts.{Open, nothing_open, open_of, StaysOpen}
 use Rattle.cat_model.specs.Mark.{Mark, Grows}
-use Rattle.cat_model.specs.Turns.{Opened}
+use Rattle.cat_model.specs.Turns.{Opened, place_after}
 use Rattle.cat_desk.specs.Sight.{Origin, Stage, Idle, Making, Waiting, Called, Holding, Leaving, Spent, Part, no_part, View, blank}
 use Rattle.cat_desk.specs.Log.{IsAmong, WasGiven, Follows, Missed, Since, longer}
 use Rattle.cat_desk.specs.Marks.{Linked, IsGiven, AreGiven, later_mark, later_open}
@@ -90,8 +90,8 @@ pub record Saw (base : Origin) (all : List LogEntry) (next : ℕ) (d : View) : T
   pub based : d.origin ≡ Some base
   pub since : Since next base.1 d.seen
   pub missed : (n : ℕ) → IsAmong n (numbers_of d) → Missed n next d.seen all
-  pub least : length d.seen ≤ d.known
-  pub most : d.known ≤ length all
+  pub least : place_after base.0 d.seen ≤ d.known
+  pub most : d.known ≤ place_after base.0 all
 
 -- its numbers, which are no other seat's, and those that it may still give
 pub record Numbered (named : ℕ → ℕ) (next keeper seat : ℕ) (d : View) : Type 0 where
@@ -150,8 +150,8 @@ module _ {V : Type 0} (log : V → List LogEntry) (opened : V → Opened) (legal
     pub opens : Open
     pub place : Place V
     pub wide : length s.words ≡ 67
-    pub count : slice_index s.words 0 ≡ length all
-    pub small : length all < 4294967296
+    pub count : slice_index s.words 0 ≡ place_after (opened key) all
+    pub small : place_after (opened key) all < 4294967296
     pub drawn : slice_index s.words 1 ≡ tickets % 18446744073709551616
     pub queued : total queue s.views + slice_index s.words 2 ≡ tickets
     pub weighs : total weight s.views ≡ 4294967295
@@ -171,7 +171,7 @@ abbrev pub newcomer : {V : Type 0} → (V → List LogEntry) → (V → Opened) 
 newcomer log opened mark left_open v = record {
   origin = Some (opened v, log v);
   seen = log v;
-  known = length (log v);
+  known = place_after (opened v) (log v);
   number = 1;
   gone = [];
   spare = 4294967294;
@@ -191,15 +191,15 @@ at_stage v stage = record v { stage = stage }
 abbrev pub waiting : View → ℕ → View
 waiting v t = record v { stage = Waiting; ticket = t }
 
--- the pass has found a value with this log, this mark and this left open, which the turn t left
-abbrev pub finding : View → List LogEntry → Mark → Open → ℕ → View
-finding v all mark opens t = record v { seen = all; known = length all; mark = mark; found = opens; turn = t; stage = Holding; parts = (no_part, no_part) }
+-- the pass has found a value with this log, which starts so, this mark and this left open, which the turn t left
+abbrev pub finding : View → Opened → List LogEntry → Mark → Open → ℕ → View
+finding v start all mark opens t = record v { seen = all; known = place_after start all; mark = mark; found = opens; turn = t; stage = Holding; parts = (no_part, no_part) }
 
 -- the pass has left it so
-abbrev pub leaving : View → List LogEntry → Mark → Open → View
-leaving v all mark opens = record v { seen = all; known = length all; mark = mark; own = open_of v.number opens; found = opens; turn = v.turn + 1; stage = Leaving; parts = (no_part, no_part) }
+abbrev pub leaving : View → Opened → List LogEntry → Mark → Open → View
+leaving v start all mark opens = record v { seen = all; known = place_after start all; mark = mark; own = open_of v.number opens; found = opens; turn = v.turn + 1; stage = Leaving; parts = (no_part, no_part) }
 
--- it knows of so many entries
+-- it knows of this place
 abbrev pub knowing : View → ℕ → View
 knowing v n = record v { known = n }
 
@@ -251,7 +251,7 @@ module _ {V : Type 0} where
 
     -- what is told of the value that was taken
     abbrev pub Found : Me (Option V) View → Me (Option V) View → V → Type 0
-    Found m n v = (n.1 ≡ (0, Some v) ∷ []) × (n.0 ≡ finding m.0 (log v) (mark v) (left_open v) n.0.turn) × Follows m.0.number m.0.seen (log v) × (m.0.known ≤ length (log v)) × Begins m.0.origin v × (m.0.turn ≤ n.0.turn) × (n.0.turn ≡ m.0.turn → (mark v ≡ m.0.mark) × (left_open v ≡ m.0.found)) × Linked m.0.number m.0.mark (mark v) × StaysOpen m.0.own (open_of m.0.number (left_open v))
+    Found m n v = (n.1 ≡ (0, Some v) ∷ []) × (n.0 ≡ finding m.0 (opened v) (log v) (mark v) (left_open v) n.0.turn) × Follows m.0.number m.0.seen (log v) × (m.0.known ≤ place_after (opened v) (log v)) × Begins m.0.origin v × (m.0.turn ≤ n.0.turn) × (n.0.turn ≡ m.0.turn → (mark v ≡ m.0.mark) × (left_open v ≡ m.0.found)) × Linked m.0.number m.0.mark (mark v) × StaysOpen m.0.own (open_of m.0.number (left_open v))
         × (m.0.held + m.0.spare ≡ 4294967295 → (log v ≡ m.0.seen) × (mark v ≡ m.0.mark) × (left_open v ≡ m.0.found))
 
     abbrev pub TookAt : Me (Option V) View → Me (Option V) View → Stage → Type 0
@@ -262,5 +262,5 @@ module _ {V : Type 0} where
     abbrev pub took : Me (Option V) View → Me (Option V) View → Type 0
     took m n = TookAt m n m.0.stage
 
-  abbrev pub gave : (V → List LogEntry) → (V → Mark) → (V → Open) → Me (Option V) View → Me (Option V) View → Type 0
-  gave log mark left_open m n = (v : V) → m.1 ≡ (0, Some v) ∷ [] → (n.0 ≡ leaving m.0 (log v) (mark v) (left_open v)) × (n.1 ≡ [])
+  abbrev pub gave : (V → List LogEntry) → (V → Opened) → (V → Mark) → (V → Open) → Me (Option V) View → Me (Option V) View → Type 0
+  gave log opened mark left_open m n = (v : V) → m.1 ≡ (0, Some v) ∷ [] → (n.0 ≡ leaving m.0 (opened v) (log v) (mark v) (left_open v)) × (n.1 ≡ [])

@@ -28,7 +28,7 @@ pub record Part : Type 0 where
 abbrev pub no_part : Part
 no_part = record { numbers = []; seen = []; mark = no_mark }
 
--- the log that was seen, how many entries are known of, the caller's number and those of the passes that it took in, how many passes may still be split off and how many it stands for; the mark and the number of the turn that left it; what the last turn left open of the caller, and what that turn left open in all, or what was open in all as the value was found; the two passes of which it was made, where it had no turn since
+-- the log that was seen, the place that is known of, the caller's number and those of the passes that it took in, how many passes may still be split off and how many it stands for; the mark and the number of the turn that left it; what the last turn left open of the caller, and what that turn left open in all, or what was open in all as the value was found; the two passes of which it was made, where it had no turn since
 pub record View : Type 0 where
   pub origin : Option Origin
   pub seen : List LogEntry

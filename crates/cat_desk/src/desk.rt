@@ -1,8 +1,8 @@
 //! The desk, and its calls.
-ghost use Rattle.std.specs.Prelude.{◌≡◌, ◌+◌, ◌-◌, ◌%◌, ◌<◌, ◌≤◌, ◌∷◌, [], max, IsOk, IfOk, IfErr, Some, None, length, replicate};
+ghost use Rattle.std.specs.Prelude.{◌≡◌, ◌+◌, ◌-◌, ◌%◌, ◌<◌, ◌≤◌, ◌∷◌, [], max, IsOk, IfOk, IfErr, Some, None, replicate};
 ghost use Rattle.cat_model.specs.Drafts.{nothing_open, open_of, StaysOpen};
 ghost use Rattle.cat_model.specs.Mark.{Grows};
-ghost use Rattle.cat_model.specs.Turns.{Acts, snapshot};
+ghost use Rattle.cat_model.specs.Turns.{Acts, place_after, snapshot};
 ghost use Rattle.cat_desk.specs.Sight.{Waiting, Called};
 ghost use Rattle.cat_desk.specs.Log.{BeginsWith, Follows, Since, longer};
 ghost use Rattle.cat_desk.specs.Marks.{IsGiven, Linked, later_mark, later_open};
@@ -56,7 +56,7 @@ impl<V: Logged> Desk<V> {
         ensures marked { IfOk result (λ t. t.0.marked ≡ V.mark value) }
         ensures pass { IfOk result
             (λ t. (seen t.1 ≡ V.log value)
-            × (known t.1 ≡ length (V.log value))
+            × (known t.1 ≡ place_after (V.opened value) (V.log value))
             × (mark_of t.1 ≡ V.mark value)
             × (left_by t.1 ≡ nothing_open)
             × (all_left_by t.1 ≡ V.left_open value)) }
@@ -99,7 +99,7 @@ impl<V: Logged> Desk<V> {
             × (spare_of pass.new ≡ spare_of pass.old)
             × (held_for result ≡ stands_for pass.old) }
         ensures follows { Follows (number_of pass.old) (seen pass.old) (V.log result.value)
-            × (known pass.old ≤ length (V.log result.value)) }
+            × (known pass.old ≤ place_after (V.opened result.value) (V.log result.value)) }
         ensures found { found self.now result
             ≡ snapshot V.opened V.log V.mark V.left_open result.value }
         ensures still { Acts V.legal (number_of pass.old) (found self.now result)
@@ -139,7 +139,7 @@ impl<V: Logged> Desk<V> {
             × (spare_of pass.new ≡ spare_of pass.old)
             × (stands_for pass.new ≡ held_for held) }
         ensures seen { (seen pass.new ≡ V.log held.value)
-            × (known pass.new ≡ length (V.log held.value)) }
+            × (known pass.new ≡ place_after (V.opened held.value) (V.log held.value)) }
         ensures legal { V.legal self.now.opened (seen pass.new) }
         ensures mark { (mark_of pass.new ≡ V.mark held.value)
             × (turn_of pass.new ≡ found_turn held + 1) }
@@ -323,7 +323,7 @@ impl<V: Logged> Desk<V> {
         ensures kept { (result.ticket ≡ ticket)
             × (result.seat.table_id ≡ seat.table_id)
             × (result.seat.me.0
-            ≡ finding seat.me.0 (V.log result.value) (V.mark result.value)
+            ≡ finding seat.me.0 (V.opened result.value) (V.log result.value) (V.mark result.value)
             (V.left_open result.value) result.seat.me.0.turn)
             × (result.seat.me.1 ≡ (0, None) ∷ []) }
         ensures found { Found V.log V.opened V.legal V.mark V.left_open seat.me
@@ -349,7 +349,7 @@ impl Pass {
         self.number
     }
 
-    /// Reads how many entries there are, and knows of so many from now on.
+    /// Reads the place after the log, and knows of it from now on.
     pub fn meet<V: Logged>(&mut self, desk: &Desk<V>) -> u32
         requires { IsFree desk.now self.old }
         ensures free { Keeps desk.now self.old self.new }

@@ -1,5 +1,6 @@
 //! A gate that holds calls, for tests.
-ghost use Rattle.std.specs.Prelude.{◌≡◌, ◌≤◌, length};
+ghost use Rattle.std.specs.Prelude.{◌≡◌, ◌≤◌};
+ghost use Rattle.cat_model.specs.Turns.{place_after};
 ghost use Rattle.cat_desk.specs.Pass.{IsFree, Keeps, seen, known};
 
 use crate::desk::Desk;
@@ -8,7 +9,7 @@ use crate::pass::Pass;
 use cat_model::logged::Logged;
 use std::sync::Wait;
 
-/// It holds a call until the desk's log has so many entries, for at most so many turns, which it
+/// It holds a call until the desk's log has come to a place, for at most so many turns, which it
 /// takes on a pass of its own. It must be ended.
 pub struct Hold<'a, R, V: Logged> {
     rt: &'a R,
@@ -42,7 +43,7 @@ impl<'a, R, V: Logged> Hold<'a, R, V> {
         }
     }
 
-    /// Gives the pass back, and tells whether every call was held until the entries were there.
+    /// Gives the pass back, and tells whether every call was held until the log was there.
     pub fn end(self) -> (Pass, bool)
         ensures { (result.0 ≡ own_pass self.entry) × (result.1 ≡ not (was_late self.entry)) }
     {
@@ -59,7 +60,8 @@ impl<'a, R, V: Logged> Hold<'a, R, V> {
 }
 
 impl<'a, R: Wait, V: Logged> Gate for Hold<'a, R, V> {
-    ghost use Rattle.std.specs.Prelude.{◌≡◌, ◌<◌, ◌≤◌, ◌⊎◌, [], ◌∷◌, length, IsTrue, IsFalse};
+    ghost use Rattle.std.specs.Prelude.{◌≡◌, ◌<◌, ◌≤◌, ◌⊎◌, [], ◌∷◌, IsTrue, IsFalse};
+    ghost use Rattle.cat_model.specs.Turns.{place_after};
     ghost use Rattle.cat_desk.specs.Pass.{IsFree, seen};
     ghost use Rattle.cat_desk.specs.Hold.{own_pass, own_desk, awaits, looks_in, was_late};
 
@@ -67,7 +69,7 @@ impl<'a, R: Wait, V: Logged> Gate for Hold<'a, R, V> {
 
     ghost desks = { λ h. own_desk h ∷ [] };
 
-    /// It is late where even its last turn found too few entries.
+    /// It is late where even its last turn found an earlier place.
     fn between(&mut self, _pass: &Pass, _attempt: u32)
         requires ready { IsFree (own_desk self.old) (own_pass self.old) }
         ensures ready { IsFree (own_desk self.new) (own_pass self.new) }
@@ -76,11 +78,12 @@ impl<'a, R: Wait, V: Logged> Gate for Hold<'a, R, V> {
             × (looks_in self.new ≡ looks_in self.old) }
         ensures held { IsFalse (was_late self.new)
             → IsFalse (was_late self.old)
-            × (awaits self.new ≤ length (seen (own_pass self.new))) }
+            × (awaits self.new
+            ≤ place_after (own_desk self.new).opened (seen (own_pass self.new))) }
         ensures late { IsTrue (was_late self.new)
             → IsTrue (was_late self.old)
             ⊎ (looks_in self.new ≡ 0)
-            ⊎ (length (seen (own_pass self.new)) < awaits self.new) }
+            ⊎ (place_after (own_desk self.new).opened (seen (own_pass self.new)) < awaits self.new) }
     {
         for _ in 0..self.turns {
             if count(self.rt, self.desk, &mut self.pass) >= self.entries {
@@ -91,11 +94,12 @@ impl<'a, R: Wait, V: Logged> Gate for Hold<'a, R, V> {
     }
 }
 
-/// How many entries the log has, in a turn that does nothing else.
+/// The place after the log, in a turn that does nothing else.
 fn count<R: Wait, V: Logged>(rt: &R, desk: &Desk<V>, pass: &mut Pass) -> u32
     requires { IsFree desk.now pass.old }
     ensures kept { Keeps desk.now pass.old pass.new }
-    ensures count { (result ≡ length (seen pass.new)) × (known pass.old ≤ result) }
+    ensures count { (result ≡ place_after desk.now.opened (seen pass.new))
+        × (known pass.old ≤ result) }
 {
     let held = desk.enter(rt, pass);
     let count = held.value.count();

@@ -48,7 +48,7 @@ pub(crate) struct Give;
 impl<V: Logged> Play<Option<V>, View> for Give {
     ghost use Rattle.cat_desk.specs.Rule.{gave};
 
-    ghost then = { λ st m r n. gave V.log V.mark V.left_open m n };
+    ghost then = { λ st m r n. gave V.log V.opened V.mark V.left_open m n };
 }
 
 /// The turn is passed on.

@@ -1,7 +1,7 @@
 //! The words of a desk's table.
 ghost use Rattle.std.specs.Prelude.{◌≡◌, ◌<◌, ◌≤◌, ◌∷◌, replicate};
 
-/// The word with the length of the value's log.
+/// The word with the place after the value's log.
 pub(crate) const COUNT: usize = 0;
 
 /// The word with the next ticket.
@@ -15,7 +15,7 @@ pub(crate) const SERVING: usize = 2;
 /// else.
 const BELLS: u64 = 64;
 
-/// The words of a desk whose log has so many entries, and whose first ticket is drawn and served.
+/// The words of a desk whose log ends at this place, and whose first ticket is drawn and served.
 pub(crate) fn words_of(count: u64) -> [u64; 67]
     ensures { result ≡ count ∷ 1 ∷ replicate 65 0 }
 {
