@@ -37,7 +37,7 @@ use Rattle.cat_frames.specs.Entries.{log_entry_code}
 use Rattle.cat_frames.specs.Sources.{pointer_code, reference_code}
 use Rattle.cat_frames.specs.Sweeps.{cutoff_code, resolved_code, sweep_code}
 use Rattle.cat_checks.specs.Histories.{IsLegalFrom}
-use Rattle.cat_checks.specs.Legal.{IsLegal, draft_is_above, draft_is_new, is_legal, may_be_swept, replayed_call}
+use Rattle.cat_checks.specs.Legal.{IsLegal, draft_is_above, draft_is_new, draft_may_come, is_legal, may_be_swept, replayed_call}
 use Rattle.cat_checks.specs.LegalLaws.{legal_is_as_logged}
 
 -- a digest that tells bytes apart by nothing
@@ -83,8 +83,16 @@ taken : (draft_is_above 3 3 ≡ false)
     × (draft_is_above 3 0 ≡ true)
 taken = (refl, refl, refl)
 
-starts : (o : Opened) → IsLegalFrom (record o { draft = 3 }) (create 1 3 None [] ∷ []) → ⊥
-starts o is = let no : false ≡ true = is.above.0 in cc
+starts : (o : Opened) → IsLegalFrom (record o { draft = 3; drafts = 1 ∷ [] }) (create 1 3 None [] ∷ []) → ⊥
+starts o is = let no : false ≡ true = is.drafts.0 in cc
+
+-- but that of a draft that was open then
+comes : (o : Opened)
+    → (draft_may_come (record o { draft = 3; drafts = 1 ∷ [] }) 1 ≡ true)
+    × (draft_may_come (record o { draft = 3; drafts = 1 ∷ [] }) 2 ≡ false)
+    × (draft_may_come (record o { draft = 3; drafts = 1 ∷ [] }) 3 ≡ false)
+    × (draft_may_come (record o { draft = 3; drafts = 1 ∷ [] }) 4 ≡ true)
+comes o = (refl, refl, refl, refl)
 
 -- ---- commands that aren't in their logged form
 

@@ -1,8 +1,8 @@
 -- Laws of histories: logs that go on, what stays, what grows, drafts that are new, and the states that a log leads through.
-use Rattle.std.proofs.Common.{◌≡◌, ℕ, zero, suc, ◌+◌, ◌<◌, ◌≤◌, max, List, [], ◌∷◌, ◌++◌, reverse, length, codes, Ok, Err, Bool, true, false, not, nat_eq, nat_lt, if◌then◌else◌, refl, sym, ap, ap₂, ◌∙◌, append_assoc, ne_eqb, arith}
+use Rattle.std.proofs.Common.{◌≡◌, ℕ, ◌+◌, ◌<◌, ◌≤◌, max, List, [], ◌∷◌, ◌++◌, reverse, length, codes, Ok, Err, Bool, true, false, not, nat_eq, nat_lt, if◌then◌else◌, refl, sym, ap, ap₂, ◌∙◌, append_assoc, ne_eqb, arith}
 use Rattle.std.specs.List.{list_any}
 use Rattle.std.proofs.Math.Nat.{le-max_left, le-max_right}
-use Rattle.std.proofs.lemmas.Bool.{or_right}
+use Rattle.std.proofs.lemmas.Bool.{or_left, or_right}
 use Rattle.std.proofs.lemmas.Bool.Decides.{nat_tests}
 use Rattle.std.proofs.lemmas.Grind.{reverse_onto}
 use Rattle.std.proofs.lemmas.List.{append-nil}
@@ -23,9 +23,9 @@ use Rattle.cat_model.specs.State.{Digest, State, first_state, no_ancestor}
 use Rattle.cat_model.specs.Step.{Turn, opening, step}
 use Rattle.cat_model.specs.Sweeps.{step_sweep, sweep_call, swept_by}
 use Rattle.cat_model.specs.Turns.{Opened}
-use Rattle.cat_checks.specs.Histories.{AreAbove, AreLegal, IsLegalFrom, after_entry, begun, book_after, book_at}
+use Rattle.cat_checks.specs.Histories.{AreFrom, AreLegal, IsLegalFrom, after_entry, begun, book_after, book_at}
 use Rattle.cat_checks.specs.LeadingLaws.{legal_place, replayed_later, replayed_limits, replayed_upholds}
-use Rattle.cat_checks.specs.Legal.{draft_after, draft_is_above, draft_is_new, replayed_action}
+use Rattle.cat_checks.specs.Legal.{draft_after, draft_is_above, draft_is_new, draft_may_come, replayed_action}
 use Rattle.cat_checks.specs.Upheld.{Upholds}
 pub use Rattle.cat_checks.specs.LeadingLaws.{later_on, later_self, step_later}
 
@@ -47,13 +47,21 @@ pub legal_back : (digest : Digest) (b : Book) (xs ys : List LogEntry) → AreLeg
 legal_back digest b [] ys legal = legal
 legal_back digest b (x ∷ xs) ys legal = legal_back digest (after_entry digest b x) xs ys legal.1
 
-above_front : (last : ℕ) (xs ys : List LogEntry) → AreAbove last (xs ++ ys) → AreAbove last xs
-above_front last [] ys above = tt
-above_front last (x ∷ xs) ys above = (above.0, above_front last xs ys above.1)
+from_front : (o : Opened) (xs ys : List LogEntry) → AreFrom o (xs ++ ys) → AreFrom o xs
+from_front o [] ys from = tt
+from_front o (x ∷ xs) ys from = (from.0, from_front o xs ys from.1)
+
+from_both : (o : Opened) (xs ys : List LogEntry) → AreFrom o xs → AreFrom o ys → AreFrom o (xs ++ ys)
+from_both o [] ys p q = q
+from_both o (x ∷ xs) ys p q = (p.0, from_both o xs ys p.1 q)
+
+-- a legal log goes on with entries that are legal behind it
+pub goes_legal : (o : Opened) (xs ys : List LogEntry) → IsLegalFrom o xs → AreLegal sha256 (book_at o xs) ys → AreFrom o ys → IsLegalFrom o (xs ++ ys)
+goes_legal o xs ys is legal from = record { legal = legal_more sha256 (begun o) xs ys is.legal legal; drafts = from_both o xs ys is.drafts from }
 
 -- what a log began with is legal where the log is
 pub begins_legal : (o : Opened) (xs ys : List LogEntry) → IsLegalFrom o (xs ++ ys) → IsLegalFrom o xs
-begins_legal o xs ys is = record { legal = legal_front sha256 (begun o) xs ys is.legal; above = above_front o.draft xs ys is.above }
+begins_legal o xs ys is = record { legal = legal_front sha256 (begun o) xs ys is.legal; drafts = from_front o xs ys is.drafts }
 
 -- ---- what the book after them has
 
@@ -140,14 +148,14 @@ new_above n draft log are above = or_right (nat_eq draft 0) _ (ap not (none_has 
 pub new_above_reversed : (n draft : ℕ) (log : List LogEntry) → AreAtMost n log → n < draft → draft_is_new (reverse log) draft ≡ true
 new_above_reversed n draft log are above = new_above n draft (reverse log) (at_most_reverse n log are) above
 
-above_none : (draft : ℕ) → draft_is_above 0 draft ≡ true
-above_none zero = refl
-above_none (suc n) = let above : nat_lt 0 (suc n) ≡ true = grind (arith, nat_tests) in or_right (nat_eq (suc n) 0) _ above
+-- a draft above the last number before a log may come in it, and so may none
+pub above_comes : (o : Opened) (draft : ℕ) → o.draft < draft → draft_may_come o draft ≡ true
+above_comes o draft above =
+    let higher : nat_lt o.draft draft ≡ true = grind (arith, nat_tests, above) in
+    or_left (draft_is_above o.draft draft) (list_any (nat_eq draft) o.drafts) (or_right (nat_eq draft 0) _ higher)
 
--- where no number was taken before, each is above
-pub all_above : (entries : List LogEntry) → AreAbove 0 entries
-all_above [] = tt
-all_above (e ∷ entries) = (above_none e.draft, all_above entries)
+pub none_comes : (o : Opened) → draft_may_come o 0 ≡ true
+none_comes o = refl
 
 -- no draft in a book's log is above its last draft number
 abbrev pub HasItsDrafts : Book → Type 0

@@ -16,6 +16,7 @@ use Rattle.cat_model.specs.Refusing.{◌>>=◌, Tested}
 use Rattle.cat_model.specs.State.{Digest, is_known}
 use Rattle.cat_model.specs.Step.{Turn, opens_draft}
 use Rattle.cat_model.specs.Sweeps.{sweep_call}
+use Rattle.cat_model.specs.Turns.{Opened}
 use Rattle.cat_model.specs.WellMade.{is_well_made}
 use Rattle.cat_frames.specs.Entries.{log_entry_code, of_nobody}
 
@@ -69,6 +70,10 @@ draft_is_new log draft = nat_eq draft 0 || not (list_any (λ entry. nat_eq draft
 abbrev pub draft_is_above : ℕ → ℕ → Bool
 draft_is_above last draft = nat_eq draft 0 || nat_lt last draft
 
+-- the number is 0 or above the last one that was taken before the log, or a draft of it was open then
+abbrev pub draft_may_come : Opened → ℕ → Bool
+draft_may_come o draft = draft_is_above o.draft draft || list_any (nat_eq draft) o.drafts
+
 -- the action opens a draft, as no sweep does
 abbrev pub opens_one : Action → Bool
 opens_one (actions.Call command) = opens_draft command
@@ -107,10 +112,14 @@ next_book digest book entry = if is_legal digest book entry then Some (after_cal
 
 -- ---- logs
 
+-- the same, where the log goes on from there
+unfoldable pub next_from : Digest → Opened → Book → LogEntry → Option Book
+next_from digest o book entry = if draft_may_come o entry.draft then next_book digest book entry else None
+
 -- the book that a payload leads to, by its reading
-abbrev pub read_next : Digest → Book → Result LogEntry FieldFault → Option Book
-read_next digest book (Err fault) = None
-read_next digest book (Ok entry) = next_book digest book entry
+abbrev pub read_next : Digest → Opened → Book → Result LogEntry FieldFault → Option Book
+read_next digest o book (Err fault) = None
+read_next digest o book (Ok entry) = next_from digest o book entry
 
 -- the book, or the place at which there is none
 abbrev pub or_at : ℕ → Option Book → Result Book ℕ
@@ -118,7 +127,7 @@ or_at place None = Err place
 or_at place (Some book) = Ok book
 
 -- the book that payloads lead to, the first of them at the place after this one; or the place of the first that is no entry or isn't legal
-abbrev pub replayed : Digest → Book → ℕ → List (List ℕ) → Result Book ℕ
-replayed digest book place [] = Ok book
-replayed digest book place (payload ∷ payloads) =
-    or_at (place + 1) (read_next digest book (whole (log_entry_code digest) payload)) >>= λ next. replayed digest next (place + 1) payloads
+abbrev pub replayed : Digest → Opened → Book → ℕ → List (List ℕ) → Result Book ℕ
+replayed digest o book place [] = Ok book
+replayed digest o book place (payload ∷ payloads) =
+    or_at (place + 1) (read_next digest o book (whole (log_entry_code digest) payload)) >>= λ next. replayed digest o next (place + 1) payloads

@@ -8,3 +8,15 @@ pub mod AcceptedLaws
 pub mod HistoryLaws
 pub mod Upheld
 pub mod MainLaws
+pub mod StartLaws
+pub mod ContentsAlike
+pub mod AlikeStates
+pub mod AlikeSteps
+pub mod AlikeSweeps
+pub mod AlikeBooks
+pub mod StartingLaws
+pub mod SizeLaws
+pub mod WithinLaws
+pub mod WithinSteps
+pub mod KeptMaps
+pub mod SinceLaws
