@@ -10,3 +10,4 @@ pub mod Made
 pub mod Founding
 pub mod Founded
 pub mod Sorted
+pub mod Spelled

@@ -13,3 +13,4 @@ pub mod Planning
 pub mod Views
 pub mod Counting
 pub mod Starting
+pub mod Basing

@@ -3,8 +3,8 @@
 //! stands in the way of a change and what a call adds, the commits of many plans too, and takes a
 //! change whole or not at all: the catalogue after it is made and the keeper keeps its entry first,
 //! and then the one takes the other's place, which can't fail and takes no memory. So each change
-//! leaves the state that the model's step leaves, or the state as it was. It is told in a
-//! checkpoint, and made from one where a log may start there. The map at each commit is
+//! leaves the state that the model's step leaves, or the state as it was. It is
+//! written into checkpoints, and made from one where a log may start there. The map at each commit is
 //! well-formed, and each reference points at a commit or at the hash that has no ancestor.
 #![tactic(auto)]
 

@@ -78,6 +78,15 @@ impl SharedCatalogue {
         })
     }
 
+    /// A catalogue that is shared from here on.
+    pub fn of(alloc: Global, catalogue: Catalogue) -> Result<SharedCatalogue, NoMemory>
+        ensures { IfOk result (λ shared. shared ≡ catalogue) }
+    {
+        Ok(SharedCatalogue {
+            catalogue: sharing(alloc, catalogue)?,
+        })
+    }
+
     /// The catalogue, to be read.
     pub fn get(&self) -> &Catalogue
         ensures { result.now ≡ self.now }
@@ -119,6 +128,7 @@ impl SharedCatalogue {
         ensures unrefused { IfErr result IsUnrefused }
         ensures more { OnOk result (K.kept keeper.new ≡ K.kept keeper.old + 1) }
         ensures as_many { OnErr result (K.kept keeper.new ≡ K.kept keeper.old) }
+        ensures first { K.start keeper.new ≡ K.start keeper.old }
         ensures keeps { Keeps K.Keeper keeper.old keeper.new (entry.now ∷ []) result }
     {
         append(alloc, keeper, entry)?;
@@ -145,6 +155,7 @@ impl SharedCatalogue {
         ensures unrefused { IfErr result IsUnrefused }
         ensures more { OnOk result (K.kept keeper.new ≡ K.kept keeper.old + 1) }
         ensures as_many { OnErr result (K.kept keeper.new ≡ K.kept keeper.old) }
+        ensures first { K.start keeper.new ≡ K.start keeper.old }
         ensures keeps { Keeps K.Keeper keeper.old keeper.new (entry.now ∷ []) result }
     {
         let next = self.next(alloc, change)?;
@@ -183,6 +194,7 @@ impl SharedCatalogue {
         ensures unrefused { IfErr result IsUnrefused }
         ensures more { OnOk result (K.kept keeper.new ≡ K.kept keeper.old + 1) }
         ensures as_many { OnErr result (K.kept keeper.new ≡ K.kept keeper.old) }
+        ensures first { K.start keeper.new ≡ K.start keeper.old }
         ensures keeps { Keeps K.Keeper keeper.old keeper.new (entry.now ∷ []) result }
     {
         let next = self.next_swept(alloc, hashes)?;

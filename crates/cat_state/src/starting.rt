@@ -253,10 +253,11 @@ fn is_within(limits: &Limits, checkpoint: &Checkpoint) -> bool
         && nat_le (length checkpoint.now.commits) limits.now.commits
         && nat_le (length checkpoint.now.contents) limits.now.contents) }
 {
-    checkpoint.references.len() as u64 <= limits.references.max(1)
-        && u64::from(checkpoint.place) <= limits.log
-        && checkpoint.commits.len() as u64 <= limits.commits
-        && checkpoint.contents.len() as u64 <= limits.contents
+    let references = checkpoint.references.len() as u64 <= limits.references.max(1);
+    let place = u64::from(checkpoint.place) <= limits.log;
+    let commits = checkpoint.commits.len() as u64 <= limits.commits;
+    let contents = checkpoint.contents.len() as u64 <= limits.contents;
+    references && place && commits && contents
 }
 
 impl Catalogue {
