@@ -1,5 +1,5 @@
 -- What a sweep that was closed keeps is what it kept while it was open, and it may be logged.
-use Rattle.std.proofs.Common.{◌≡◌, ◌-◌, ◌≤◌, List, [], ◌∷◌, length, Bool, true, false, not, ◌||◌, ◌&&◌, refl, sym, ap, ◌∙◌, subst, arith}
+use Rattle.std.proofs.Common.{◌≡◌, ◌≤◌, List, [], ◌∷◌, length, Bool, true, false, not, ◌||◌, ◌&&◌, refl, sym, ap, ◌∙◌, subst}
 use Rattle.std.specs.List.{flat_map, list_all, list_any}
 use Rattle.std.proofs.lemmas.Bool.{le-leb}
 use Rattle.sha2.specs.Sha256.{sha256}
@@ -114,9 +114,8 @@ both_true : (a b : Bool) → a ≡ true → b ≡ true → (a && b) ≡ true
 both_true true b e f = f
 both_true false b e f = absurd cc
 
-pub may_sweep : (book : Book) (o : OpenSweep) (s : Sweep) → s ≡ sweep_of o.opening.place o.policy o.names → book.base.place ≡ 0 → o.opening.place ≤ book.state.place → AreKnown book.state o.names.commits → length o.policy.cutoffs ≤ most_patterns → may_be_swept sha256 book s ≡ true
-may_sweep book o s is base place known few =
-    let first : book.base.place ≤ o.opening.place = omega (arith, base) in
+pub may_sweep : (book : Book) (o : OpenSweep) (s : Sweep) → s ≡ sweep_of o.opening.place o.policy o.names → book.base.place ≤ o.opening.place → o.opening.place ≤ book.state.place → AreKnown book.state o.names.commits → length o.policy.cutoffs ≤ most_patterns → may_be_swept sha256 book s ≡ true
+may_sweep book o s is first place known few =
     subst (λ (s : Sweep). may_be_swept sha256 book s ≡ true) (sym is)
     (both_true _ _ (both_true _ _ (both_true _ _ (le-leb _ _ first) (le-leb _ _ place)) (all_in_set (is_known sha256 book.state) o.names.commits ∙ known)) (le-leb _ _ few))
 

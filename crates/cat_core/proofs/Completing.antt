@@ -4,7 +4,6 @@ use Rattle.std.proofs.lemmas.List.{length-reverse, reverse-reverse, take-append-
 use Rattle.std.specs.List.{flat_map, list_all, list_any}
 use Rattle.sha2.specs.Sha256.{sha256}
 use Rattle.cat_graph.specs.Linked.{AreLinked}
-use Rattle.cat_mark.specs.declared.roots.Roots.{Roots}
 use Rattle.cat_mark.specs.Marks.{live_of}
 use Rattle.cat_model.specs.declared.commit.Commit.{Commit}
 use Rattle.cat_model.specs.declared.cutoff.Cutoff.{Cutoff}

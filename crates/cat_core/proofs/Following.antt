@@ -13,8 +13,8 @@ use Rattle.cat_codes.specs.Code.{whole}
 use Rattle.cat_codes.specs.ListLaws.{and_true}
 use Rattle.cat_checks.specs.LeadingLaws.{logged_place}
 use Rattle.cat_checks.specs.HistoryLaws.{EndsCourse, entry_ends, past_more}
-use Rattle.cat_checks.specs.Legal.{draft_after, draft_is_new, has_its_draft, is_just, is_legal, may_be_done, next_book, read_next, replayed_action, replayed_by, replayed_call, turn_of}
-use Rattle.cat_frames.specs.Entries.{is_logged, log_entry_code}
+use Rattle.cat_checks.specs.Legal.{draft_after, draft_is_new, draft_may_come, has_its_draft, is_just, is_legal, may_be_done, next_book, next_from, read_next, replayed_action, replayed_by, replayed_call, turn_of}
+use Rattle.cat_frames.specs.Entries.{is_logged, log_entry_code, of_nobody}
 use Rattle.cat_model.specs.declared.command.Command.{Command}
 use Rattle.cat_model.specs.declared.log_entry.Action.{Action}
 use Rattle.cat_model.specs.declared.log_entry.Action.TheVariants as actions
@@ -22,13 +22,17 @@ use Rattle.cat_model.specs.declared.log_entry.LogEntry.{LogEntry}
 use Rattle.cat_model.specs.declared.reference.Reference.{Reference}
 use Rattle.cat_model.specs.Book.{Book, after_call}
 use Rattle.cat_model.specs.Calls.{Called, attempt, stepped}
+use Rattle.cat_model.specs.Pages.{first}
 use Rattle.cat_model.specs.Past.{course, past_of}
 use Rattle.cat_model.specs.Refusing.{Outcome, Tested}
 use Rattle.cat_model.specs.State.{State}
 use Rattle.cat_model.specs.Step.{Turn, opening, step}
+use Rattle.cat_model.specs.Turns.{Opened}
 use Rattle.cat_model.specs.WellMade.{is_well_made}
 use Rattle.cat_state.specs.Kept.{spelling, spellings}
-use Rattle.cat_core.specs.Opening.{Adds, AreDrafts, IsMadeAgain, NewestIsLogged, ReadsAs, RunsAgain, is_newest, may_follow, next_by}
+use Rattle.cat_core.specs.Opening.{Adds, AreDrafts, IsMadeAgain, NewestIsLogged, ReadsAs, ReadsNewest, RunsAgain, is_newest, may_follow, may_stand, next_by}
+use Rattle.cat_core.specs.declared.tickets.Start.{Start}
+use Rattle.cat_core.specs.Stored.{opened_held}
 use Rattle.cat_core.specs.Sweeping.{AreTaken, IsFollowed, TakesOne}
 use Rattle.cat_core.proofs.Relogged.{IsLogOf, call_logs, entry_logs}
 use Rattle.cat_core.proofs.Sound.{Brings, BringsOne, replays}
@@ -52,58 +56,73 @@ more_drafts numbers more log entry draft own are added = λ d.
 
 -- ---- the tests of an entry
 
--- what may follow may be logged, and has its draft
-pub follows_parts : (book : Book) (entry : LogEntry) → may_follow book entry ≡ true → (may_be_done sha256 book entry.action ≡ true) × (has_its_draft entry ≡ true)
-follows_parts book entry may =
-    let two = (and_true (may_be_done sha256 book entry.action && has_its_draft entry) (draft_is_new book.log entry.draft) may).0 in
+-- what may follow may stand there, and its draft may come
+follows_both : (o : Opened) (book : Book) (entry : LogEntry) → may_follow o book entry ≡ true → (draft_may_come o entry.draft ≡ true) × (may_stand book entry ≡ true)
+follows_both o book entry may = and_true (draft_may_come o entry.draft) (may_stand book entry) may
+
+-- it may be logged, and has its draft
+pub follows_parts : (o : Opened) (book : Book) (entry : LogEntry) → may_follow o book entry ≡ true → (may_be_done sha256 book entry.action ≡ true) × (has_its_draft entry ≡ true)
+follows_parts o book entry may =
+    let two = (and_true (may_be_done sha256 book entry.action && has_its_draft entry) (draft_is_new book.log entry.draft) (follows_both o book entry may).1).0 in
     and_true (may_be_done sha256 book entry.action) (has_its_draft entry) two
 
-unread : (book : Book) (reading : Result LogEntry FieldFault) → is_ok reading ≡ false → read_next sha256 book reading ≡ None
-unread book (Ok entry) e = absurd cc
-unread book (Err fault) e = refl
+unread : (o : Opened) (book : Book) (reading : Result LogEntry FieldFault) → is_ok reading ≡ false → read_next sha256 o book reading ≡ None
+unread o book (Ok entry) e = absurd cc
+unread o book (Err fault) e = refl
 
 -- bytes that spell no entry
-pub no_entry : (book after : Book) (payload : List ℕ) → ReadsAs payload None → Adds book after payload false
-no_entry book after payload e = unread book (whole (log_entry_code sha256) payload) e
+pub no_entry : (o : Opened) (book after : Book) (payload : List ℕ) → ReadsAs payload None → Adds o book after payload false
+no_entry o book after payload e = unread o book (whole (log_entry_code sha256) payload) e
 
-read_is : (book : Book) (payload : List ℕ) (entry : LogEntry) → ReadsAs payload (Some entry) → next_by book payload ≡ next_book sha256 book entry
-read_is book payload entry reads = ap (read_next sha256 book) reads.0
+read_is : (o : Opened) (book : Book) (payload : List ℕ) (entry : LogEntry) → ReadsAs payload (Some entry) → next_by o book payload ≡ next_from sha256 o book entry
+read_is o book payload entry reads = ap (read_next sha256 o book) reads.0
 
 -- an entry that may not follow
-barred : (book : Book) (entry : LogEntry) → may_follow book entry ≡ false → next_book sha256 book entry ≡ None
-unfolding next_book is_legal
-barred book entry may = rw may refl
+barred_by : (comes stands just : Bool) (x : Book) → (comes && stands) ≡ false → (if comes then (if stands && just then Some x else None) else None) ≡ None
+barred_by false stands just x e = refl
+barred_by true false just x e = refl
+barred_by true true just x e = absurd cc
 
-pub may_not : (book after : Book) (payload : List ℕ) (entry : LogEntry) → ReadsAs payload (Some entry) → may_follow book entry ≡ false → Adds book after payload false
-may_not book after payload entry reads may = read_is book payload entry reads ∙ barred book entry may
+barred : (o : Opened) (book : Book) (entry : LogEntry) → may_follow o book entry ≡ false → next_from sha256 o book entry ≡ None
+unfolding next_from next_book is_legal
+barred o book entry may = barred_by (draft_may_come o entry.draft) (may_stand book entry) (is_just sha256 entry (replayed_call sha256 book entry).logged) (after_call book (replayed_call sha256 book entry)) may
+
+pub may_not : (o : Opened) (book after : Book) (payload : List ℕ) (entry : LogEntry) → ReadsAs payload (Some entry) → may_follow o book entry ≡ false → Adds o book after payload false
+may_not o book after payload entry reads may = read_is o book payload entry reads ∙ barred o book entry may
 
 -- one whose call brings something else
-other : (book : Book) (entry : LogEntry) → is_just sha256 entry (replayed_call sha256 book entry).logged ≡ false → next_book sha256 book entry ≡ None
-unfolding next_book is_legal
-other book entry differs = rw differs (by_test (may_follow book entry))
-  where
-    by_test : (b : Bool) → (if b && false then Some (after_call book (replayed_call sha256 book entry)) else None) ≡ None
-    by_test true = refl
-    by_test false = refl
+other_by : (comes stands just : Bool) (x : Book) → just ≡ false → (if comes then (if stands && just then Some x else None) else None) ≡ None
+other_by comes stands true x e = absurd cc
+other_by false stands false x e = refl
+other_by true true false x e = refl
+other_by true false false x e = refl
 
-pub none_made : (book after : Book) (payload : List ℕ) (entry : LogEntry) (ran : Bool) → ReadsAs payload (Some entry) → ran ≡ false → RunsAgain (replayed_call sha256 book entry) book after ran → Adds book after payload false
-none_made book after payload entry ran reads is runs =
+other : (o : Opened) (book : Book) (entry : LogEntry) → is_just sha256 entry (replayed_call sha256 book entry).logged ≡ false → next_from sha256 o book entry ≡ None
+unfolding next_from next_book is_legal
+other o book entry differs = other_by (draft_may_come o entry.draft) (may_stand book entry) (is_just sha256 entry (replayed_call sha256 book entry).logged) (after_call book (replayed_call sha256 book entry)) differs
+
+pub none_made : (o : Opened) (book after : Book) (payload : List ℕ) (entry : LogEntry) (ran : Bool) → ReadsAs payload (Some entry) → ran ≡ false → RunsAgain (replayed_call sha256 book entry) book after ran → Adds o book after payload false
+none_made o book after payload entry ran reads is runs =
     let none : (replayed_call sha256 book entry).logged ≡ [] = subst (RunsAgain (replayed_call sha256 book entry) book after) is runs in
-    read_is book payload entry reads ∙ other book entry (ap (is_just sha256 entry) none)
+    read_is o book payload entry reads ∙ other o book entry (ap (is_just sha256 entry) none)
 
 -- the call was accepted
 pub made_one : (book after : Book) (entry : LogEntry) (ran : Bool) → ran ≡ true → RunsAgain (replayed_call sha256 book entry) book after ran → IsMadeAgain (replayed_call sha256 book entry) book after
 made_one book after entry ran is runs = subst (RunsAgain (replayed_call sha256 book entry) book after) is runs
 
+-- the log starts where it did
+pub starts_as : (book after : Book) (entry : LogEntry) (start : Start) → IsMadeAgain (replayed_call sha256 book entry) book after → opened_held after.base start ≡ opened_held book.base start
+starts_as book after entry start made = ap (λ (b : Book). opened_held b.base start) made.book
+
 newest_is : (book after : Book) (called : Called) (made : IsMadeAgain called book after) → after.log ≡ made.entry ∷ book.log
 newest_is book after called made = ap (λ (b : Book). b.log) made.book ∙ ap (λ (l : List LogEntry). l ++ book.log) made.logged
 
-pub other_made : (book after : Book) (payload : List ℕ) (entry : LogEntry) → ReadsAs payload (Some entry) → IsMadeAgain (replayed_call sha256 book entry) book after → is_newest after.log payload ≡ false → Adds book after payload false
-other_made book after payload entry reads made differs =
+pub other_made : (o : Opened) (book after : Book) (payload : List ℕ) (entry : LogEntry) → ReadsAs payload (Some entry) → IsMadeAgain (replayed_call sha256 book entry) book after → is_newest after.log payload ≡ false → Adds o book after payload false
+other_made o book after payload entry reads made differs =
     let spelled : bytes_eq (spelling made.entry) payload ≡ false = subst (λ (l : List LogEntry). is_newest l payload ≡ false) (newest_is book after _ made) differs in
-    read_is book payload entry reads ∙ other book entry (ap (is_just sha256 entry) made.logged ∙ ap (bytes_eq (spelling made.entry)) (sym reads.1) ∙ spelled)
+    read_is o book payload entry reads ∙ other o book entry (ap (is_just sha256 entry) made.logged ∙ ap (bytes_eq (spelling made.entry)) (sym reads.1) ∙ spelled)
 
-is_legal_by : (book : Book) (entry : LogEntry) → may_follow book entry ≡ true → is_just sha256 entry (replayed_call sha256 book entry).logged ≡ true → is_legal sha256 book entry ≡ true
+is_legal_by : (book : Book) (entry : LogEntry) → may_stand book entry ≡ true → is_just sha256 entry (replayed_call sha256 book entry).logged ≡ true → is_legal sha256 book entry ≡ true
 unfolding is_legal
 is_legal_by book entry may just = rw (may, just) refl
 
@@ -113,22 +132,39 @@ made_just book after payload entry reads made is =
     ap (is_just sha256 entry) made.logged ∙ ap (bytes_eq (spelling made.entry)) (sym reads.1) ∙ spelled
 
 -- one whose call brings just this
-legal : (book : Book) (entry : LogEntry) → may_follow book entry ≡ true → is_just sha256 entry (replayed_call sha256 book entry).logged ≡ true → next_book sha256 book entry ≡ Some (after_call book (replayed_call sha256 book entry))
-unfolding next_book is_legal
-legal book entry may just = rw (may, just) refl
+legal : (o : Opened) (book : Book) (entry : LogEntry) → may_follow o book entry ≡ true → is_just sha256 entry (replayed_call sha256 book entry).logged ≡ true → next_from sha256 o book entry ≡ Some (after_call book (replayed_call sha256 book entry))
+unfolding next_from next_book is_legal
+legal o book entry may just = let both = follows_both o book entry may in rw (both.0, both.1, just) refl
 
-pub just_made : (book after : Book) (payload : List ℕ) (entry : LogEntry) → ReadsAs payload (Some entry) → may_follow book entry ≡ true → IsMadeAgain (replayed_call sha256 book entry) book after → is_newest after.log payload ≡ true → Adds book after payload true
-just_made book after payload entry reads may made is =
+-- what is spelled so is read back from there
+pub read_alike : (bytes payload : List ℕ) (entry : LogEntry) (b : Bool) → whole (log_entry_code sha256) bytes ≡ Ok (of_nobody entry) → b ≡ bytes_eq bytes payload → b ≡ true → whole (log_entry_code sha256) payload ≡ Ok (of_nobody entry)
+read_alike bytes payload entry b again is same = subst (λ (p : List ℕ). whole (log_entry_code sha256) p ≡ Ok (of_nobody entry)) ((bytes_eq-Decides bytes payload).0 (sym is ∙ same)) again
+
+pub newest_read : (log : List LogEntry) (entry : LogEntry) (payload : List ℕ) → Some entry ≡ first log → whole (log_entry_code sha256) payload ≡ Ok (of_nobody entry) → ReadsNewest log payload
+newest_read [] entry payload is back = absurd cc
+newest_read (e ∷ log) entry payload is back = let same : entry ≡ e = cc in subst (λ (x : LogEntry). whole (log_entry_code sha256) payload ≡ Ok (of_nobody x)) same back
+
+pub just_made : (o : Opened) (book after : Book) (payload : List ℕ) (entry : LogEntry) → ReadsAs payload (Some entry) → may_follow o book entry ≡ true → IsMadeAgain (replayed_call sha256 book entry) book after → is_newest after.log payload ≡ true → ReadsNewest after.log payload → Adds o book after payload true
+just_made o book after payload entry reads may made is again =
     let spelled : bytes_eq (spelling made.entry) payload ≡ true = subst (λ (l : List LogEntry). is_newest l payload ≡ true) (newest_is book after _ made) is in
+    let newest : after.log ≡ made.entry ∷ book.log = newest_is book after _ made in
+    let own : spelling made.entry ≡ payload = (bytes_eq-Decides _ _).0 spelled in
+    let there : is_legal sha256 book entry ≡ true = is_legal_by book entry (follows_both o book entry may).1 (made_just book after payload entry reads made is) in
+    let brings : BringsOne 0 entry.draft book made.entry (replayed_call sha256 book entry).state = subst (λ (l : List LogEntry). Brings 0 entry.draft book l (replayed_call sha256 book entry).state) made.logged (replays book entry there).0 in
+    let back : whole (log_entry_code sha256) payload ≡ Ok (of_nobody made.entry) = subst (λ (l : List LogEntry). ReadsNewest l payload) newest again in
     record {
-      next = read_is book payload entry reads
-          ∙ legal book entry may (ap (is_just sha256 entry) made.logged ∙ ap (bytes_eq (spelling made.entry)) (sym reads.1) ∙ spelled)
+      next = read_is o book payload entry reads
+          ∙ legal o book entry may (ap (is_just sha256 entry) made.logged ∙ ap (bytes_eq (spelling made.entry)) (sym reads.1) ∙ spelled)
           ∙ ap (λ (b : Book). Some b) (sym made.book);
       spelled = ap (λ (l : List LogEntry). spellings (reverse l)) (newest_is book after _ made)
           ∙ ap spellings (reverse-append (made.entry ∷ []) book.log)
           ∙ map-append spelling (reverse book.log) (made.entry ∷ [])
-          ∙ ap (λ (p : List ℕ). spellings (reverse book.log) ++ p ∷ []) ((bytes_eq-Decides _ _).0 spelled);
+          ∙ ap (λ (p : List ℕ). spellings (reverse book.log) ++ p ∷ []) own;
       place = made.place;
+      entry = made.entry;
+      newest = newest;
+      read = ap (whole (log_entry_code sha256)) own ∙ back;
+      nobody = λ i. record (made.entry) { caller = sym brings.caller_is i };
     }
 
 -- ---- the entry that was made
@@ -136,10 +172,10 @@ just_made book after payload entry reads may made is =
 logged_one : (draft : ℕ) (logged : List LogEntry) (e : LogEntry) → IsLogOf draft logged → logged ≡ e ∷ [] → (is_logged sha256 e ≡ true) × (e.draft ≡ draft)
 logged_one draft logged e is same = subst (IsLogOf draft) same is
 
-module _ (book after : Book) (entry : LogEntry) (payload : List ℕ) (reads : ReadsAs payload (Some entry)) (may : may_follow book entry ≡ true) (made : IsMadeAgain (replayed_call sha256 book entry) book after) where
+module _ (o : Opened) (book after : Book) (entry : LogEntry) (payload : List ℕ) (reads : ReadsAs payload (Some entry)) (may : may_follow o book entry ≡ true) (made : IsMadeAgain (replayed_call sha256 book entry) book after) where
   made_logs : (is_logged sha256 made.entry ≡ true) × (made.entry.draft ≡ entry.draft)
   made_logs =
-      let parts = follows_parts book entry may in
+      let parts = follows_parts o book entry may in
       logged_one entry.draft _ made.entry (entry_logs book entry parts.0 parts.1 reads.2) made.logged
 
   pub newest_logged : NewestIsLogged after.log
@@ -153,7 +189,7 @@ module _ (book after : Book) (entry : LogEntry) (payload : List ℕ) (reads : Re
 
   module _ (newest : is_newest after.log payload ≡ true) where
     is_legal_there : is_legal sha256 book entry ≡ true
-    is_legal_there = is_legal_by book entry may (made_just book after payload entry reads made newest)
+    is_legal_there = is_legal_by book entry (follows_both o book entry may).1 (made_just book after payload entry reads made newest)
 
     -- what it brings is the entry that was made
     brings_one : BringsOne 0 entry.draft book made.entry after.state
@@ -186,7 +222,7 @@ module _ (book after : Book) (entry : LogEntry) (payload : List ℕ) (reads : Re
     followed_on numbers more taken longer followed takes added = record {
       drafts = drafts_after numbers more followed.drafts added;
       ends = ends_after followed.ends;
-      count = omega (arith, ap length takes.more_are, length-append taken (takes.one ∷ []), followed.count, made.place);
+      count = omega (arith, ap length takes.more_are, length-append taken (takes.one ∷ []), followed.count, made.place, ap (λ (s : State). s.place) base_is);
       taken_are =
           subst (λ (past : List State). AreTaken after.state past (reverse longer)) (sym (past_after followed.ends))
           (subst (λ (l : List (Option Reference)). AreTaken after.state (book.state ∷ past_of sha256 book) l) (sym (ap reverse takes.more_are ∙ reverse-append taken (takes.one ∷ []))) (takes.is, followed.taken_are));

@@ -13,7 +13,7 @@ use Rattle.cat_model.specs.Book.{Book}
 use Rattle.cat_model.specs.Drafts as drafts
 use Rattle.cat_model.specs.Drafts.{Names, Opening}
 use Rattle.cat_model.specs.Past.{past_of}
-use Rattle.cat_model.specs.State.{State, first_state}
+use Rattle.cat_model.specs.State.{State}
 use Rattle.cat_model.specs.Turns.{Opened}
 use Rattle.cat_tables.specs.ReferenceLaws.{both_true}
 use Rattle.cat_core.specs.declared.sweeping.Sweep.{Sweep}
@@ -33,19 +33,19 @@ rest_of s = record { commits = drop s.given_commits s.commits.items; contents = 
 names_parted : (s : OpenSweep) → (sweep_held s).names ≡ record { commits = (sweep_held s).given.commits ++ (rest_of s).commits; contents = (sweep_held s).given.contents ++ (rest_of s).contents }
 names_parted s = λ i. record { commits = sym (take-append-drop s.given_commits s.commits.items) i; contents = sym (take-append-drop s.given_contents s.contents.items) i }
 
-pub since_completes : (book : Book) (faults : ℕ) (left_open : List drafts.OpenDraft) (s : OpenSweep) → IsSound book faults left_open → IsUnderWay book s → AreLinked book.state.commits → is_headed book.state ≡ true
+pub since_completes : (book : Book) (o : Opened) (left_open : List drafts.OpenDraft) (s : OpenSweep) → IsSound o book left_open → IsUnderWay book s → AreLinked book.state.commits → is_headed book.state ≡ true
     → Completes book.state.commits (given_by book (sweep_held s)) (roots_since s.policy (drop s.drained (reverse book.log)) (rest_of s)) (kept_by book (sweep_held s))
-since_completes book faults left_open s sound way are headed =
-    let o : Opened = record { state = first_state sha256 book.state.limits; draft = 0; faults = faults } in
+since_completes book o left_open s sound way are headed =
     let legal : AreLegalBack o book.log = legal_backwards o book.log sound.legal.legal in
     let n = length book.log - s.drained in
     let older : List LogEntry = drop n book.log in
     let whole : AreLegalBack o (take n book.log ++ older) = subst (AreLegalBack o) (sym (take-append-drop n book.log)) legal in
-    let since : s.ticket.place ≤ s.drained = way.since in
+    let since : s.ticket.place ≤ book.base.place + s.drained = way.since in
+    let base : book.base.place ≡ o.state.place = ap (λ (x : State). x.place) sound.base in
     let low : s.drained ≤ length book.log = way.drained in
     let long : length older ≡ length book.log - n = length-drop n book.log in
-    let place : (state_at o older).place ≡ 0 + length older = places_back o (take n book.log) older whole in
-    completes_rest o book (sweep_held s) (rest_of s) are sound.base (ends_sound book faults left_open sound) legal (names_parted s) low (omega (arith, since, low, long, place)) (both_true _ _ headed way.headed)
+    let place : (state_at o older).place ≡ o.state.place + length older = places_back o (take n book.log) older whole in
+    completes_rest o book (sweep_held s) (rest_of s) are sound.base (ends_sound book o left_open sound) legal (names_parted s) low (omega (arith, since, low, long, place, base)) (both_true _ _ headed way.headed)
 
 -- as it is seen
 pub roots_complete : {K : Type 0} (s x : Stored K) → s ≡ x → (held : Option OpenSweep) (it : OpenSweep) (roots : Roots) → held ≡ Some it → s.left_open.sweep ≡ option_map sweep_held held → Completes s.book.state.commits (given_by s.book (sweep_held it)) roots (kept_by s.book (sweep_held it))
@@ -58,16 +58,16 @@ roots_complete {K} s x same held it roots is sweep completes o there =
     some_same : (a b : drafts.OpenSweep) → ◌≡◌ {A = Option drafts.OpenSweep} (Some a) (Some b) → a ≡ b
     some_same a b e = cc
 
-pub roots_ok : {K E : Type 0} (s x : Stored K) → s ≡ x → (faults : ℕ) (left_open : List drafts.OpenDraft) (held : Option OpenSweep) (it : OpenSweep) (r : Result Roots E) (entries : List LogEntry) (commits contents : List Hash) → held ≡ Some it → s.left_open.sweep ≡ option_map sweep_held held
-    → IsSound s.book faults left_open → IfSome held (IsUnderWay s.book) → AreLinked s.book.state.commits → is_headed s.book.state ≡ true → IfOk r (λ roots. roots ≡ roots_since it.policy entries (record { commits = commits; contents = contents }))
+pub roots_ok : {K E : Type 0} (s x : Stored K) → s ≡ x → (start : Opened) (left_open : List drafts.OpenDraft) (held : Option OpenSweep) (it : OpenSweep) (r : Result Roots E) (entries : List LogEntry) (commits contents : List Hash) → held ≡ Some it → s.left_open.sweep ≡ option_map sweep_held held
+    → IsSound start s.book left_open → IfSome held (IsUnderWay s.book) → AreLinked s.book.state.commits → is_headed s.book.state ≡ true → IfOk r (λ roots. roots ≡ roots_since it.policy entries (record { commits = commits; contents = contents }))
     → entries ≡ drop it.drained (reverse s.book.log) → commits ≡ drop it.given_commits it.commits.items → contents ≡ drop it.given_contents it.contents.items
     → (o : drafts.OpenSweep) → x.left_open.sweep ≡ Some o → IfOk r (λ roots. Completes x.book.state.commits (given_by x.book o) roots (kept_by x.book o))
-roots_ok {K} {E} s x same faults left_open held it (Err e) entries commits contents is sweep sound way are headed ok entries_are commits_are contents_are o there = tt
-roots_ok {K} {E} s x same faults left_open held it (Ok roots) entries commits contents is sweep sound way are headed ok entries_are commits_are contents_are o there =
+roots_ok {K} {E} s x same start left_open held it (Err e) entries commits contents is sweep sound way are headed ok entries_are commits_are contents_are o there = tt
+roots_ok {K} {E} s x same start left_open held it (Ok roots) entries commits contents is sweep sound way are headed ok entries_are commits_are contents_are o there =
     let under : IsUnderWay s.book it = subst (λ (h : Option OpenSweep). IfSome h (IsUnderWay s.book)) is way in
     let own : roots ≡ roots_since it.policy (drop it.drained (reverse s.book.log)) (rest_of it) = ok ∙ (λ i. roots_since it.policy (entries_are i) (record { commits = commits_are i; contents = contents_are i })) in
     roots_complete s x same held it roots is sweep
-    (subst (λ (r : Roots). Completes s.book.state.commits (given_by s.book (sweep_held it)) r (kept_by s.book (sweep_held it))) (sym own) (since_completes s.book faults left_open it sound under are headed)) o there
+    (subst (λ (r : Roots). Completes s.book.state.commits (given_by s.book (sweep_held it)) r (kept_by s.book (sweep_held it))) (sym own) (since_completes s.book start left_open it sound under are headed)) o there
 
 -- as it is opened
 pub first_completes : (book : Book) (left_open : List drafts.OpenDraft) (opening : Opening) (policy : Resolved) → opening.place ≡ book.state.place

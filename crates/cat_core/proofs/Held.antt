@@ -5,26 +5,29 @@ use Rattle.std.specs.List.{filter}
 use Rattle.std.specs.Prelude.{is_err, is_ok, if◌then◌else◌}
 use Rattle.sha2.specs.Sha256.{sha256}
 use Rattle.cat_keeper.specs.declared.keeper.Keeper.{Ghosts}
+use Rattle.cat_keeper.specs.Keeping.{is_format}
 use Rattle.cat_decisions.specs.declared.building.Built.{Built}
 use Rattle.cat_decisions.specs.declared.call.Call.{Call}
 use Rattle.cat_decisions.specs.Builds.{HasHead, IsBuilt, command_of}
 use Rattle.cat_checks.specs.HistoryLaws.{at_most_more, place_is}
-use Rattle.cat_checks.specs.Histories.{begun, book_after}
+use Rattle.cat_checks.specs.Histories.{begun, book_at}
 use Rattle.cat_model.specs.declared.command.Command.{Command}
 use Rattle.cat_model.specs.Book.{Book}
 use Rattle.cat_model.specs.Drafts as drafts
 use Rattle.cat_model.specs.Drafts.{Opening, drafts_of}
 use Rattle.cat_model.specs.Naming.{names_of}
 use Rattle.cat_model.specs.Later.{IsLater}
-use Rattle.cat_model.specs.State.{State, first_state}
+use Rattle.cat_model.specs.State.{State}
 use Rattle.cat_model.specs.Step.{opening}
+use Rattle.cat_model.specs.Turns.{Opened, place_after}
 use Rattle.cat_core.specs.Making.{taking}
 use Rattle.cat_core.specs.declared.draft.Draft.{Draft}
 use Rattle.cat_core.specs.declared.tickets.Fallen.{Fallen}
 use Rattle.cat_core.specs.declared.tickets.OpenDraft.{OpenDraft}
+use Rattle.cat_core.specs.declared.tickets.Start.{Start}
 use Rattle.cat_core.specs.declared.tickets.Ticket.{Ticket}
 use Rattle.cat_core.specs.Drafts.{IsOpen, closed, open_draft_of, without}
-use Rattle.cat_core.specs.Stored.{IsFree, IsInStep, IsSound, Stored, draft_held, log_of, opening_at}
+use Rattle.cat_core.specs.Stored.{IsFree, IsInStep, IsSound, Stored, draft_held, log_of, opened_held, opening_at}
 use Rattle.cat_core.proofs.Sound.{sound_with}
 use Rattle.cat_core.proofs.Waiting.{in_all, none_left, waiting_closed, waiting_more, waits}
 
@@ -54,39 +57,42 @@ holds t c xs ys x added ticket names =
     ∙ (λ i. map draft_held xs ++ record { opening = opening_at (ticket i); names = names i } ∷ [])
 
 -- the number is taken
-pub sound_taken : (book : Book) (faults : ℕ) (left_open : List drafts.OpenDraft) (d : drafts.OpenDraft) → IsSound book faults left_open → d.opening.number ≡ book.draft + 1 → IsSound (record book { draft = d.opening.number }) faults (left_open ++ d ∷ [])
-sound_taken book faults left_open d sound next = record {
+pub sound_taken : (o : Opened) (book : Book) (left_open : List drafts.OpenDraft) (d : drafts.OpenDraft) → IsSound o book left_open → d.opening.number ≡ book.draft + 1 → IsSound o (record book { draft = d.opening.number }) (left_open ++ d ∷ [])
+sound_taken o book left_open d sound next = record {
   base = sound.base;
+  starts = sound.starts;
   legal = sound.legal;
   led = sound.led;
+  above = omega (arith, sound.above, next);
   taken = at_most_more book.draft d.opening.number book.log (omega arith) sound.taken;
-  waiting = waiting_more book.draft book.log d left_open next sound.taken sound.waiting;
+  waiting = waiting_more o.draft book.draft book.log d left_open sound.above next sound.taken sound.waiting;
 }
 
-pub sound_held : (book after : Book) (faults : ℕ) (left_open held : List drafts.OpenDraft) (t : Ticket) (c : Command) → IsSound book faults left_open → after ≡ taking book t.number → t.number ≡ book.draft + 1 → held ≡ left_open ++ held_for t c ∷ [] → IsSound after faults held
-sound_held book after faults left_open held t c sound takes next is =
+pub sound_held : (start : Start) (book after : Book) (left_open held : List drafts.OpenDraft) (t : Ticket) (c : Command) → IsSound (opened_held book.base start) book left_open → after ≡ taking book t.number → t.number ≡ book.draft + 1 → held ≡ left_open ++ held_for t c ∷ [] → IsSound (opened_held after.base start) after held
+sound_held start book after left_open held t c sound takes next is =
     let n : max book.draft t.number ≡ t.number = next_greatest book.draft t.number next in
     let same : record book { draft = t.number } ≡ after = ap (λ (m : ℕ). record book { draft = m }) (sym n) ∙ sym takes in
-    subst (λ (b : Book). IsSound b faults held) same (subst (IsSound (record book { draft = t.number }) faults) (sym is) (sound_taken book faults left_open (held_for t c) sound next))
+    let o : Opened = opened_held book.base start in
+    subst (λ (b : Book). IsSound (opened_held b.base start) b held) same (subst (IsSound o (record book { draft = t.number })) (sym is) (sound_taken o book left_open (held_for t c) sound next))
 
-pub step_held : {K : Type 0} (members : Ghosts K) (book after : Book) (keeper : K) (fallen : Option Fallen) (began number : ℕ) → after ≡ taking book number → IsInStep members book keeper fallen began → IsInStep members after keeper fallen began
-step_held {K} members book after keeper fallen began number takes was =
-    subst (λ (b : Book). IsInStep members b keeper fallen began) (sym takes) record { payloads = was.payloads; number = was.number; fallen = was.fallen; later = was.later; rose = was.rose; counted = was.counted }
+pub step_held : {K : Type 0} (members : Ghosts K) (start : Start) (book after : Book) (keeper : K) (fallen : Option Fallen) (number : ℕ) → after ≡ taking book number → IsInStep members (opened_held book.base start) book keeper fallen → IsInStep members (opened_held after.base start) after keeper fallen
+step_held {K} members start book after keeper fallen number takes was =
+    subst (λ (b : Book). IsInStep members (opened_held b.base start) b keeper fallen) (sym takes) record { payloads = was.payloads; number = was.number; fallen = was.fallen; later = was.later; rose = was.rose; counted = was.counted; flies = was.flies }
 
 -- ---- one less
 
-pub sound_seen : {K : Type 0} (s x : Stored K) → s ≡ x → IsSound s.book s.began s.left_open.drafts → IsSound x.book x.began x.left_open.drafts
-sound_seen {K} s x same sound = subst (λ (z : Stored K). IsSound z.book z.began z.left_open.drafts) same sound
+pub sound_seen : {K : Type 0} (s x : Stored K) → s ≡ x → IsSound s.opened s.book s.left_open.drafts → IsSound x.opened x.book x.left_open.drafts
+sound_seen {K} s x same sound = subst (λ (z : Stored K). IsSound z.opened z.book z.left_open.drafts) same sound
 
-pub sound_closed : (book : Book) (faults : ℕ) (left_open held : List drafts.OpenDraft) (o : Opening) → IsSound book faults left_open → held ≡ without o left_open → IsSound book faults held
-sound_closed book faults left_open held o sound is = subst (IsSound book faults) (sym is) (sound_with book faults left_open (without o left_open) sound (waiting_closed book.draft book.log o left_open sound.waiting))
+pub sound_closed : (start : Opened) (book : Book) (left_open held : List drafts.OpenDraft) (o : Opening) → IsSound start book left_open → held ≡ without o left_open → IsSound start book held
+sound_closed start book left_open held o sound is = subst (IsSound start book) (sym is) (sound_with start book left_open (without o left_open) sound (waiting_closed start.draft book.draft book.log o left_open sound.waiting))
 
 -- its number is free
-pub frees : {K : Type 0} (s after : Stored K) (d : Draft) → IsSound s.book s.began s.left_open.drafts → IsOpen (open_draft_of d) (drafts_of d.caller s.left_open.drafts) → after ≡ record s { left_open = closed s d } → IsFree d.number after
+pub frees : {K : Type 0} (s after : Stored K) (d : Draft) → IsSound s.opened s.book s.left_open.drafts → IsOpen (open_draft_of d) (drafts_of d.caller s.left_open.drafts) → after ≡ record s { left_open = closed s d } → IsFree d.number after
 frees {K} s after d sound is left =
     let there : IsOpen (open_draft_of d) s.left_open.drafts = in_all d.caller (open_draft_of d) s.left_open.drafts is in
-    let one = waits s.book.draft s.book.log (open_draft_of d) s.left_open.drafts sound.waiting there in
-    subst (λ (x : Stored K). IsFree d.number x) (sym left) record { above = one.above; below = one.below; new = one.new; none = none_left s.book.draft s.book.log (open_draft_of d) s.left_open.drafts sound.waiting there }
+    let one = waits s.opened.draft s.book.draft s.book.log (open_draft_of d) s.left_open.drafts sound.waiting there in
+    subst (λ (x : Stored K). IsFree d.number x) (sym left) record { above = one.above; below = one.below; new = one.new; none = none_left s.opened.draft s.book.draft s.book.log (open_draft_of d) s.left_open.drafts sound.waiting there }
 
 -- as it is held
 pub free_inside : {K : Type 0} (number : ℕ) (s x : Stored K) → s ≡ x → IsFree number x → IsFree number s
@@ -94,22 +100,26 @@ free_inside {K} number s x same free = subst (λ (z : Stored K). IsFree number z
 
 -- ---- as it is seen
 
-pub length_seen : {K : Type 0} (s x : Stored K) → s ≡ x → length (log_of s) ≡ length (log_of x)
-length_seen {K} s x same = ap (λ (z : Stored K). length (log_of z)) same
+pub place_seen : {K : Type 0} (s x : Stored K) → s ≡ x → place_after s.opened (log_of s) ≡ place_after x.opened (log_of x)
+place_seen {K} s x same = ap (λ (z : Stored K). place_after z.opened (log_of z)) same
 
 pub state_seen : {K : Type 0} (s x : Stored K) → s ≡ x → s.book.state ≡ x.book.state
 state_seen {K} s x same = ap (λ (z : Stored K). z.book.state) same
 
+pub log_seen : {K : Type 0} (s x : Stored K) → s ≡ x → length x.book.log ≡ length s.book.log
+log_seen {K} s x same = ap (λ (z : Stored K). length z.book.log) (sym same)
+
+pub form_seen : {K : Type 0} (s x : Stored K) → s ≡ x → is_format s.mark.format ≡ true → is_format x.mark.format ≡ true
+form_seen {K} s x same is = subst (λ (z : Stored K). is_format z.mark.format ≡ true) same is
+
 pub fault_seen : {K : Type 0} (s x : Stored K) → s ≡ x → x.mark.fault ≡ s.mark.fault
 fault_seen {K} s x same = sym (ap (λ (z : Stored K). z.mark.fault) same)
 
--- the place is the length of the log
-pub place_length : (book : Book) (faults : ℕ) (held : List drafts.OpenDraft) → IsSound book faults held → book.state.place ≡ length (reverse book.log)
-place_length book faults held sound =
-    let from : Book = begun (record { state = first_state sha256 book.state.limits; draft = 0; faults = faults }) in
-    let n : (book_after sha256 from (reverse book.log)).state.place ≡ from.state.place + length (reverse book.log) = place_is sha256 from (reverse book.log) sound.legal.legal in
-    let same : (book_after sha256 from (reverse book.log)).state.place ≡ book.state.place = ap (λ (s : State). s.place) sound.led in
-    let zero : from.state.place ≡ 0 = refl in
+-- the place is that of the start, and one more for each entry
+pub place_length : (o : Opened) (book : Book) (held : List drafts.OpenDraft) → IsSound o book held → book.state.place ≡ place_after o (reverse book.log)
+place_length o book held sound =
+    let n : (book_at o (reverse book.log)).state.place ≡ o.state.place + length (reverse book.log) = place_is sha256 (begun o) (reverse book.log) sound.legal.legal in
+    let same : (book_at o (reverse book.log)).state.place ≡ book.state.place = ap (λ (s : State). s.place) sound.led in
     omega arith
 
 -- what was built, on a state that is this one
@@ -120,8 +130,8 @@ built_seen call built here there v same law =
     subst (λ (s : State). IsLater v s → opening sha256 s (command_of call) ≡ Ok tt → HasHead s (command_of call) built.head → IsBuilt v call built → IsBuilt s call built) same law
 
 -- none is held
-pub none_held : (book : Book) (faults : ℕ) (items : List OpenDraft) → items ≡ [] → IsSound book faults [] → IsSound book faults (map draft_held items)
-none_held book faults items none sound = subst (λ (l : List OpenDraft). IsSound book faults (map draft_held l)) (sym none) sound
+pub none_held : (o : Opened) (book : Book) (items : List OpenDraft) → items ≡ [] → IsSound o book [] → IsSound o book (map draft_held items)
+none_held o book items none sound = subst (λ (l : List OpenDraft). IsSound o book (map draft_held l)) (sym none) sound
 
 pub at_least : (a b : ℕ) → a ≡ b → a ≤ b
 at_least a b same = omega arith

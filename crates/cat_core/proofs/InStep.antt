@@ -1,7 +1,9 @@
 -- The keeper has the entries of the log.
-use Rattle.std.proofs.Common.{◌≡◌, ◌≤◌, ℕ, max, arith, List, [], ◌∷◌, ◌++◌, reverse, Option, Some, None, Result, Ok, Err, Bool, true, false, nat_lt, if◌then◌else◌, IfSome, le_refl, refl, sym, ap, subst, ◌∙◌}
-use Rattle.std.proofs.lemmas.List.{append-nil, reverse-append, map-append}
+use Rattle.std.proofs.Common.{◌≡◌, ◌≤◌, ℕ, inr, max, arith, List, [], ◌∷◌, ◌++◌, reverse, Option, Some, None, Result, Ok, Err, Bool, true, false, nat_lt, if◌then◌else◌, IfSome, le_refl, refl, sym, ap, subst, ◌∙◌}
+use Rattle.std.proofs.lemmas.List.{append-nil, reverse-append}
 use Rattle.sha2.specs.Sha256.{sha256}
+use Rattle.cat_checks.specs.Histories.{IsLegalFrom}
+use Rattle.cat_frames.specs.Checkpoints.{is_checkpoint}
 use Rattle.cat_io.specs.Causes.{Rose}
 use Rattle.cat_io.specs.Crashes as crashes
 use Rattle.cat_keeper.specs.declared.keeper.Keeper.{Ghosts}
@@ -14,13 +16,16 @@ use Rattle.cat_model.specs.Calls.{Called, Occasion, attempt, stepped, tests_on, 
 use Rattle.cat_model.specs.Refusing.{Outcome, Tested}
 use Rattle.cat_model.specs.State.{State}
 use Rattle.cat_model.specs.Step.{Turn, opens_draft, step}
+use Rattle.cat_model.specs.Turns.{Opened}
 use Rattle.cat_state.specs.declared.failure.Failure.TheVariants as failures
 use Rattle.cat_state.specs.declared.unmade.Unmade.TheVariants.{Failed, NotKept}
 use Rattle.cat_state.specs.declared.unmade.Unmade.{Unmade}
-use Rattle.cat_state.specs.Kept.{Keeps, Stayed, spelling, spellings}
+use Rattle.cat_state.specs.Kept.{AreReadBack, Keeps, Stayed, reached, spelling, spellings}
 use Rattle.cat_core.specs.Making.{Runs}
 use Rattle.cat_core.specs.Made.{fallen_by}
+use Rattle.cat_core.specs.Records.{IsCheckpointAt, IsInFlight, StandThrough}
 use Rattle.cat_core.specs.Stored.{IsInStep}
+use Rattle.cat_core.proofs.Records.{through_base, through_entry}
 
 -- ---- a call logs one entry at most, and none where it is refused
 
@@ -52,61 +57,74 @@ right_attempt book o command = right_tried o.caller book.state book.draft comman
 
 -- ---- the payloads of a log
 
-spelled_more : (log logged : List LogEntry) → AtMostOne logged → spellings (reverse (logged ++ log)) ≡ spellings (reverse log) ++ spellings logged
-spelled_more log [] few = sym (append-nil (spellings (reverse log)))
-spelled_more log (e ∷ []) few = ap spellings (reverse-append (e ∷ []) log) ∙ map-append spelling (reverse log) (e ∷ [])
-spelled_more log (e ∷ f ∷ entries) few = absurd few
+-- so many entries more, and their payloads
+stand_more : (o : Opened) (log logged : List LogEntry) (ps : List (List ℕ)) → AtMostOne logged → AreReadBack logged → StandThrough o (reverse log) ps → StandThrough o (reverse (logged ++ log)) (ps ++ spellings logged)
+stand_more o log [] ps few read is = subst (StandThrough o (reverse log)) (sym (append-nil ps)) is
+stand_more o log (e ∷ []) ps few read is = subst (λ (l : List LogEntry). StandThrough o l (ps ++ spelling e ∷ [])) (sym (reverse-append (e ∷ []) log)) (through_entry o (reverse log) ps e read.0 is)
+stand_more o log (e ∷ f ∷ entries) ps few read is = absurd few
 
-told_more : (before now : Option (List (List ℕ))) (log logged : List LogEntry) → AtMostOne logged → IfSome before (λ ps. ps ≡ spellings (reverse log)) → crashes.Told before now (λ old new. new ≡ old ++ spellings logged) → IfSome now (λ ps. ps ≡ spellings (reverse (logged ++ log)))
-told_more None None log logged few is more = tt
-told_more None (Some ps) log logged few is more = absurd more
-told_more (Some old) None log logged few is more = absurd more
-told_more (Some old) (Some new) log logged few is more = more ∙ ap (λ (l : List (List ℕ)). l ++ spellings logged) is ∙ sym (spelled_more log logged few)
+told_more : (o : Opened) (before now : Option (List (List ℕ))) (log logged : List LogEntry) → AtMostOne logged → AreReadBack logged → IfSome before (StandThrough o (reverse log)) → crashes.Told before now (λ old new. new ≡ old ++ spellings logged) → IfSome now (StandThrough o (reverse (logged ++ log)))
+told_more o None None log logged few read is more = tt
+told_more o None (Some ps) log logged few read is more = absurd more
+told_more o (Some old) None log logged few read is more = absurd more
+told_more o (Some old) (Some new) log logged few read is more = subst (StandThrough o (reverse (logged ++ log))) (sym more) (stand_more o log logged old few read is)
 
-told_same : (before now : Option (List (List ℕ))) (log : List LogEntry) → IfSome before (λ ps. ps ≡ spellings (reverse log)) → crashes.Told before now (λ old new. new ≡ old) → IfSome now (λ ps. ps ≡ spellings (reverse log))
-told_same None None log is same = tt
-told_same None (Some ps) log is same = absurd same
-told_same (Some old) None log is same = absurd same
-told_same (Some old) (Some new) log is same = same ∙ is
+pub told_same : (o : Opened) (before now : Option (List (List ℕ))) (log : List LogEntry) → IfSome before (StandThrough o (reverse log)) → crashes.Told before now (λ old new. new ≡ old) → IfSome now (StandThrough o (reverse log))
+told_same o None None log is same = tt
+told_same o None (Some ps) log is same = absurd same
+told_same o (Some old) None log is same = absurd same
+told_same o (Some old) (Some new) log is same = subst (StandThrough o (reverse log)) (sym same) is
 
-still : {K : Type 0} (told : K → Option (List (List ℕ))) (old new : K) (before after : Book) → told new ≡ told old → after.log ≡ before.log → IfSome (told old) (λ ps. ps ≡ spellings (reverse before.log)) → IfSome (told new) (λ ps. ps ≡ spellings (reverse after.log))
-still told old new before after same log is =
-    subst (λ (l : List LogEntry). IfSome (told new) (λ ps. ps ≡ spellings (reverse l))) (sym log) (subst (λ (t : Option (List (List ℕ))). IfSome t (λ ps. ps ≡ spellings (reverse before.log))) (sym same) is)
+-- a base more
+pub told_base : (o : Opened) (before now : Option (List (List ℕ))) (log : List LogEntry) (base : List ℕ) (drafts : List ℕ) → is_checkpoint base ≡ true → IsCheckpointAt o (reverse log) drafts base
+    → IfSome before (StandThrough o (reverse log)) → crashes.Told before now (λ old new. new ≡ old ++ base ∷ []) → IfSome now (StandThrough o (reverse log))
+told_base o None None log base drafts kind made is more = tt
+told_base o None (Some ps) log base drafts kind made is more = absurd more
+told_base o (Some old) None log base drafts kind made is more = absurd more
+told_base o (Some old) (Some new) log base drafts kind made is more = subst (StandThrough o (reverse log)) (sym more) (through_base o (reverse log) old base drafts kind made is)
 
-rose_since : (began old new : ℕ) → began ≤ old → Rose old new → Rose began new
+pub still : {K : Type 0} (told : K → Option (List (List ℕ))) (o : Opened) (old new : K) (before after : Book) → told new ≡ told old → after.log ≡ before.log → IfSome (told old) (StandThrough o (reverse before.log)) → IfSome (told new) (StandThrough o (reverse after.log))
+still told o old new before after same log is =
+    subst (λ (l : List LogEntry). IfSome (told new) (StandThrough o (reverse l))) (sym log) (subst (λ (t : Option (List (List ℕ))). IfSome t (StandThrough o (reverse before.log))) (sym same) is)
+
+pub rose_since : (began old new : ℕ) → began ≤ old → Rose old new → Rose began new
 rose_since began old new later rose = omega (arith, later, rose)
 
 module _ {K : Type 0} (members : Ghosts K) where
-  module _ (old new : K) (caller : ℕ) (called : Called) (before after : Book) (began : ℕ) (right : LogsRight called) (was : IsInStep members before old None began) (number : members.kept new ≡ after.state.place) where
-    stayed : after.log ≡ before.log → Stayed members old new → IsInStep members after new None began
+  module _ (old new : K) (caller : ℕ) (called : Called) (o : Opened) (before after : Book) (right : LogsRight called) (legal : IsLegalFrom o (reverse (called.logged ++ before.log))) (was : IsInStep members o before old None) (number : reached members new ≡ after.state.place) where
+    stayed : after.log ≡ before.log → Stayed members old new → IsInStep members o after new None
     stayed log keeps =
-        let later : began ≤ members.faults old = was.later in
+        let later : o.faults ≤ members.faults old = was.later in
         let more : members.faults old ≤ members.faults new = keeps.later in
-        record { payloads = still members.told old new before after keeps.payloads log was.payloads; number = number; fallen = keeps.fallen ∙ was.fallen; later = omega arith; rose = tt; counted = tt }
+        record { payloads = still members.told o old new before after keeps.payloads log was.payloads; number = number; fallen = keeps.fallen ∙ was.fallen; later = omega arith; rose = tt; counted = tt; flies = tt }
 
     -- after a call
-    pub in_step : (made : Result Told Unmade) → Runs called before after made → Keeps members old new called.logged made → IsInStep members after new (fallen_by caller (members.faults new) None made) began
+    pub in_step : (made : Result Told Unmade) → Runs called before after made → Keeps members old new called.logged made → IsInStep members o after new (fallen_by caller (members.faults new) None made)
     in_step (Ok told_is) runs keeps =
-        let later : began ≤ members.faults old = was.later in
+        let later : o.faults ≤ members.faults old = was.later in
         let more : members.faults old ≤ members.faults new = keeps.later in
         record {
-          payloads = subst (λ (b : Book). IfSome (members.told new) (λ ps. ps ≡ spellings (reverse b.log))) (sym runs.book) (told_more (members.told old) (members.told new) before.log _ right.few was.payloads keeps.payloads);
+          payloads = subst (λ (b : Book). IfSome (members.told new) (StandThrough o (reverse b.log))) (sym runs.book) (told_more o (members.told old) (members.told new) before.log _ right.few keeps.read was.payloads keeps.payloads);
           number = number;
           fallen = keeps.up;
           later = omega arith;
           rose = tt;
           counted = tt;
+          flies = tt;
         }
     in_step (Err NotKept) runs keeps =
-        let later : began ≤ members.faults old = was.later in
+        let later : o.faults ≤ members.faults old = was.later in
         let more : members.faults old ≤ members.faults new = keeps.later in
+        let behind : IsLegalFrom o (reverse after.log ++ keeps.entry ∷ []) =
+        subst (IsLegalFrom o) (ap (λ (l : List LogEntry). reverse (l ++ before.log)) keeps.one ∙ reverse-append (keeps.entry ∷ []) before.log ∙ ap (λ (l : List LogEntry). reverse l ++ keeps.entry ∷ []) (sym runs.log)) legal in
         record {
-          payloads = subst (λ (l : List LogEntry). IfSome (members.told new) (λ ps. ps ≡ spellings (reverse l))) (sym runs.log) (told_same (members.told old) (members.told new) before.log was.payloads keeps.payloads);
+          payloads = subst (λ (l : List LogEntry). IfSome (members.told new) (StandThrough o (reverse l))) (sym runs.log) (told_same o (members.told old) (members.told new) before.log was.payloads keeps.payloads);
           number = number;
           fallen = keeps.fallen;
           later = omega arith;
-          rose = rose_since began (members.faults old) (members.faults new) was.later keeps.rose;
-          counted = (rose_since began (members.faults old) (members.faults new) was.later keeps.rose, le_refl (members.faults new));
+          rose = rose_since o.faults (members.faults old) (members.faults new) was.later keeps.rose;
+          counted = (rose_since o.faults (members.faults old) (members.faults new) was.later keeps.rose, le_refl (members.faults new));
+          flies = subst (λ (t : Option (List ℕ)). IfSome t (IsInFlight o (reverse after.log))) (sym keeps.flies) (inr (keeps.entry, refl, keeps.read, behind));
         }
     in_step (Err (Failed failures.NoMemory)) runs keeps = stayed runs.log keeps
     in_step (Err (Failed (failures.Refused why))) runs keeps = stayed (ap (λ (b : Book). b.log) runs.1.book ∙ ap (λ (l : List LogEntry). l ++ before.log) (right.none _ runs.1.said)) keeps

@@ -25,6 +25,7 @@ use Rattle.cat_model.specs.Past.{course, past_of}
 use Rattle.cat_model.specs.Refusing.{Outcome}
 use Rattle.cat_model.specs.Same.{same_hash}
 use Rattle.cat_model.specs.State.{State, content_at}
+use Rattle.cat_model.specs.Turns.{Opened}
 use Rattle.cat_model.specs.Sweeps.{hash_set, is_saved, kept_by_names, kept_contents, live_since, names_in, needs_sweep_room, saved, since, step_sweep, sweep_call, swept_by}
 use Rattle.cat_state.specs.declared.failure.Failure.TheVariants as failures
 use Rattle.cat_state.specs.declared.unmade.Unmade.{Unmade}
@@ -221,11 +222,11 @@ lasting_as : (a b : Book) (drafts : List OpenDraft) → b.state ≡ a.state → 
 lasting_as a b drafts state log base was =
     subst (λ (x : Book). AreLasting x drafts) (λ i. record { state = sym state i; draft = b.draft; log = sym log i; base = sym base i }) (lasting_same a b.draft drafts was)
 
-module _ (caller number : ℕ) (book : Book) (faults : ℕ) (drafts : List OpenDraft) (sweep : Option OpenSweep) (sound : IsSound book faults drafts) (named : AreNamed book.state drafts) (was : IsHolding book drafts sweep) where
+module _ (caller number : ℕ) (book : Book) (o : Opened) (drafts : List OpenDraft) (sweep : Option OpenSweep) (sound : IsSound o book drafts) (named : AreNamed book.state drafts) (was : IsHolding book drafts sweep) where
   brought_by : (logged : List LogEntry) (after : State) (draft : ℕ) → Brings caller number book logged after → AllSpared book.state after drafts → AreLinked after.commits → AreLasting (record book { state = after; draft = draft; log = logged ++ book.log }) drafts
   brought_by [] after draft brings spared are = lasting_as book (record book { state = after; draft = draft }) drafts brings refl refl was.lasting
   brought_by (e ∷ []) after draft brings spared are =
-      lasting_on book e after draft (ends_sound book faults drafts sound)
+      lasting_on book e after draft (ends_sound book o drafts sound)
       (sym (ap (λ (s : State). s.place) brings.leads) ∙ legal_place sha256 book e brings.legal.legal)
       (subst (IsLater book.state) brings.leads (replayed_later sha256 book e)).commits are drafts named spared was.lasting
   brought_by (e ∷ f ∷ more) after draft brings spared are = absurd brings

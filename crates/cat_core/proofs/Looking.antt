@@ -12,7 +12,7 @@ use Rattle.cat_model.specs.declared.cutoff.Resolved.{Resolved}
 use Rattle.cat_model.specs.declared.reference.Reference.{Reference}
 use Rattle.cat_model.specs.declared.sweep.Sweep.{Sweep}
 use Rattle.cat_model.specs.Base.{is_among}
-use Rattle.cat_model.specs.Chain.{Commits, chain, entries}
+use Rattle.cat_model.specs.Chain.{Commits, chain}
 use Rattle.cat_model.specs.Cutoffs.{cutoff_for, is_older, kept, kept_after, live, live_from, visible}
 use Rattle.cat_model.specs.Later.{Adds}
 use Rattle.cat_model.specs.Same.{same_hash}
@@ -172,22 +172,23 @@ module _ (now : Commits) (are : AreLinked now) (policy : Resolved) (hash : Hash)
   since_is states = any_of_lists (λ s. live s policy) states hash
 
 -- what a sweep keeps that was opened at a place of the log, by what the entries took
-pub saved_is : (state : State) (past : List State) (taken : List (Option Reference)) (s : Sweep) (hash : Hash) → AreLinked state.commits → heads_pass (is_known state.commits) state.references ≡ true
-    → length taken ≡ state.place → s.opened ≤ state.place → AreTaken state past (reverse taken)
-    → is_among (saved (since s.opened state past) state.commits s.policy (names_in s)) hash ≡ is_among (rooted state taken s) hash
+pub saved_is : (first : ℕ) (state : State) (past : List State) (taken : List (Option Reference)) (s : Sweep) (hash : Hash) → AreLinked state.commits → heads_pass (is_known state.commits) state.references ≡ true
+    → first + length taken ≡ state.place → first ≤ s.opened → s.opened ≤ state.place → AreTaken state past (reverse taken)
+    → is_among (saved (since s.opened state past) state.commits s.policy (names_in s)) hash ≡ is_among (rooted first state taken s) hash
 unfolding saved
-saved_is state past taken s hash are heads count opened is =
+saved_is first state past taken s hash are heads count since_first opened is =
     let commits = state.commits in
     let names = kept_by_names commits (names_in s) in
     let n = state.place - s.opened in
-    let since_opened = live_taken commits s.policy (drop s.opened taken) in
-    let last : list_any (taken_passes (is_live commits are s.policy hash)) (take n (reverse taken)) ≡ list_any (taken_passes (is_live commits are s.policy hash)) (drop s.opened taken) =
-    any_last (taken_passes (is_live commits are s.policy hash)) taken n s.opened (omega (arith, count, opened)) in
+    let m = s.opened - first in
+    let since_opened = live_taken commits s.policy (drop m taken) in
+    let last : list_any (taken_passes (is_live commits are s.policy hash)) (take n (reverse taken)) ≡ list_any (taken_passes (is_live commits are s.policy hash)) (drop m taken) =
+    any_last (taken_passes (is_live commits are s.policy hash)) taken n m (omega (arith, count, since_first, opened)) in
     among_both (live_since (since s.opened state past) s.policy) names hash
     ∙ ap (λ (b : Bool). b || is_among names hash)
     (since_is commits are s.policy hash (since s.opened state past)
     ∙ live_back commits are s.policy hash state past (reverse taken) n ([], refl) heads is
-    ∙ sym (λ i. live_then commits are s.policy hash state ([], refl) heads i || (all_taken_are commits are s.policy hash (drop s.opened taken) ∙ sym last) i))
+    ∙ sym (λ i. live_then commits are s.policy hash state ([], refl) heads i || (all_taken_are commits are s.policy hash (drop m taken) ∙ sym last) i))
     ∙ or_assoc (is_among (live state s.policy) hash) (is_among since_opened hash) (is_among names hash)
     ∙ ap (λ (b : Bool). is_among (live state s.policy) hash || b) (sym (among_both since_opened names hash))
     ∙ sym (among_both (live state s.policy) (since_opened ++ names) hash)

@@ -1,18 +1,20 @@
 -- What a store answers and leaves by what a call made in its ledger.
-use Rattle.std.proofs.Common.{◌≡◌, ◌≤◌, ℕ, arith, List, [], ◌++◌, Option, Some, None, Result, Ok, Err, refl, sym, ap, subst, ◌∙◌}
+use Rattle.std.proofs.Common.{◌≡◌, ◌≤◌, ℕ, arith, List, [], ◌∷◌, ◌++◌, Option, Some, None, Result, Ok, Err, refl, sym, ap, subst, ◌∙◌}
 use Rattle.std.specs.Option.{option_map}
 use Rattle.std.specs.Prelude.{IfSome}
 use Rattle.cat_io.specs.Causes.{Rose}
 use Rattle.cat_keeper.specs.declared.keeper.Keeper.{Ghosts}
+use Rattle.cat_keeper.specs.Bases.{bases_in}
 use Rattle.cat_model.specs.declared.log_entry.LogEntry.{LogEntry}
 use Rattle.cat_model.specs.declared.refusal.Refusal.{Refusal}
-use Rattle.cat_model.specs.declared.refusal.Refusal.TheVariants.{BadRequest, RefNotFound, RefExists, ContentNotFound, Conflicts, Expired, RetriesSpent, SweepOpen, Limit, Collision, Fault, Down, NoMemory, NoRoute, WrongMethod, TooLarge, Encoding}
+use Rattle.cat_model.specs.declared.refusal.Refusal.TheVariants.{BadRequest, RefNotFound, RefExists, ContentNotFound, Conflicts, Expired, RetriesSpent, SweepOpen, Limit, Collision, Fault, Down, NoMemory, NoRoute, WrongMethod, TooLarge, Encoding, OldFormat}
 use Rattle.cat_model.specs.declared.refusal.Refused.{Refused}
 use Rattle.cat_model.specs.declared.reply.Told.{Told}
 use Rattle.cat_model.specs.Book.{Book, after_call}
 use Rattle.cat_model.specs.Calls.{Called}
 use Rattle.cat_model.specs.Drafts.{Open}
 use Rattle.cat_model.specs.Mark.{FailedAppend}
+use Rattle.cat_model.specs.Turns.{Opened}
 use Rattle.cat_state.specs.declared.failure.Failure.TheVariants as failures
 use Rattle.cat_state.specs.declared.unmade.Unmade.{Unmade}
 use Rattle.cat_state.specs.declared.unmade.Unmade.TheVariants.{Failed, NotKept}
@@ -23,13 +25,18 @@ use Rattle.cat_core.specs.declared.tickets.Fallen.{Fallen}
 use Rattle.cat_core.specs.declared.tickets.ClosedSweep.{ClosedSweep}
 use Rattle.cat_core.specs.declared.tickets.OpenDraft.{OpenDraft}
 use Rattle.cat_core.specs.declared.tickets.OpenSweep.{OpenSweep}
+use Rattle.cat_core.specs.declared.tickets.Start.{Start}
 use Rattle.cat_core.specs.declared.tickets.Ticket.{Ticket}
 use Rattle.cat_core.specs.Drafts.{IsRefused, Refers, Refuses}
 use Rattle.cat_core.specs.Kept.{IsTold}
 use Rattle.cat_core.specs.Made.{fallen_by, told_at}
-use Rattle.cat_core.specs.Stored.{IsUp, MayBeDown, Stored, failed, held_mark, held_open}
+use Rattle.cat_core.specs.RecordLaws.{stands_now}
+use Rattle.cat_core.specs.Records.{IsInFlight, StandFlown, StandThrough}
+use Rattle.cat_core.specs.Stored.{IsUp, MayBeDown, Stored, failed, held_mark, held_open, log_of, opened_held}
+use Rattle.cat_core.proofs.BaseCounts.{bases_fell, bases_grew, bases_stayed}
 use Rattle.cat_core.proofs.InStep.{LogsRight}
 use Rattle.cat_core.proofs.Keeping.{keeps_told, leaves_made}
+use Rattle.cat_core.proofs.Records.{stands_flown}
 use Rattle.cat_core.proofs.Sound.{Brings, IsCallIn}
 
 -- ---- refusals
@@ -52,6 +59,7 @@ refuses called caller s r s' left_open NoRoute other is = is
 refuses called caller s r s' left_open (WrongMethod x) other is = is
 refuses called caller s r s' left_open TooLarge other is = is
 refuses called caller s r s' left_open Encoding other is = is
+refuses called caller s r s' left_open OldFormat other is = is
 
 -- ---- what is in flight
 
@@ -109,44 +117,65 @@ counted_at began now None flight counted x is = absurd (up_of x is)
 counted_at began now (Some f) None counted x is = absurd (up_of x is)
 counted_at began now (Some f) (Some payload) counted x is = let same : f.count ≡ x.count = cc in subst (λ (n : ℕ). Rose began n × (n ≤ now)) same counted
 
+-- what is in flight is the last of payloads that stand for the log, or for it and one entry more
+flown_told : (o : Opened) (log : List LogEntry) (told : Option (List (List ℕ))) (p : List ℕ) → IsInFlight o log p → IfSome told (StandThrough o log) → IfSome told (λ ps. StandFlown o log p (ps ++ p ∷ []))
+flown_told o log None p flies stand = tt
+flown_told o log (Some ps) p flies stand = stands_flown o log ps p (stands_now o log ps stand) flies
+
+flown_at : (o : Opened) (log : List LogEntry) (told : Option (List (List ℕ))) (fallen : Option Fallen) (flight : Option (List ℕ)) → IfSome fallen (λ f. IfSome flight (IsInFlight o log)) → IfSome told (StandThrough o log) → (x : FailedAppend) → failed fallen flight ≡ Some x
+    → IfSome told (λ ps. StandFlown o log x.payload (ps ++ x.payload ∷ []))
+flown_at o log told None flight flies stand x is = absurd (up_of x is)
+flown_at o log told (Some f) None flies stand x is = absurd (up_of x is)
+flown_at o log told (Some f) (Some p) flies stand x is = let same : p ≡ x.payload = cc in subst (λ (q : List ℕ). IfSome told (λ ps. StandFlown o log q (ps ++ q ∷ []))) same (flown_told o log told p flies stand)
+
+pub flown_seen : {K : Type 0} (told : K → Option (List (List ℕ))) (in_flight : K → Option (List ℕ)) (fallen : Option Fallen) (s v : Stored K) → s ≡ v → s.mark.fault ≡ failed fallen (in_flight s.keeper) → IfSome fallen (λ f. IfSome (in_flight s.keeper) (IsInFlight s.opened (log_of s)))
+    → IfSome (told s.keeper) (StandThrough s.opened (log_of s)) → (x : FailedAppend) → v.mark.fault ≡ Some x → IfSome (told v.keeper) (λ ps. StandFlown v.opened (log_of v) x.payload (ps ++ x.payload ∷ []))
+flown_seen {K} told in_flight fallen s v same fault flies stand x is =
+    subst (λ (z : Stored K). IfSome (told z.keeper) (λ ps. StandFlown z.opened (log_of z) x.payload (ps ++ x.payload ∷ []))) same
+    (flown_at s.opened (log_of s) (told s.keeper) fallen (in_flight s.keeper) flies stand x (sym fault ∙ ap (λ (z : Stored K). z.mark.fault) same ∙ is))
+
 -- ---- calls
 
 module _ {K : Type 0} (members : Ghosts K)
     (safe : (k : K) (ps : List (List ℕ)) (c : Option (List (List ℕ))) → members.down k ≡ None → members.told k ≡ Some ps → members.may_leave k c → c ≡ Some ps)
     (only_now : (k : K) (c : Option (List (List ℕ))) → members.left_since k (members.moment k) c → members.may_leave k c) where
   -- a store as it is held
-  abbrev pub stored_at : Book → K → Option Fallen → ℕ → Option Ticket → Option Ticket → List OpenDraft → Option OpenSweep → Option ClosedSweep → ℕ → Stored K
-  stored_at book keeper fallen drafter dropped expired held sweep closed began = record { book = book; keeper = keeper; mark = held_mark book.draft drafter dropped expired sweep closed (failed fallen (members.in_flight keeper)); left_open = held_open held sweep; began = began }
+  abbrev pub stored_at : Book → K → Option Fallen → ℕ → Option Ticket → Option Ticket → List OpenDraft → Option OpenSweep → Option ClosedSweep → Opened → Stored K
+  stored_at book keeper fallen drafter dropped expired held sweep closed o = record { book = book; keeper = keeper; mark = held_mark book.draft drafter dropped expired sweep closed (failed fallen (members.in_flight keeper)) (members.form keeper) (members.start keeper) (bases_in (members.told keeper)); left_open = held_open held sweep; opened = o }
 
-  module _ (caller : ℕ) (before after : Book) (old new : K) (drafter : ℕ) (dropped expired : Option Ticket) (held : List OpenDraft) (sweep : Option OpenSweep) (closed : Option ClosedSweep) (began : ℕ) (call : Book → Called) (right : LogsRight (call before)) (number : ℕ) (is : IsCallIn caller number before (call before)) where
+  module _ (caller : ℕ) (before after : Book) (old new : K) (drafter : ℕ) (dropped expired : Option Ticket) (held : List OpenDraft) (sweep : Option OpenSweep) (closed : Option ClosedSweep) (start : Start) (call : Book → Called) (right : LogsRight (call before)) (number : ℕ) (is : IsCallIn caller number before (call before)) where
     abbrev called : Called
     called = call before
 
     abbrev s : Stored K
-    s = stored_at before old None drafter dropped expired held sweep closed began
+    s = stored_at before old None drafter dropped expired held sweep closed (opened_held before.base start)
 
     abbrev left : Option Fallen → Stored K
-    left fallen = stored_at after new fallen drafter dropped expired held sweep closed began
+    left fallen = stored_at after new fallen drafter dropped expired held sweep closed (opened_held after.base start)
+
+    -- the journal's format and bases are as they were
+    abbrev SameBase : Type 0
+    SameBase = (members.form new ≡ members.form old) × (members.start new ≡ members.start old) × (bases_in (members.told new) ≡ bases_in (members.told old))
 
     -- the book is as it was
-    stays_as : after ≡ before → left None ≡ record s { keeper = new; left_open = s.left_open }
-    stays_as same = λ i. stored_at (same i) new None drafter dropped expired held sweep closed began
+    stays_as : SameBase → after ≡ before → left None ≡ record s { keeper = new; left_open = s.left_open }
+    stays_as is_same same = λ i. record { book = same i; keeper = new; mark = held_mark (same i).draft drafter dropped expired sweep closed None (is_same.0 i) (is_same.1 i) (is_same.2 i); left_open = held_open held sweep; opened = opened_held (same i).base start }
 
-    goes_as : after ≡ after_call before called → left None ≡ record s { book = after_call before called; keeper = new; left_open = s.left_open }
-    goes_as same =
+    goes_as : SameBase → after ≡ after_call before called → left None ≡ record s { book = after_call before called; keeper = new; left_open = s.left_open }
+    goes_as is_same same =
         let n : after.draft ≡ before.draft = ap (λ (b : Book). b.draft) same ∙ is.draft in
-        λ i. record { book = same i; keeper = new; mark = held_mark (n i) drafter dropped expired sweep closed None; left_open = held_open held sweep; began = began }
+        λ i. record { book = same i; keeper = new; mark = held_mark (n i) drafter dropped expired sweep closed None (is_same.0 i) (is_same.1 i) (is_same.2 i); left_open = held_open held sweep; opened = opened_held (same i).base start }
 
     as_before : after.state ≡ before.state → after.log ≡ before.log → after.base ≡ before.base → after.draft ≡ before.draft → after ≡ before
     as_before state log base draft = λ i. record { state = state i; draft = draft i; log = log i; base = base i }
 
-    falls_as : (payload : List ℕ) → members.in_flight new ≡ Some payload → after ≡ before
+    falls_as : SameBase → (payload : List ℕ) → members.in_flight new ≡ Some payload → after ≡ before
         → left (Some (record { caller = caller; count = members.faults new })) ≡ record s { keeper = new; mark = record (s.mark) { fault = Some (record { caller = caller; count = members.faults new; payload = payload }) }; left_open = s.left_open }
-    falls_as payload flies same = λ i. record { book = same i; keeper = new; mark = held_mark (same i).draft drafter dropped expired sweep closed (failed (Some (record { caller = caller; count = members.faults new })) (flies i)); left_open = held_open held sweep; began = began }
+    falls_as is_same payload flies same = λ i. record { book = same i; keeper = new; mark = held_mark (same i).draft drafter dropped expired sweep closed (failed (Some (record { caller = caller; count = members.faults new })) (flies i)) (is_same.0 i) (is_same.1 i) (is_same.2 i); left_open = held_open held sweep; opened = opened_held (same i).base start }
 
     refers_as : (made : Result Told Unmade) → Runs called before after made → Keeps members old new called.logged made
         → Refers called caller s (left (fallen_by caller (members.faults new) None made)) (told_at before.state.place made)
-    refers_as (Ok told_is) runs keeps = record { up = refl; said = runs.said; after = goes_as runs.book }
+    refers_as (Ok told_is) runs keeps = record { up = refl; said = runs.said; after = goes_as (keeps.format, keeps.first, bases_grew members old new called.logged keeps) runs.book }
     refers_as (Err NotKept) runs keeps = record {
       up = refl;
       place = refl;
@@ -155,24 +184,24 @@ module _ {K : Type 0} (members : Ghosts K)
       fault = record { caller = caller; count = members.faults new; payload = spelling keeps.entry };
       caller_is = refl;
       payload = refl;
-      after = falls_as (spelling keeps.entry) keeps.flies (as_before runs.state runs.log runs.base (runs.draft ∙ is.draft));
+      after = falls_as (keeps.format, keeps.first, bases_fell members old new called.logged keeps) (spelling keeps.entry) keeps.flies (as_before runs.state runs.log runs.base (runs.draft ∙ is.draft));
     }
     refers_as (Err (Failed failures.NoMemory)) runs keeps =
         let low : before.draft ≤ after.draft = runs.kept in
         let high : after.draft ≤ before.draft = subst (λ (n : ℕ). after.draft ≤ n) is.draft runs.taken in
         let n : after.draft ≡ before.draft = omega arith in
-        (refl, stays_as (as_before runs.state runs.log runs.base n))
+        (refl, stays_as (keeps.format, keeps.first, bases_stayed members old new keeps) (as_before runs.state runs.log runs.base n))
     refers_as (Err (Failed (failures.Refused why))) runs keeps =
         let none : called.logged ≡ [] = right.none _ runs.1.said in
         let state : after.state ≡ before.state = ap (λ (b : Book). b.state) runs.1.book ∙ subst (λ (l : List LogEntry). Brings caller number before l called.state) none is.brings in
         let log : after.log ≡ before.log = ap (λ (b : Book). b.log) runs.1.book ∙ ap (λ (l : List LogEntry). l ++ before.log) none in
         let base : after.base ≡ before.base = ap (λ (b : Book). b.base) runs.1.book in
         let draft : after.draft ≡ before.draft = ap (λ (b : Book). b.draft) runs.1.book ∙ is.draft in
-        refuses called caller s _ (left None) s.left_open why runs.0 (record { up = refl; said = runs.1.said; none = none; after = stays_as (as_before state log base draft) })
+        refuses called caller s _ (left None) s.left_open why runs.0 (record { up = refl; said = runs.1.said; none = none; after = stays_as (keeps.format, keeps.first, bases_stayed members old new keeps) (as_before state log base draft) })
 
     -- all that is told
     pub all_told : (fallen after_fallen : Option Fallen) (x y : Stored K) (place : ℕ) (made : Result Told Unmade) (result : Result Told Refused) → fallen ≡ None → after_fallen ≡ fallen_by caller (members.faults new) fallen made
-        → stored_at before old fallen drafter dropped expired held sweep closed began ≡ x → left after_fallen ≡ y → place ≡ before.state.place → result ≡ told_at place made → members.down old ≡ None
+        → stored_at before old fallen drafter dropped expired held sweep closed (opened_held before.base start) ≡ x → left after_fallen ≡ y → place ≡ before.state.place → result ≡ told_at place made → members.down old ≡ None
         → Runs called before after made → Keeps members old new called.logged made
         → IsTold members caller x y (call x.book) result
     all_told fallen after_fallen x y place made result none fell x_is y_is place_is result_is up runs keeps =
@@ -184,7 +213,7 @@ module _ {K : Type 0} (members : Ghosts K)
         } in
         let answer : told_at before.state.place made ≡ result = ap (λ (p : ℕ). told_at p made) (sym place_is) ∙ sym result_is in
         let last : ended ≡ y = ap left (sym (fell ∙ ap (λ (f : Option Fallen). fallen_by caller (members.faults new) f made) none)) ∙ y_is in
-        let first : s ≡ x = ap (λ (f : Option Fallen). stored_at before old f drafter dropped expired held sweep closed began) (sym none) ∙ x_is in
+        let first : s ≡ x = ap (λ (f : Option Fallen). stored_at before old f drafter dropped expired held sweep closed (opened_held before.base start)) (sym none) ∙ x_is in
         subst (λ (z : Stored K). IsTold members caller z y (call z.book) result) first
         (subst (λ (z : Stored K). IsTold members caller s z (call before) result) last
         (subst (λ (r : Result Told Refused). IsTold members caller s ended (call before) r) answer whole))

@@ -3,7 +3,7 @@ use Rattle.std.proofs.Common.{◌≡◌, Some, Result, Err, refl, subst, ap}
 use Rattle.sha2.specs.Sha256.{sha256}
 use Rattle.cat_model.specs.declared.ask.Ask.{Ask}
 use Rattle.cat_model.specs.declared.refusal.Refusal.{Refusal}
-use Rattle.cat_model.specs.declared.refusal.Refusal.TheVariants.{BadRequest, RefNotFound, RefExists, ContentNotFound, Conflicts, Expired, RetriesSpent, SweepOpen, Limit, Collision, Fault, Down, NoMemory, NoRoute, WrongMethod, TooLarge, Encoding}
+use Rattle.cat_model.specs.declared.refusal.Refusal.TheVariants.{BadRequest, RefNotFound, RefExists, ContentNotFound, Conflicts, Expired, RetriesSpent, SweepOpen, Limit, Collision, Fault, Down, NoMemory, NoRoute, WrongMethod, TooLarge, Encoding, OldFormat}
 use Rattle.cat_model.specs.declared.refusal.Refused.{Refused}
 use Rattle.cat_model.specs.Answer.{answer}
 use Rattle.cat_model.specs.Book.{Book, Reads, ReadRefuses}
@@ -33,6 +33,7 @@ read_by book ask NoRoute refused p e = e
 read_by book ask (WrongMethod x) refused p e = e
 read_by book ask TooLarge refused p e = e
 read_by book ask Encoding refused p e = e
+read_by book ask OldFormat refused p e = e
 
 -- a refusal that the definition gives is told at the book's place
 pub reads_refused : (book : Book) (ask : Ask) (why : Refusal) → answer sha256 book.state ask ≡ Err why → ReadRefuses sha256 book ask why (record { place = Some book.state.place; why = why })

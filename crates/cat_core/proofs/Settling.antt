@@ -8,7 +8,7 @@ use Rattle.cat_model.specs.declared.command.Command.{Command}
 use Rattle.cat_model.specs.declared.log_entry.LogEntry.{LogEntry}
 use Rattle.cat_model.specs.declared.reference.Reference.{Reference}
 use Rattle.cat_model.specs.declared.refusal.Refusal.{Refusal}
-use Rattle.cat_model.specs.declared.refusal.Refusal.TheVariants.{BadRequest, RefNotFound, RefExists, ContentNotFound, Conflicts, Expired, RetriesSpent, SweepOpen, Limit, Collision, Fault, Down, NoMemory, NoRoute, WrongMethod, TooLarge, Encoding}
+use Rattle.cat_model.specs.declared.refusal.Refusal.TheVariants.{BadRequest, RefNotFound, RefExists, ContentNotFound, Conflicts, Expired, RetriesSpent, SweepOpen, Limit, Collision, Fault, Down, NoMemory, NoRoute, WrongMethod, TooLarge, Encoding, OldFormat}
 use Rattle.cat_model.specs.declared.refusal.Refused.{Refused}
 use Rattle.cat_model.specs.declared.reply.Told.{Told}
 use Rattle.cat_model.specs.Book.{attempt_on}
@@ -62,6 +62,7 @@ not_opened {K} s c place r failure opens up at is fails =
     by_why (WrongMethod x) other e = (up, refl, e)
     by_why TooLarge other e = (up, refl, e)
     by_why Encoding other e = (up, refl, e)
+    by_why OldFormat other e = (up, refl, e)
 
     by : (failure : Failure) → Fails failure (may_open s.book c) → NotOpened s c (refused_at s.book.state.place failure) (refused_at s.book.state.place failure).why
     by failures.NoMemory fails = refl
@@ -104,6 +105,7 @@ refused_on s called caller r s' left_open NoRoute is = record { up = is.up; said
 refused_on s called caller r s' left_open (WrongMethod x) is = record { up = is.up; said = is.said; none = is.none; after = is.after }
 refused_on s called caller r s' left_open TooLarge is = record { up = is.up; said = is.said; none = is.none; after = is.after }
 refused_on s called caller r s' left_open Encoding is = record { up = is.up; said = is.said; none = is.none; after = is.after }
+refused_on s called caller r s' left_open OldFormat is = record { up = is.up; said = is.said; none = is.none; after = is.after }
 
 -- ---- refusals of drafts that are settled
 
@@ -126,6 +128,7 @@ gone_is NoRoute e = absurd cc
 gone_is (WrongMethod x) e = absurd cc
 gone_is TooLarge e = absurd cc
 gone_is Encoding e = absurd cc
+gone_is OldFormat e = absurd cc
 
 -- another cause
 refuses_draft : {K : Type 0} (called : Called) (s : Stored K) (d : Draft) (r : Refused) (why : Refusal) (s' : Stored K) → is_expired why ≡ false → Refuses called d.caller s r why s' (closed s d) → RefusesDraft called s d r why s'
@@ -146,6 +149,7 @@ refuses_draft called s d r NoRoute s' there is = is
 refuses_draft called s d r (WrongMethod x) s' there is = is
 refuses_draft called s d r TooLarge s' there is = is
 refuses_draft called s d r Encoding s' there is = is
+refuses_draft called s d r OldFormat s' there is = is
 
 -- one or the other
 pub draft_refused : {K : Type 0} (called : Called) (s : Stored K) (d : Draft) (r : Refused) (why : Refusal) (s' : Stored K) → RefusesDraft called s d r why s' → Expires called s d r s' ⊎ Refuses called d.caller s r why s' (closed s d)
@@ -166,6 +170,7 @@ draft_refused called s d r NoRoute s' is = inr is
 draft_refused called s d r (WrongMethod x) s' is = inr is
 draft_refused called s d r TooLarge s' is = inr is
 draft_refused called s d r Encoding s' is = inr is
+draft_refused called s d r OldFormat s' is = inr is
 
 -- ---- settling
 

@@ -45,7 +45,7 @@ last_shut m o names is =
 
 later_shut : (m : Mark) (o : OpenSweep) (names : ℕ) → IsMarked m (Some o) → Later o.opening.caller m (record m { sweep = None; closed = Some (record { opening = o.opening; names = names }) })
 later_shut m o names is = record {
-  grows = record { fault = λ x e. e; draft = le_refl m.draft; drafter = λ _. refl; sweep = last_shut m o names is };
+  grows = record { fault = λ x e. e; draft = le_refl m.draft; drafter = λ _. refl; sweep = last_shut m o names is; format = refl };
   new_fault = λ x e. inl e;
   new_draft = inl refl;
   new_closed = λ x e. inr (let it : record { opening = o.opening; names = names } ≡ x = cc in sym (ap (λ (z : ClosedSweep). z.opening.caller) it));
@@ -81,7 +81,7 @@ last_begun m o none =
 
 later_begun : (caller : ℕ) (m : Mark) (o : Opening) → m.sweep ≡ None → Later caller m (record m { sweep = Some o })
 later_begun caller m o none = record {
-  grows = record { fault = λ x e. e; draft = le_refl m.draft; drafter = λ _. refl; sweep = last_begun m o none };
+  grows = record { fault = λ x e. e; draft = le_refl m.draft; drafter = λ _. refl; sweep = last_begun m o none; format = refl };
   new_fault = λ x e. inl e;
   new_draft = inl refl;
   new_closed = λ x e. inl e;
@@ -119,7 +119,7 @@ swept_by : {K : Type 0} (s s' : Stored K) (held : Option OpenSweep) (o : OpenSwe
 swept_by {K} s s' None o moment result is sweeps = absurd sweeps
 swept_by {K} s s' (Some p) o moment result is sweeps = subst (λ (q : OpenSweep). Refers (called_sweep s q moment) q.opening.caller (shut s q) s' result) (some_same p o is) sweeps
 
-pub acts_swept : {K : Type 0} (s s' : Stored K) (sweep : Sweep) (moment : ℕ) (result : Result Told Refused) → IsSweeping s sweep → Sweeps s s.left_open.sweep moment result s' → IsMarked s.mark s.left_open.sweep → MayBeClosed s.book s.left_open.sweep → IsSound s.book s.began s.left_open.drafts
+pub acts_swept : {K : Type 0} (s s' : Stored K) (sweep : Sweep) (moment : ℕ) (result : Result Told Refused) → IsSweeping s sweep → Sweeps s s.left_open.sweep moment result s' → IsMarked s.mark s.left_open.sweep → MayBeClosed s.book s.left_open.sweep → IsSound s.opened s.book s.left_open.drafts
     → Acts IsLegalFrom sweep.ticket.caller (snap s) (snap s')
 acts_swept {K} s s' sweep moment result is sweeps marked may sound =
     let o = is.0 in
@@ -128,4 +128,4 @@ acts_swept {K} s s' sweep moment result is sweeps marked may sound =
     subst (λ (n : ℕ). Acts IsLegalFrom n (snap s) (snap s')) own
     (acts_on IsLegalFrom o.opening.caller (snap s) (snap (shut s o)) (snap s') (acts_shut s o is.1 marked sound.legal)
     (acts_referred (shut s o) (called_sweep s o moment) o.opening.caller s' result
-    (sweep_brings o.opening.caller moment s.book (collections.sweep_of o.opening.place o.policy o.names) closes.0) sound (none_of_none s.book.draft s.book.log s.left_open.drafts sound.waiting) (swept_by s s' s.left_open.sweep o moment result is.1 sweeps)))
+    (sweep_brings o.opening.caller moment s.book (collections.sweep_of o.opening.place o.policy o.names) closes.0) sound (none_of_none s.opened.draft s.book.draft s.book.log s.left_open.drafts sound.waiting) (swept_by s s' s.left_open.sweep o moment result is.1 sweeps)))

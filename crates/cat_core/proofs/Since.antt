@@ -21,7 +21,7 @@ use Rattle.cat_model.specs.Base.{is_among}
 use Rattle.cat_model.specs.Book.{Book}
 use Rattle.cat_model.specs.Calls.{Called, attempt, entry_made, stepped}
 use Rattle.cat_model.specs.Chain.{Commits}
-use Rattle.cat_model.specs.Cutoffs.{cutoff_for, live, live_from}
+use Rattle.cat_model.specs.Cutoffs.{cutoff_for, live_from}
 use Rattle.cat_model.specs.Later.{Adds, IsLater}
 use Rattle.cat_model.specs.Past.{course, past_of}
 use Rattle.cat_model.specs.Refusing.{Outcome, Tested}

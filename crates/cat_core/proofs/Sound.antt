@@ -6,23 +6,22 @@ use Rattle.std.proofs.Math.Nat.{le-max_left, le-max_right, max-zero}
 use Rattle.cat_codes.specs.ListLaws.{and_true}
 use Rattle.sha2.specs.Sha256.{sha256}
 use Rattle.cat_checks.specs.AcceptedLaws.{accepted_is_legal, swept_is_legal}
-use Rattle.cat_checks.specs.Histories.{AreLegal, IsLegalFrom, begun, book_after, book_at}
-use Rattle.cat_checks.specs.HistoryLaws.{AreAtMost, all_above, at_most_more, base_stays, book_more, books_uphold, first_upholds, legal_more, limits_stay, log_is}
-use Rattle.cat_checks.specs.Legal.{IsLegal, draft_after, draft_is_new, has_its_draft, is_just, is_legal, may_be_done, may_be_swept, opens_one, replayed_action, replayed_by, replayed_call, turn_of}
+use Rattle.cat_checks.specs.Histories.{IsLegalFrom, begun, book_after, book_at}
+use Rattle.cat_checks.specs.HistoryLaws.{AreAtMost, at_most_more, base_stays, book_more, books_uphold, goes_legal, limits_stay, log_is}
+use Rattle.cat_checks.specs.Legal.{IsLegal, draft_after, draft_is_new, draft_may_come, has_its_draft, is_just, is_legal, may_be_done, may_be_swept, opens_one, replayed_action, replayed_by, replayed_call, turn_of}
 use Rattle.cat_checks.specs.Upheld.{Upholds}
 use Rattle.cat_model.specs.declared.command.Command.{Command}
-use Rattle.cat_model.specs.declared.limits.Limits.{Limits}
 use Rattle.cat_model.specs.declared.log_entry.Action.{Action}
 use Rattle.cat_model.specs.declared.log_entry.Action.TheVariants as actions
 use Rattle.cat_model.specs.declared.log_entry.LogEntry.{LogEntry}
 use Rattle.cat_model.specs.declared.reply.Reply.{Reply}
 use Rattle.cat_model.specs.declared.sweep.Sweep.{Sweep}
-use Rattle.cat_model.specs.Book.{Book, after_call, attempt_on, call_on, first_book}
+use Rattle.cat_model.specs.Book.{Book, after_call, attempt_on, call_on}
 use Rattle.cat_model.specs.Calls.{Called, attempt, entry_made, in_draft, stepped, tried, unchanged_by}
 use Rattle.cat_model.specs.Drafts.{OpenDraft}
 use Rattle.cat_model.specs.Past.{course, past_of}
 use Rattle.cat_model.specs.Refusing.{Outcome, Tested}
-use Rattle.cat_model.specs.State.{State, first_state}
+use Rattle.cat_model.specs.State.{State}
 use Rattle.cat_model.specs.Step.{Turn, opening, opens_draft, step}
 use Rattle.cat_model.specs.Sweeps.{step_sweep, sweep_call, sweep_entry, swept_by}
 use Rattle.cat_model.specs.Turns.{Opened}
@@ -83,42 +82,36 @@ legal_alike x y e state log base =
 
 -- ---- one entry more
 
-abbrev start : Limits → ℕ → Opened
-start limits faults = record { state = first_state sha256 limits; draft = 0; faults = faults }
-
--- a book that its log leads to from the empty catalogue
-abbrev pub IsLed : Limits → ℕ → Book → Type 0
-IsLed limits faults book = IsLegalFrom (start limits faults) (reverse book.log) × ((book_at (start limits faults) (reverse book.log)).state ≡ book.state) × (book.base ≡ first_state sha256 limits)
+-- a book that its log leads to from where it starts
+abbrev pub IsLed : Opened → Book → Type 0
+IsLed o book = IsLegalFrom o (reverse book.log) × ((book_at o (reverse book.log)).state ≡ book.state) × (book.base ≡ o.state)
 
 turned_log : (e : LogEntry) (log : List LogEntry) → reverse (e ∷ log) ≡ reverse log ++ e ∷ []
 turned_log e log = reverse-append (e ∷ []) log
 
 -- the log of the book that it leads to
-own_log : (limits : Limits) (faults : ℕ) (log : List LogEntry) → (book_at (start limits faults) (reverse log)).log ≡ log
-own_log limits faults log = log_is sha256 (begun (start limits faults)) (reverse log) ∙ append-nil _ ∙ reverse-reverse log
+own_log : (o : Opened) (log : List LogEntry) → (book_at o (reverse log)).log ≡ log
+own_log o log = log_is sha256 (begun o) (reverse log) ∙ append-nil _ ∙ reverse-reverse log
 
-pub led_on : (limits : Limits) (faults : ℕ) (book : Book) (e : LogEntry) (after : State) (draft : ℕ) → IsLed limits faults book → IsLegal sha256 book e → (replayed_call sha256 book e).state ≡ after
-    → IsLed limits faults (record book { state = after; draft = draft; log = e ∷ book.log })
-led_on limits faults book e after draft led legal leads =
-    let from = begun (start limits faults) in
-    let at : Book = book_at (start limits faults) (reverse book.log) in
-    let same : SameLegal at book e = legal_alike at book e led.1 (own_log limits faults book.log) (base_stays sha256 from (reverse book.log) ∙ sym led.2) in
+pub led_on : (o : Opened) (book : Book) (e : LogEntry) (after : State) (draft : ℕ) → IsLed o book → IsLegal sha256 book e → (replayed_call sha256 book e).state ≡ after → draft_may_come o e.draft ≡ true
+    → IsLed o (record book { state = after; draft = draft; log = e ∷ book.log })
+led_on o book e after draft led legal leads comes =
+    let at : Book = book_at o (reverse book.log) in
+    let same : SameLegal at book e = legal_alike at book e led.1 (own_log o book.log) (base_stays sha256 (begun o) (reverse book.log) ∙ sym led.2) in
     let there : IsLegal sha256 at e = record { legal = same.0 ∙ legal.legal; logged = same.1.0 ∙ legal.logged } in
-    let each : AreLegal sha256 from (reverse book.log ++ e ∷ []) = legal_more sha256 from (reverse book.log) (e ∷ []) led.0.legal (there, tt) in
-    let all : IsLegalFrom (start limits faults) (reverse book.log ++ e ∷ []) = record { legal = each; above = all_above (reverse book.log ++ e ∷ []) } in
-    let state : (book_after sha256 from (reverse book.log ++ e ∷ [])).state ≡ after = ap (λ (b : Book). b.state) (book_more sha256 from (reverse book.log) (e ∷ [])) ∙ same.1.1 ∙ leads in
-    let both = subst (λ (l : List LogEntry). IsLegalFrom (start limits faults) l × ((book_after sha256 from l).state ≡ after)) (sym (turned_log e book.log)) (all, state) in
+    let all : IsLegalFrom o (reverse book.log ++ e ∷ []) = goes_legal o (reverse book.log) (e ∷ []) led.0 (there, tt) (comes, tt) in
+    let state : (book_after sha256 (begun o) (reverse book.log ++ e ∷ [])).state ≡ after = ap (λ (b : Book). b.state) (book_more sha256 (begun o) (reverse book.log) (e ∷ [])) ∙ same.1.1 ∙ leads in
+    let both = subst (λ (l : List LogEntry). IsLegalFrom o l × ((book_after sha256 (begun o) l).state ≡ after)) (sym (turned_log e book.log)) (all, state) in
     (both.0, both.1, led.2)
 
 limits_same : (book : Book) (e : LogEntry) (after : State) → (replayed_call sha256 book e).state ≡ after → after.limits ≡ book.state.limits
 limits_same book e after leads = sym (ap (λ (s : State). s.limits) leads) ∙ limits_stay sha256 book (e ∷ [])
 
-pub sound_on : (book : Book) (faults : ℕ) (left_open ds : List OpenDraft) (e : LogEntry) (after : State) → IsSound book faults left_open → IsLegal sha256 book e → (replayed_call sha256 book e).state ≡ after → e.draft ≤ book.draft → AreWaiting book.draft book.log ds → IsNumberOfNone e.draft ds
-    → IsSound (record book { state = after; log = e ∷ book.log }) faults ds
-sound_on book faults left_open ds e after sound legal leads low waiting none =
-    let led : IsLed after.limits faults (record book { state = after; log = e ∷ book.log }) =
-    subst (λ (l : Limits). IsLed l faults (record book { state = after; log = e ∷ book.log })) (sym (limits_same book e after leads)) (led_on book.state.limits faults book e after book.draft (sound.legal, sound.led, sound.base) legal leads) in
-    record { base = led.2; legal = led.0; led = led.1; taken = (low, sound.taken); waiting = waiting_on book.draft book.log e ds none waiting }
+pub sound_on : (o : Opened) (book : Book) (left_open ds : List OpenDraft) (e : LogEntry) (after : State) → IsSound o book left_open → IsLegal sha256 book e → (replayed_call sha256 book e).state ≡ after → draft_may_come o e.draft ≡ true → e.draft ≤ book.draft
+    → AreWaiting o.draft book.draft book.log ds → IsNumberOfNone e.draft ds → IsSound o (record book { state = after; log = e ∷ book.log }) ds
+sound_on o book left_open ds e after sound legal leads comes low waiting none =
+    let led : IsLed o (record book { state = after; log = e ∷ book.log }) = led_on o book e after book.draft (sound.legal, sound.led, sound.base) legal leads comes in
+    record { base = led.2; starts = sound.starts; legal = led.0; led = led.1; above = sound.above; taken = (low, sound.taken); waiting = waiting_on o.draft book.draft book.log e ds none waiting }
 
 -- ---- what a call brings
 
@@ -207,21 +200,21 @@ module _ (caller moment : ℕ) (book : Book) (command : Command) (made : is_well
 -- ---- the book after it
 
 -- other drafts are open
-pub sound_with : (book : Book) (faults : ℕ) (left_open ds : List OpenDraft) → IsSound book faults left_open → AreWaiting book.draft book.log ds → IsSound book faults ds
-sound_with book faults left_open ds sound waiting = record { base = sound.base; legal = sound.legal; led = sound.led; taken = sound.taken; waiting = waiting }
+pub sound_with : (o : Opened) (book : Book) (left_open ds : List OpenDraft) → IsSound o book left_open → AreWaiting o.draft book.draft book.log ds → IsSound o book ds
+sound_with o book left_open ds sound waiting = record { base = sound.base; starts = sound.starts; legal = sound.legal; led = sound.led; above = sound.above; taken = sound.taken; waiting = waiting }
 
-module _ (caller number : ℕ) (book : Book) (faults : ℕ) (left_open ds : List OpenDraft) (sound : IsSound book faults left_open) (below : number ≤ book.draft) (waiting : AreWaiting book.draft book.log ds) (none : IsNumberOfNone number ds) where
-  sound_by : (logged : List LogEntry) (after : State) (draft : ℕ) → draft ≡ book.draft → Brings caller number book logged after → IsSound (record book { state = after; draft = draft; log = logged ++ book.log }) faults ds
+module _ (caller number : ℕ) (o : Opened) (book : Book) (left_open ds : List OpenDraft) (sound : IsSound o book left_open) (comes : draft_may_come o number ≡ true) (below : number ≤ book.draft) (waiting : AreWaiting o.draft book.draft book.log ds) (none : IsNumberOfNone number ds) where
+  sound_by : (logged : List LogEntry) (after : State) (draft : ℕ) → draft ≡ book.draft → Brings caller number book logged after → IsSound o (record book { state = after; draft = draft; log = logged ++ book.log }) ds
   sound_by [] after draft same brings =
-      subst (λ (s : State). IsSound (record book { state = s; draft = draft }) faults ds) (sym brings)
-      (subst (λ (n : ℕ). IsSound (record book { draft = n }) faults ds) (sym same) (sound_with book faults left_open ds sound waiting))
+      subst (λ (s : State). IsSound o (record book { state = s; draft = draft }) ds) (sym brings)
+      (subst (λ (n : ℕ). IsSound o (record book { draft = n }) ds) (sym same) (sound_with o book left_open ds sound waiting))
   sound_by (e ∷ []) after draft same brings =
       let n : e.draft ≡ number = brings.draft_is in
-      subst (λ (n : ℕ). IsSound (record book { state = after; draft = n; log = e ∷ book.log }) faults ds) (sym same)
-      (sound_on book faults left_open ds e after sound brings.legal brings.leads (subst (λ (n : ℕ). n ≤ book.draft) (sym n) below) waiting (subst (λ (n : ℕ). IsNumberOfNone n ds) (sym n) none))
+      subst (λ (n : ℕ). IsSound o (record book { state = after; draft = n; log = e ∷ book.log }) ds) (sym same)
+      (sound_on o book left_open ds e after sound brings.legal brings.leads (subst (λ (n : ℕ). draft_may_come o n ≡ true) (sym n) comes) (subst (λ (n : ℕ). n ≤ book.draft) (sym n) below) waiting (subst (λ (n : ℕ). IsNumberOfNone n ds) (sym n) none))
   sound_by (e ∷ f ∷ more) after draft same brings = absurd brings
 
-  pub sound_called : (called : Called) → IsCallIn caller number book called → IsSound (after_call book called) faults ds
+  pub sound_called : (called : Called) → IsCallIn caller number book called → IsSound o (after_call book called) ds
   sound_called called is = sound_by called.logged called.state called.draft is.draft is.brings
 
 limits_by : (caller number : ℕ) (book : Book) (logged : List LogEntry) (after : State) → Brings caller number book logged after → after.limits ≡ book.state.limits
@@ -234,30 +227,30 @@ limits_called caller number book called is = limits_by caller number book called
 
 -- ---- logs that are read
 
--- a book that was led to from the empty catalogue of these limits
-pub record IsReopened (limits : Limits) (faults : ℕ) (book : Book) : Type 0 where
-  pub led : IsLed limits faults book
-  pub limits_are : book.state.limits ≡ limits
+-- a book that was led to from where its log starts
+pub record IsReopened (o : Opened) (book : Book) : Type 0 where
+  pub starts : Upholds sha256 o.state
+  pub led : IsLed o book
+  pub above : o.draft ≤ book.draft
   pub taken : AreAtMost book.draft book.log
 
-pub reopened_first : (limits : Limits) (faults : ℕ) → IsReopened limits faults (first_book sha256 limits)
-reopened_first limits faults = record { led = (record { legal = tt; above = tt }, refl, refl); limits_are = refl; taken = tt }
+pub reopened_first : (o : Opened) → Upholds sha256 o.state → IsReopened o (begun o)
+reopened_first o starts = record { starts = starts; led = (record { legal = tt; drafts = tt }, refl, refl); above = le_refl o.draft; taken = tt }
 
-pub sound_reopened : (limits : Limits) (faults : ℕ) (book : Book) → IsReopened limits faults book → IsSound book faults []
-sound_reopened limits faults book is =
-    let led : IsLed book.state.limits faults book = subst (λ (l : Limits). IsLed l faults book) (sym is.limits_are) is.led in
-    record { base = led.2; legal = led.0; led = led.1; taken = is.taken; waiting = tt }
+pub sound_reopened : (o : Opened) (book : Book) → IsReopened o book → IsSound o book []
+sound_reopened o book is = record { base = is.led.2; starts = is.starts; legal = is.led.0; led = is.led.1; above = is.above; taken = is.taken; waiting = tt }
 
-module _ (limits : Limits) (faults number : ℕ) (book : Book) (is : IsReopened limits faults book) where
-  reopened_by : (logged : List LogEntry) (after : State) (draft : ℕ) → book.draft ≤ draft → (logged ≢ [] → number ≤ draft) → Brings 0 number book logged after → IsReopened limits faults (record book { state = after; draft = draft; log = logged ++ book.log })
+module _ (o : Opened) (number : ℕ) (book : Book) (is : IsReopened o book) (comes : draft_may_come o number ≡ true) where
+  reopened_by : (logged : List LogEntry) (after : State) (draft : ℕ) → book.draft ≤ draft → (logged ≢ [] → number ≤ draft) → Brings 0 number book logged after → IsReopened o (record book { state = after; draft = draft; log = logged ++ book.log })
   reopened_by [] after draft more low brings =
-      subst (λ (s : State). IsReopened limits faults (record book { state = s; draft = draft })) (sym brings)
-      record { led = is.led; limits_are = is.limits_are; taken = at_most_more book.draft draft book.log more is.taken }
+      subst (λ (s : State). IsReopened o (record book { state = s; draft = draft })) (sym brings)
+      record { starts = is.starts; led = is.led; above = omega (arith, is.above, more); taken = at_most_more book.draft draft book.log more is.taken }
   reopened_by (e ∷ []) after draft more low brings =
       let n : e.draft ≡ number = brings.draft_is in
       record {
-        led = led_on limits faults book e after draft is.led brings.legal brings.leads;
-        limits_are = limits_same book e after brings.leads ∙ is.limits_are;
+        starts = is.starts;
+        led = led_on o book e after draft is.led brings.legal brings.leads (subst (λ (n : ℕ). draft_may_come o n ≡ true) (sym n) comes);
+        above = omega (arith, is.above, more);
         taken = (subst (λ (n : ℕ). n ≤ draft) (sym n) (low (λ none. absurd cc)), at_most_more book.draft draft book.log more is.taken);
       }
   reopened_by (e ∷ f ∷ more_entries) after draft more low brings = absurd brings
@@ -309,14 +302,12 @@ module _ (book : Book) (e : LogEntry) (legal : is_legal sha256 book e ≡ true) 
   pub replays : Replays (replayed_call sha256 book e)
   replays = replays_by e.action refl
 
-pub reopened_on : (limits : Limits) (faults : ℕ) (book : Book) (e : LogEntry) → IsReopened limits faults book → is_legal sha256 book e ≡ true → IsReopened limits faults (after_call book (replayed_call sha256 book e))
-reopened_on limits faults book e is legal =
+pub reopened_on : (o : Opened) (book : Book) (e : LogEntry) → IsReopened o book → is_legal sha256 book e ≡ true → draft_may_come o e.draft ≡ true → IsReopened o (after_call book (replayed_call sha256 book e))
+reopened_on o book e is legal comes =
     let r = replays book e legal in
-    reopened_by limits faults e.draft book is (replayed_call sha256 book e).logged (replayed_call sha256 book e).state (replayed_call sha256 book e).draft r.1 r.2 r.0
+    reopened_by o e.draft book is comes (replayed_call sha256 book e).logged (replayed_call sha256 book e).state (replayed_call sha256 book e).draft r.1 r.2 r.0
 
 -- ---- what its state upholds
 
-pub state_upholds : (book : Book) (faults : ℕ) (left_open : List OpenDraft) → IsSound book faults left_open → Upholds sha256 book.state
-state_upholds book faults left_open sound =
-    subst (Upholds sha256) sound.led
-    (books_uphold sha256 (begun (record { state = first_state sha256 book.state.limits; draft = 0; faults = faults })) (reverse book.log) (first_upholds sha256 book.state.limits))
+pub state_upholds : (o : Opened) (book : Book) (left_open : List OpenDraft) → IsSound o book left_open → Upholds sha256 book.state
+state_upholds o book left_open sound = subst (Upholds sha256) sound.led (books_uphold sha256 (begun o) (reverse book.log) sound.starts)

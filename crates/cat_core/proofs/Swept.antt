@@ -1,6 +1,6 @@
 -- What a sweep of the log brings where it is executed again, and what each entry takes.
 use Rattle.std.proofs.Common.{◌≡◌, ℕ, ◌+◌, ◌≤◌, ◌<◌, max, List, [], ◌∷◌, ◌++◌, length, Option, None, Result, Ok, Err, IfOk, is_ok, is_some, IsTrue, Bool, true, false, not, ◌&&◌, ◌||◌, nat_eq, nat_le, nat_lt, if◌then◌else◌, refl, sym, ap, ◌∙◌, subst, arith}
-use Rattle.std.proofs.lemmas.Bool.{le-leb, leb-true, ltb-true}
+use Rattle.std.proofs.lemmas.Bool.{leb-true, ltb-true}
 use Rattle.std.proofs.lemmas.Bool.Decides.{nat_tests}
 use Rattle.std.proofs.lemmas.Map.Views.{exact_unsigned_eq}
 use Rattle.std.proofs.Math.Nat.{max-zero}
@@ -22,14 +22,15 @@ use Rattle.cat_model.specs.declared.refusal.Refusal.{Refusal}
 use Rattle.cat_model.specs.declared.refusal.Refusal.TheVariants.{Limit}
 use Rattle.cat_model.specs.declared.sweep.Sweep.{Sweep}
 use Rattle.cat_model.specs.Base.{is_among}
-use Rattle.cat_model.specs.Book.{Book, first_book}
+use Rattle.cat_model.specs.Book.{Book}
 use Rattle.cat_model.specs.Calls.{Called, attempt, stepped}
 use Rattle.cat_model.specs.Past.{past_of}
 use Rattle.cat_model.specs.Refusing.{◌>>=◌, Outcome, Tested, needs, needs_at_most}
-use Rattle.cat_model.specs.State.{State, first_state, reference_of}
+use Rattle.cat_model.specs.State.{State, reference_of}
 use Rattle.cat_model.specs.State as state
 use Rattle.cat_model.specs.Step.{Turn, opening, step}
 use Rattle.cat_model.specs.Sweeps.{kept_contents, needs_sweep_room, step_sweep, sweep_call, sweep_entry, swept, swept_by}
+use Rattle.cat_model.specs.Turns.{Opened}
 use Rattle.cat_names.specs.declared.hash.Hash.{Hash}
 use Rattle.cat_state.specs.Sweeping.{spares_at, sweeping}
 use Rattle.cat_tables.specs.References.{heads_pass, names_ascend}
@@ -118,21 +119,29 @@ none_swept book entry s is none = subst (λ (a : Action). (replayed_action sha25
 
 -- what a sweep keeps is what is marked
 pub marks_are : (book : Book) (numbers : List ℕ) (taken : List (Option Reference)) (s : Sweep) (marks : List Hash) → IsFollowed numbers taken book → AreLinked book.state.commits → IsTrue (heads_pass (is_known book.state.commits) book.state.references)
-    → s.opened ≤ book.state.place → ((hash : Hash) → is_marked marks hash ≡ is_among (rooted book.state taken s) hash) → (hash : Hash) → is_marked marks hash ≡ is_among (saved_on book s) hash
-marks_are book numbers taken s marks followed linked heads opened marked hash =
-    marked hash ∙ sym (saved_is book.state (past_of sha256 book) taken s hash linked heads followed.count opened followed.taken_are)
+    → book.base.place ≤ s.opened → s.opened ≤ book.state.place → ((hash : Hash) → is_marked marks hash ≡ is_among (rooted book.base.place book.state taken s) hash) → (hash : Hash) → is_marked marks hash ≡ is_among (saved_on book s) hash
+marks_are book numbers taken s marks followed linked heads since_base opened marked hash =
+    marked hash ∙ sym (saved_is book.base.place book.state (past_of sha256 book) taken s hash linked heads followed.count since_base opened followed.taken_are)
 
 pub removed_are : (book : Book) (s : Sweep) (marks hashes : List Hash) → ((hash : Hash) → is_marked marks hash ≡ is_among (saved_on book s) hash)
     → ((hash : Hash) → is_among hashes hash ≡ (is_some (value_of book.state.present hash) && not (is_marked marks hash))) → AreRemoved book s hashes
 removed_are book s marks hashes marked un hash = un hash ∙ ap (λ (b : Bool). is_some (value_of book.state.present hash) && not b) (marked hash)
 
 -- it was opened at a place of the log
-pub opened_before : (book : Book) (entry : LogEntry) (s : Sweep) → entry.action ≡ actions.Sweep s → may_follow book entry ≡ true → s.opened ≤ book.state.place
-opened_before book entry s is may =
-    let swept = subst (λ (a : Action). may_be_done sha256 book a ≡ true) is (follows_parts book entry may).0 in
+pub opened_before : (o : Opened) (book : Book) (entry : LogEntry) (s : Sweep) → entry.action ≡ actions.Sweep s → may_follow o book entry ≡ true → s.opened ≤ book.state.place
+opened_before o book entry s is may =
+    let swept = subst (λ (a : Action). may_be_done sha256 book a ≡ true) is (follows_parts o book entry may).0 in
     let three = (and_true _ (nat_le (length s.policy.cutoffs) most_patterns) swept).0 in
     let two = (and_true _ (list_all (state.is_known sha256 book.state) s.commits) three).0 in
     leb-true s.opened book.state.place (and_true (nat_le book.base.place s.opened) (nat_le s.opened book.state.place) two).1
+
+-- and not before the log began
+pub opened_since : (o : Opened) (book : Book) (entry : LogEntry) (s : Sweep) → entry.action ≡ actions.Sweep s → may_follow o book entry ≡ true → book.base.place ≤ s.opened
+opened_since o book entry s is may =
+    let swept = subst (λ (a : Action). may_be_done sha256 book a ≡ true) is (follows_parts o book entry may).0 in
+    let three = (and_true _ (nat_le (length s.policy.cutoffs) most_patterns) swept).0 in
+    let two = (and_true _ (list_all (state.is_known sha256 book.state) s.commits) three).0 in
+    leb-true book.base.place s.opened (and_true (nat_le book.base.place s.opened) (nat_le s.opened book.state.place) two).0
 
 -- ---- what entries take
 
@@ -230,25 +239,27 @@ place_below book entry hashes removes limits same few =
 
 -- ---- before the first entry
 
-pub followed_first : (limits : Limits) → IsFollowed [] [] (first_book sha256 limits)
+as_begun : (state : State) (draft : ℕ) (log : List LogEntry) (base : State) → log ≡ [] → base ≡ state → IsFollowed [] [] (record { state = state; draft = draft; log = log; base = base })
 unfolding past_of
-followed_first limits = record { drafts = λ d. refl; ends = refl; count = refl; taken_are = tt }
+as_begun state draft log base none here =
+    subst (λ (l : List LogEntry). IsFollowed [] [] (record { state = state; draft = draft; log = l; base = base })) (sym none)
+    (subst (λ (s : State). IsFollowed [] [] (record { state = s; draft = draft; log = []; base = base })) here record { drafts = λ d. refl; ends = refl; count = omega arith; taken_are = tt })
+
+pub followed_first : (book : Book) → book.log ≡ [] → book.base ≡ book.state → IsFollowed [] [] book
+followed_first book none here = as_begun book.state book.draft book.log book.base none here
 
 -- ---- as they are returned
 
 pub marked_as : {V E : Type 0} (set : V → List Hash) (book : Book) (numbers : List ℕ) (taken : List (Option Reference)) (s : Sweep) (r : Result V E) → IsFollowed numbers taken book → AreLinked book.state.commits
-    → IsTrue (heads_pass (is_known book.state.commits) book.state.references) → s.opened ≤ book.state.place
-    → IfOk r (λ v. (hash : Hash) → is_marked (set v) hash ≡ is_among (rooted book.state taken s) hash) → IfOk r (λ v. (hash : Hash) → is_marked (set v) hash ≡ is_among (saved_on book s) hash)
-marked_as set book numbers taken s (Ok v) followed linked heads opened marked = marks_are book numbers taken s (set v) followed linked heads opened marked
-marked_as set book numbers taken s (Err why) followed linked heads opened marked = tt
+    → IsTrue (heads_pass (is_known book.state.commits) book.state.references) → book.base.place ≤ s.opened → s.opened ≤ book.state.place
+    → IfOk r (λ v. (hash : Hash) → is_marked (set v) hash ≡ is_among (rooted book.base.place book.state taken s) hash) → IfOk r (λ v. (hash : Hash) → is_marked (set v) hash ≡ is_among (saved_on book s) hash)
+marked_as set book numbers taken s (Ok v) followed linked heads since_base opened marked = marks_are book numbers taken s (set v) followed linked heads since_base opened marked
+marked_as set book numbers taken s (Err why) followed linked heads since_base opened marked = tt
 
 pub removed_as : {V E : Type 0} (items : V → List Hash) (book : Book) (s : Sweep) (marks : List Hash) (r : Result V E) → ((hash : Hash) → is_marked marks hash ≡ is_among (saved_on book s) hash)
     → IfOk r (λ v. (hash : Hash) → is_among (items v) hash ≡ (is_some (value_of book.state.present hash) && not (is_marked marks hash))) → IfOk r (λ v. AreRemoved book s (items v))
 removed_as items book s marks (Ok v) marked un = removed_are book s marks (items v) marked un
 removed_as items book s marks (Err why) marked un = tt
 
-pub may_be_swept_is : (book : Book) (s : Sweep) → book.base ≡ first_state sha256 book.state.limits
-    → (nat_le s.opened book.state.place && list_all (is_known book.state.commits) s.commits && nat_le (length s.policy.cutoffs) 1000) ≡ may_be_swept sha256 book s
-may_be_swept_is book s base =
-    let low : nat_le book.base.place s.opened ≡ true = ap (λ (b : State). nat_le b.place s.opened) base ∙ le-leb 0 s.opened (omega arith) in
-    rw low refl
+pub may_be_swept_is : (book : Book) (s : Sweep) → (nat_le book.base.place s.opened && nat_le s.opened book.state.place && list_all (is_known book.state.commits) s.commits && nat_le (length s.policy.cutoffs) 1000) ≡ may_be_swept sha256 book s
+may_be_swept_is book s = refl

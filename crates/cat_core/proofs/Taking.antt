@@ -25,10 +25,10 @@ taken_live commits policy (None ∷ taken) = taken_live commits policy taken
 taken_live commits policy (Some r ∷ taken) = ap (λ (l : List Hash). live_at commits policy r ++ l) (taken_live commits policy taken)
 
 -- the roots of a sweep that is executed again keep what is live now, what was live from what was taken, and what its names keep
-pub keeps_rooted : (state : State) (taken : List (Option Reference)) (s : Sweep) (hash : Hash) → is_among (live_of state.commits (roots_taken s.policy state.references (drop s.opened taken) (names_in s))) hash ≡ is_among (rooted state taken s) hash
+pub keeps_rooted : (first : ℕ) (state : State) (taken : List (Option Reference)) (s : Sweep) (hash : Hash) → is_among (live_of state.commits (roots_taken s.policy state.references (drop (s.opened - first) taken) (names_in s))) hash ≡ is_among (rooted first state taken s) hash
 unfolding live
-keeps_rooted state taken s hash =
-    let since = drop s.opened taken in
+keeps_rooted first state taken s hash =
+    let since = drop (s.opened - first) taken in
     let references = map (head_at s.policy) state.references in
     let made = flat_map (λ t. if_head (head_taken s.policy t)) since in
     let named = kept_by_names state.commits (names_in s) in

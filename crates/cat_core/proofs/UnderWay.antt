@@ -37,7 +37,7 @@ use Rattle.cat_model.specs.Merges.{merge_opening}
 use Rattle.cat_model.specs.Naming.{names_of}
 use Rattle.cat_model.specs.Past.{course, past_of}
 use Rattle.cat_model.specs.Refusing.{◌>>=◌, Tested, named, needs, needs_branch, pointed}
-use Rattle.cat_model.specs.State.{State, first_state, is_known, reference_of}
+use Rattle.cat_model.specs.State.{State, is_known, reference_of}
 use Rattle.cat_model.specs.Step.{opening}
 use Rattle.cat_model.specs.Transplants.{are_consecutive, needs_on_chain, transplant_opening}
 use Rattle.cat_model.specs.Turns.{Opened}
@@ -77,18 +77,18 @@ swept_shut book left_open held closed other was = record { named = was.named; sw
 
 -- ---- the mark
 
-marked_by : (draft drafter : ℕ) (dropped expired : Option Ticket) (closed : Option ClosedSweep) (fault : Option FailedAppend) (held : Option OpenSweep) (book : Book) (left_open : List drafts.OpenDraft) → IsSwept book left_open held closed
-    → IsMarked (held_mark draft drafter dropped expired held closed fault) (option_map sweep_held held)
-marked_by draft drafter dropped expired closed fault None book left_open is = refl
-marked_by draft drafter dropped expired None fault (Some s) book left_open is = (refl, is.last)
-marked_by draft drafter dropped expired (Some c) fault (Some s) book left_open is = (refl, is.last)
+marked_by : (draft drafter : ℕ) (dropped expired : Option Ticket) (closed : Option ClosedSweep) (fault : Option FailedAppend) (format base : ℕ) (bases : Option ℕ) (held : Option OpenSweep) (book : Book) (left_open : List drafts.OpenDraft) → IsSwept book left_open held closed
+    → IsMarked (held_mark draft drafter dropped expired held closed fault format base bases) (option_map sweep_held held)
+marked_by draft drafter dropped expired closed fault format base bases None book left_open is = refl
+marked_by draft drafter dropped expired None fault format base bases (Some s) book left_open is = (refl, is.last)
+marked_by draft drafter dropped expired (Some c) fault format base bases (Some s) book left_open is = (refl, is.last)
 
-pub marked : {K : Type 0} (draft drafter : ℕ) (dropped expired : Option Ticket) (closed : Option ClosedSweep) (fault : Option FailedAppend) (held : Option OpenSweep) (book : Book) (left_open : List drafts.OpenDraft) (s x : Stored K) → s ≡ x
-    → s.mark ≡ held_mark draft drafter dropped expired held closed fault → s.left_open.sweep ≡ option_map sweep_held held → IsSwept book left_open held closed → IsMarked x.mark x.left_open.sweep
-marked {K} draft drafter dropped expired closed fault held book left_open s x same mark sweep is =
+pub marked : {K : Type 0} (draft drafter : ℕ) (dropped expired : Option Ticket) (closed : Option ClosedSweep) (fault : Option FailedAppend) (format base : ℕ) (bases : Option ℕ) (held : Option OpenSweep) (book : Book) (left_open : List drafts.OpenDraft) (s x : Stored K) → s ≡ x
+    → s.mark ≡ held_mark draft drafter dropped expired held closed fault format base bases → s.left_open.sweep ≡ option_map sweep_held held → IsSwept book left_open held closed → IsMarked x.mark x.left_open.sweep
+marked {K} draft drafter dropped expired closed fault format base bases held book left_open s x same mark sweep is =
     subst (λ (z : Stored K). IsMarked z.mark z.left_open.sweep) same
     (subst (λ (m : Mark). IsMarked m s.left_open.sweep) (sym mark)
-    (subst (IsMarked (held_mark draft drafter dropped expired held closed fault)) (sym sweep) (marked_by draft drafter dropped expired closed fault held book left_open is)))
+    (subst (IsMarked (held_mark draft drafter dropped expired held closed fault format base bases)) (sym sweep) (marked_by draft drafter dropped expired closed fault format base bases held book left_open is)))
 
 -- ---- what stays
 
@@ -117,13 +117,17 @@ swept_closed book left_open held o sweep closed was is =
 
 -- ---- one entry more
 
-pub place_log : (book : Book) (faults : ℕ) (left_open : List drafts.OpenDraft) → IsSound book faults left_open → book.state.place ≡ length book.log
-place_log book faults left_open sound = place_length book faults left_open sound ∙ length-reverse book.log
+-- the place is that of the book's base, and one more for each entry
+pub place_log : (book : Book) (o : Opened) (left_open : List drafts.OpenDraft) → IsSound o book left_open → book.state.place ≡ book.base.place + length book.log
+place_log book o left_open sound =
+    let n : book.state.place ≡ o.state.place + length (reverse book.log) = place_length o book left_open sound in
+    let base : book.base.place ≡ o.state.place = ap (λ (s : State). s.place) sound.base in
+    let long : length (reverse book.log) ≡ length book.log = length-reverse book.log in
+    omega arith
 
 -- the states that the entries led through end at the book's
-pub ends_sound : (book : Book) (faults : ℕ) (left_open : List drafts.OpenDraft) → IsSound book faults left_open → (course sha256 book.base book.log).state ≡ book.state
-ends_sound book faults left_open sound =
-    let o : Opened = record { state = first_state sha256 book.state.limits; draft = 0; faults = faults } in
+pub ends_sound : (book : Book) (o : Opened) (left_open : List drafts.OpenDraft) → IsSound o book left_open → (course sha256 book.base book.log).state ≡ book.state
+ends_sound book o left_open sound =
     ap (λ (base : State). (course sha256 base book.log).state) sound.base
     ∙ ap (λ (l : List LogEntry). (course sha256 o.state l).state) (sym (reverse-reverse book.log))
     ∙ course_is o (reverse book.log) ∙ sound.led
@@ -138,16 +142,17 @@ pub past_is : (book : Book) (e : LogEntry) (after : State) (draft : ℕ) → (co
 unfolding past_of
 past_is book e after draft ends = ap (λ (state : State). state ∷ past_of sha256 book) ends
 
-module _ (book : Book) (e : LogEntry) (after : State) (draft : ℕ) (ends : (course sha256 book.base book.log).state ≡ book.state) (headed : is_headed book.state ≡ true) (place : book.state.place ≡ length book.log) (next : after.place ≡ book.state.place + 1) (later : IsLater book.state after) where
+module _ (book : Book) (e : LogEntry) (after : State) (draft : ℕ) (ends : (course sha256 book.base book.log).state ≡ book.state) (headed : is_headed book.state ≡ true) (place : book.state.place ≡ book.base.place + length book.log) (next : after.place ≡ book.state.place + 1) (later : IsLater book.state after) where
   abbrev longer : Book
   longer = record book { state = after; draft = draft; log = e ∷ book.log }
 
   way_on : (s : OpenSweep) → IsUnderWay book s → IsUnderWay longer s
   way_on s was =
-      let since : s.ticket.place ≤ s.drained = was.since in
+      let since : s.ticket.place ≤ book.base.place + s.drained = was.since in
       let drained : s.drained ≤ length book.log = was.drained in
       record {
         fronts = was.fronts;
+        from = was.from;
         since = was.since;
         drained = omega (arith, drained);
         few = was.few;
@@ -170,17 +175,17 @@ swept_as a b left_open held closed state log base was =
     subst put (λ i. record { state = sym state i; draft = b.draft; log = sym log i; base = sym base i }) draft
   where
     way_as : (s : OpenSweep) → IsUnderWay a s → IsUnderWay (record a { draft = b.draft }) s
-    way_as s was = record { fronts = was.fronts; since = was.since; drained = was.drained; few = was.few; logged = was.logged; known = was.known; headed = was.headed }
+    way_as s was = record { fronts = was.fronts; from = was.from; since = was.since; drained = was.drained; few = was.few; logged = was.logged; known = was.known; headed = was.headed }
 
     by : (held : Option OpenSweep) → IsSwept a left_open held closed → IsSwept (record a { draft = b.draft }) left_open held closed
     by None was = record { named = was.named; sweep = tt; last = tt }
     by (Some s) was = record { named = was.named; sweep = way_as s was.sweep; last = was.last }
 
-module _ (caller number : ℕ) (book : Book) (faults : ℕ) (left_open : List drafts.OpenDraft) (held : Option OpenSweep) (closed : Option ClosedSweep) (sound : IsSound book faults left_open) (headed : is_headed book.state ≡ true) (was : IsSwept book left_open held closed) where
+module _ (caller number : ℕ) (book : Book) (o : Opened) (left_open : List drafts.OpenDraft) (held : Option OpenSweep) (closed : Option ClosedSweep) (sound : IsSound o book left_open) (headed : is_headed book.state ≡ true) (was : IsSwept book left_open held closed) where
   brought_by : (logged : List LogEntry) (after : State) (draft : ℕ) → Brings caller number book logged after → IsSwept (record book { state = after; draft = draft; log = logged ++ book.log }) left_open held closed
   brought_by [] after draft brings = swept_as book (record book { state = after; draft = draft }) left_open held closed brings refl refl was
   brought_by (e ∷ []) after draft brings =
-      swept_on_by book e after draft (ends_sound book faults left_open sound) headed (place_log book faults left_open sound)
+      swept_on_by book e after draft (ends_sound book o left_open sound) headed (place_log book o left_open sound)
       (sym (ap (λ (s : State). s.place) brings.leads) ∙ legal_place sha256 book e brings.legal.legal)
       (subst (IsLater book.state) brings.leads (replayed_later sha256 book e)) left_open held closed was
   brought_by (e ∷ f ∷ more) after draft brings = absurd brings
@@ -284,10 +289,12 @@ way_noted book names a b was fronts known is =
     let drained : b.drained ≡ a.drained = ap (λ (s : drafts.OpenSweep). s.drained) is in
     let policy : b.policy ≡ a.policy = ap (λ (s : drafts.OpenSweep). s.policy) is in
     let commits : b.commits.items ≡ a.commits.items ++ names.commits = ap (λ (s : drafts.OpenSweep). s.names.commits) is in
-    let since : a.ticket.place ≤ a.drained = was.since in
+    let from : book.base.place ≤ a.ticket.place = was.from in
+    let since : a.ticket.place ≤ book.base.place + a.drained = was.since in
     let low : a.drained ≤ length book.log = was.drained in
     record {
       fronts = fronts;
+      from = omega (arith, from, place);
       since = omega (arith, since, place, drained);
       drained = omega (arith, low, drained);
       few = subst (λ (p : Resolved). length p.cutoffs ≤ most_patterns) (sym policy) was.few;
@@ -340,17 +347,18 @@ drafts_known : (state : State) (left_open : List drafts.OpenDraft) → AreNamed 
 drafts_known state [] are = refl
 drafts_known state (x ∷ xs) are = known_both state x.names.commits (names_of_drafts xs).commits are.0 (drafts_known state xs are.1)
 
-pub swept_begun : (book : Book) (faults : ℕ) (left_open : List drafts.OpenDraft) (s : OpenSweep) (held : Option OpenSweep) (closed : Option ClosedSweep) → IsSwept book left_open held closed → IsSound book faults left_open → s.ticket.place ≡ book.state.place → s.drained ≡ s.ticket.place
+pub swept_begun : (book : Book) (o : Opened) (left_open : List drafts.OpenDraft) (s : OpenSweep) (held : Option OpenSweep) (closed : Option ClosedSweep) → IsSwept book left_open held closed → IsSound o book left_open → s.ticket.place ≡ book.state.place → s.drained ≡ length book.log
     → s.commits.items ≡ (names_of_drafts left_open).commits → HasFronts s → length s.policy.cutoffs ≤ most_patterns → resolved_is_logged s.policy ≡ true → closed_before closed ≤ s.ticket.number → IsSwept book left_open (Some s) closed
-swept_begun book faults left_open s held closed was sound place drained commits fronts few logged last =
-    let long : book.state.place ≡ length book.log = place_log book faults left_open sound in
+swept_begun book o left_open s held closed was sound place drained commits fronts few logged last =
+    let long : book.state.place ≡ book.base.place + length book.log = place_log book o left_open sound in
     let none : book.state.place - s.ticket.place ≡ 0 = omega (arith, place) in
     record {
       named = was.named;
       sweep = record {
         fronts = fronts;
-        since = omega (arith, drained);
-        drained = omega (arith, drained, place, long);
+        from = omega (arith, place, long);
+        since = omega (arith, drained, place, long);
+        drained = omega (arith, drained);
         few = few;
         logged = logged;
         known = subst (AreKnown book.state) (sym commits) (drafts_known book.state left_open was.named);
@@ -360,18 +368,19 @@ swept_begun book faults left_open s held closed was sound place drained commits 
     }
 
 -- all was given
-pub swept_given : (book : Book) (faults : ℕ) (left_open : List drafts.OpenDraft) (a b : OpenSweep) (closed : Option ClosedSweep) → IsSwept book left_open (Some a) closed → IsSound book faults left_open → b.ticket ≡ a.ticket → b.policy ≡ a.policy → b.commits.items ≡ a.commits.items → b.drained ≡ book.state.place → HasFronts b → IsSwept book left_open (Some b) closed
-swept_given book faults left_open a b closed was sound ticket policy commits drained fronts =
-    let long : book.state.place ≡ length book.log = place_log book faults left_open sound in
-    let since : a.ticket.place ≤ a.drained = was.sweep.since in
+pub swept_given : (book : Book) (o : Opened) (left_open : List drafts.OpenDraft) (a b : OpenSweep) (closed : Option ClosedSweep) → IsSwept book left_open (Some a) closed → IsSound o book left_open → b.ticket ≡ a.ticket → b.policy ≡ a.policy → b.commits.items ≡ a.commits.items → b.drained ≡ length book.log → HasFronts b → IsSwept book left_open (Some b) closed
+swept_given book o left_open a b closed was sound ticket policy commits drained fronts =
+    let from : book.base.place ≤ a.ticket.place = was.sweep.from in
+    let since : a.ticket.place ≤ book.base.place + a.drained = was.sweep.since in
     let low : a.drained ≤ length book.log = was.sweep.drained in
     let place : b.ticket.place ≡ a.ticket.place = ap (λ (t : Ticket). t.place) ticket in
     record {
       named = was.named;
       sweep = record {
         fronts = fronts;
-        since = omega (arith, since, low, place, long, drained);
-        drained = omega (arith, drained, long);
+        from = omega (arith, from, place);
+        since = omega (arith, since, low, place, drained);
+        drained = omega (arith, drained);
         few = subst (λ (p : Resolved). length p.cutoffs ≤ most_patterns) (sym policy) was.sweep.few;
         logged = subst (λ (p : Resolved). resolved_is_logged p ≡ true) (sym policy) was.sweep.logged;
         known = subst (AreKnown book.state) (sym commits) was.sweep.known;
@@ -382,24 +391,23 @@ swept_given book faults left_open a b closed was sound ticket policy commits dra
 
 -- ---- once it is closed
 
-may_by : (book : Book) (faults : ℕ) (left_open : List drafts.OpenDraft) (held : Option OpenSweep) (closed : Option ClosedSweep) → IsSound book faults left_open → IsSwept book left_open held closed → MayBeClosed book (option_map sweep_held held)
-may_by book faults left_open None closed sound is = tt
-may_by book faults left_open (Some s) closed sound is =
-    let base : book.base.place ≡ 0 = ap (λ (state : State). state.place) sound.base in
-    let since : s.ticket.place ≤ s.drained = is.sweep.since in
+may_by : (book : Book) (o : Opened) (left_open : List drafts.OpenDraft) (held : Option OpenSweep) (closed : Option ClosedSweep) → IsSound o book left_open → IsSwept book left_open held closed → MayBeClosed book (option_map sweep_held held)
+may_by book o left_open None closed sound is = tt
+may_by book o left_open (Some s) closed sound is =
+    let since : s.ticket.place ≤ book.base.place + s.drained = is.sweep.since in
     let low : s.drained ≤ length book.log = is.sweep.drained in
-    let long : book.state.place ≡ length book.log = place_log book faults left_open sound in
+    let long : book.state.place ≡ book.base.place + length book.log = place_log book o left_open sound in
     let sweep : Sweep = sweep_of s.ticket.place s.policy (record { commits = s.commits.items; contents = s.contents.items }) in (
-      may_sweep book (sweep_held s) sweep refl base (omega (arith, since, low, long)) is.sweep.known is.sweep.few,
+      may_sweep book (sweep_held s) sweep refl is.sweep.from (omega (arith, since, low, long)) is.sweep.known is.sweep.few,
       may_log (sweep_held s) sweep refl is.sweep.logged,
     )
 
-pub may_close : {K : Type 0} (book : Book) (faults : ℕ) (left_open : List drafts.OpenDraft) (held : Option OpenSweep) (closed : Option ClosedSweep) (s x : Stored K) → s ≡ x → s.book ≡ book → s.left_open.sweep ≡ option_map sweep_held held → IsSound book faults left_open → IsSwept book left_open held closed
+pub may_close : {K : Type 0} (book : Book) (o : Opened) (left_open : List drafts.OpenDraft) (held : Option OpenSweep) (closed : Option ClosedSweep) (s x : Stored K) → s ≡ x → s.book ≡ book → s.left_open.sweep ≡ option_map sweep_held held → IsSound o book left_open → IsSwept book left_open held closed
     → MayBeClosed x.book x.left_open.sweep
-may_close {K} book faults left_open held closed s x same own sweep sound is =
+may_close {K} book o left_open held closed s x same own sweep sound is =
     subst (λ (z : Stored K). MayBeClosed z.book z.left_open.sweep) same
     (subst (λ (b : Book). MayBeClosed b s.left_open.sweep) (sym own)
-    (subst (MayBeClosed book) (sym sweep) (may_by book faults left_open held closed sound is)))
+    (subst (MayBeClosed book) (sym sweep) (may_by book o left_open held closed sound is)))
 
 -- ---- its number
 

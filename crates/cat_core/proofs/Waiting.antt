@@ -81,10 +81,10 @@ pub in_all : (n : ℕ) (d : OpenDraft) (xs : List OpenDraft) → IsOpen d (draft
 in_all n d [] is = is
 in_all n d (x ∷ xs) is = in_at (nat_eq x.opening.caller n) d x (drafts_of n xs) xs (in_all n d xs) is
 
-module _ (last : ℕ) (log : List LogEntry) where
-  pub waits : (d : OpenDraft) (xs : List OpenDraft) → AreWaiting last log xs → IsOpen d xs → IsWaiting last log d
+module _ (first last : ℕ) (log : List LogEntry) where
+  pub waits : (d : OpenDraft) (xs : List OpenDraft) → AreWaiting first last log xs → IsOpen d xs → IsWaiting first last log d
   waits d [] are is = absurd is
-  waits d (x ∷ xs) are is = ⊎_elim (λ (same : x ≡ d). subst (IsWaiting last log) same are.0) (λ (there : IsOpen d xs). waits d xs are.2 there) is
+  waits d (x ∷ xs) are is = ⊎_elim (λ (same : x ≡ d). subst (IsWaiting first last log) same are.0) (λ (there : IsOpen d xs). waits d xs are.2 there) is
 
 -- ---- numbers
 
@@ -100,15 +100,15 @@ none_stays : (n : ℕ) (o : Opening) (xs : List OpenDraft) → IsNumberOfNone n 
 none_stays n o [] none = tt
 none_stays n o (x ∷ xs) none = none_at (nat_eq x.opening.caller o.caller && nat_eq x.opening.number o.number) n x (without o xs) none.0 (none_stays n o xs none.1)
 
-waiting_at : (last : ℕ) (log : List LogEntry) (b : Bool) (x : OpenDraft) (less : List OpenDraft) → IsWaiting last log x → IsNumberOfNone x.opening.number less → AreWaiting last log less → AreWaiting last log (cond b less (x ∷ less))
-waiting_at last log true x less is none are = are
-waiting_at last log false x less is none are = (is, none, are)
+waiting_at : (first last : ℕ) (log : List LogEntry) (b : Bool) (x : OpenDraft) (less : List OpenDraft) → IsWaiting first last log x → IsNumberOfNone x.opening.number less → AreWaiting first last log less → AreWaiting first last log (cond b less (x ∷ less))
+waiting_at first last log true x less is none are = are
+waiting_at first last log false x less is none are = (is, none, are)
 
 -- once one is closed
-pub waiting_closed : (last : ℕ) (log : List LogEntry) (o : Opening) (xs : List OpenDraft) → AreWaiting last log xs → AreWaiting last log (without o xs)
-waiting_closed last log o [] are = tt
-waiting_closed last log o (x ∷ xs) are =
-    waiting_at last log (nat_eq x.opening.caller o.caller && nat_eq x.opening.number o.number) x (without o xs) are.0 (none_stays x.opening.number o xs are.1) (waiting_closed last log o xs are.2)
+pub waiting_closed : (first last : ℕ) (log : List LogEntry) (o : Opening) (xs : List OpenDraft) → AreWaiting first last log xs → AreWaiting first last log (without o xs)
+waiting_closed first last log o [] are = tt
+waiting_closed first last log o (x ∷ xs) are =
+    waiting_at first last log (nat_eq x.opening.caller o.caller && nat_eq x.opening.number o.number) x (without o xs) are.0 (none_stays x.opening.number o xs are.1) (waiting_closed first last log o xs are.2)
 
 gone_at : (x d : OpenDraft) (less : List OpenDraft) → x ≡ d → IsNumberOfNone d.opening.number less → IsNumberOfNone d.opening.number (cond (nat_eq x.opening.caller d.opening.caller && nat_eq x.opening.number d.opening.number) less (x ∷ less))
 gone_at x d less same none =
@@ -117,37 +117,37 @@ gone_at x d less same none =
     rw (caller, number) none
 
 -- its number is none of the others'
-pub none_left : (last : ℕ) (log : List LogEntry) (d : OpenDraft) (xs : List OpenDraft) → AreWaiting last log xs → IsOpen d xs → IsNumberOfNone d.opening.number (without d.opening xs)
-none_left last log d [] are is = absurd is
-none_left last log d (x ∷ xs) are is =
+pub none_left : (first last : ℕ) (log : List LogEntry) (d : OpenDraft) (xs : List OpenDraft) → AreWaiting first last log xs → IsOpen d xs → IsNumberOfNone d.opening.number (without d.opening xs)
+none_left first last log d [] are is = absurd is
+none_left first last log d (x ∷ xs) are is =
     ⊎_elim
     (λ (same : x ≡ d). gone_at x d (without d.opening xs) same (none_stays d.opening.number d.opening xs (subst (λ (y : OpenDraft). IsNumberOfNone y.opening.number xs) same are.1)))
     (λ (there : IsOpen d xs). none_at (nat_eq x.opening.caller d.opening.caller && nat_eq x.opening.number d.opening.number) d.opening.number x (without d.opening xs)
-    (λ same. not_there x.opening.number d xs are.1 there (sym same)) (none_left last log d xs are.2 there))
+    (λ same. not_there x.opening.number d xs are.1 there (sym same)) (none_left first last log d xs are.2 there))
     is
 
 -- none has the number of no draft
-pub none_of_none : (last : ℕ) (log : List LogEntry) (xs : List OpenDraft) → AreWaiting last log xs → IsNumberOfNone 0 xs
-none_of_none last log [] are = tt
-none_of_none last log (x ∷ xs) are = let above : 0 < x.opening.number = are.0.above in ((λ same. omega arith), none_of_none last log xs are.2)
+pub none_of_none : (first last : ℕ) (log : List LogEntry) (xs : List OpenDraft) → AreWaiting first last log xs → IsNumberOfNone 0 xs
+none_of_none first last log [] are = tt
+none_of_none first last log (x ∷ xs) are = let above : first < x.opening.number = are.0.above in ((λ same. omega arith), none_of_none first last log xs are.2)
 
 -- ---- a longer log, and one draft more
 
 new_on : (e : LogEntry) (log : List LogEntry) (n : ℕ) → (n ≡ e.draft → ⊥) → draft_is_new log n ≡ true → draft_is_new (e ∷ log) n ≡ true
 new_on e log n other new = let no : nat_eq n e.draft ≡ false = ne_eqb n e.draft other in rw no new
 
-pub waiting_on : (last : ℕ) (log : List LogEntry) (e : LogEntry) (xs : List OpenDraft) → IsNumberOfNone e.draft xs → AreWaiting last log xs → AreWaiting last (e ∷ log) xs
-waiting_on last log e [] none are = tt
-waiting_on last log e (x ∷ xs) none are =
-    (record { above = are.0.above; below = are.0.below; new = new_on e log x.opening.number none.0 are.0.new }, are.1, waiting_on last log e xs none.1 are.2)
+pub waiting_on : (first last : ℕ) (log : List LogEntry) (e : LogEntry) (xs : List OpenDraft) → IsNumberOfNone e.draft xs → AreWaiting first last log xs → AreWaiting first last (e ∷ log) xs
+waiting_on first last log e [] none are = tt
+waiting_on first last log e (x ∷ xs) none are =
+    (record { above = are.0.above; below = are.0.below; new = new_on e log x.opening.number none.0 are.0.new }, are.1, waiting_on first last log e xs none.1 are.2)
 
 none_more : (n : ℕ) (d : OpenDraft) (xs : List OpenDraft) → (d.opening.number ≡ n → ⊥) → IsNumberOfNone n xs → IsNumberOfNone n (xs ++ d ∷ [])
 none_more n d [] other none = (other, tt)
 none_more n d (x ∷ xs) other none = (none.0, none_more n d xs other none.1)
 
 -- the next number is new
-pub waiting_more : (last : ℕ) (log : List LogEntry) (d : OpenDraft) (xs : List OpenDraft) → d.opening.number ≡ last + 1 → AreAtMost last log → AreWaiting last log xs → AreWaiting d.opening.number log (xs ++ d ∷ [])
-waiting_more last log d [] next most are = (record { above = omega arith; below = omega arith; new = new_above last d.opening.number log most (omega arith) }, tt, tt)
-waiting_more last log d (x ∷ xs) next most are =
+pub waiting_more : (first last : ℕ) (log : List LogEntry) (d : OpenDraft) (xs : List OpenDraft) → first ≤ last → d.opening.number ≡ last + 1 → AreAtMost last log → AreWaiting first last log xs → AreWaiting first d.opening.number log (xs ++ d ∷ [])
+waiting_more first last log d [] low next most are = (record { above = omega (arith, low); below = omega arith; new = new_above last d.opening.number log most (omega arith) }, tt, tt)
+waiting_more first last log d (x ∷ xs) from next most are =
     let low : x.opening.number ≤ last = are.0.below in
-    (record { above = are.0.above; below = omega arith; new = are.0.new }, none_more x.opening.number d xs (λ same. omega arith) are.1, waiting_more last log d xs next most are.2)
+    (record { above = are.0.above; below = omega arith; new = are.0.new }, none_more x.opening.number d xs (λ same. omega arith) are.1, waiting_more first last log d xs from next most are.2)

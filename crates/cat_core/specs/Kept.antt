@@ -6,7 +6,7 @@ use Rattle.cat_model.specs.declared.log_entry.LogEntry.{LogEntry}
 use Rattle.cat_model.specs.declared.refusal.Refusal.TheVariants.{Fault}
 use Rattle.cat_model.specs.declared.refusal.Refused.{Refused}
 use Rattle.cat_model.specs.declared.reply.Told.{Told}
-use Rattle.cat_state.specs.Kept.{Fell, Grew, Leaves, Stayed}
+use Rattle.cat_state.specs.Kept.{Fell, Grew, Leaves, NotRebased, Rebased, Stayed}
 use Rattle.cat_core.specs.declared.draft.Settled.{Settled}
 use Rattle.cat_core.specs.declared.draft.Settled.TheVariants as settled
 use Rattle.cat_decisions.specs.declared.building.Built.{Built}
@@ -18,6 +18,12 @@ use Rattle.cat_core.specs.Stored.{IsUp, Stored}
 pub record KeepsTold {K : Type 0} (members : Ghosts K) (old new : K) (logged : List LogEntry) (result : Result Told Refused) : Type 0 where
   pub done : OnOk result (Grew members old new logged)
   pub fault : IfErr result (λ refused. refused.why ≡ Fault → Fell members old new logged)
+  pub other : IfErr result (λ refused. (refused.why ≡ Fault → ⊥) → Stayed members old new)
+
+-- what a checkpoint of this place and payload did: where the refusal is for a fault, it wasn't kept
+pub record KeepsBase {K : Type 0} (members : Ghosts K) (old new : K) (place : ℕ) (payload : List ℕ) (result : Result Told Refused) : Type 0 where
+  pub done : OnOk result (Rebased members old new place payload)
+  pub fault : IfErr result (λ refused. refused.why ≡ Fault → NotRebased members old new payload)
   pub other : IfErr result (λ refused. (refused.why ≡ Fault → ⊥) → Stayed members old new)
 
 -- what settling did

@@ -3,7 +3,7 @@ use Rattle.std.proofs.Common.{◌≡◌, Result, Ok, Err, Bool, true, false, ref
 use Rattle.cat_model.specs.declared.limits.Quantity.{Quantity}
 use Rattle.cat_model.specs.declared.limits.Quantity.TheVariants.{Drafts}
 use Rattle.cat_model.specs.declared.refusal.Refusal.{Refusal}
-use Rattle.cat_model.specs.declared.refusal.Refusal.TheVariants.{BadRequest, Collision, Conflicts, ContentNotFound, Down, Encoding, Expired, Fault, Limit, NoMemory, NoRoute, RefExists, RefNotFound, RetriesSpent, SweepOpen, TooLarge, WrongMethod}
+use Rattle.cat_model.specs.declared.refusal.Refusal.TheVariants.{BadRequest, Collision, Conflicts, ContentNotFound, Down, Encoding, OldFormat, Expired, Fault, Limit, NoMemory, NoRoute, RefExists, RefNotFound, RetriesSpent, SweepOpen, TooLarge, WrongMethod}
 use Rattle.cat_model.specs.CauseLaws.{Causes}
 use Rattle.cat_model.specs.Refusing.{◌>>=◌, needs}
 
@@ -68,6 +68,7 @@ usual_is_other NoRoute p = refl
 usual_is_other (WrongMethod x) p = refl
 usual_is_other TooLarge p = refl
 usual_is_other Encoding p = refl
+usual_is_other OldFormat p = refl
 
 pub plain_of : {A : Type 0} (r : Result A Refusal) → IsUsual r → IsPlain r
 plain_of (Ok x) p = tt

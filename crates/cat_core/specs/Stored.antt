@@ -1,5 +1,5 @@
 -- What a store holds, with what keeps its log.
-use Rattle.std.specs.Prelude.{◌≡◌, ◌≤◌, ◌<◌, ℕ, ◌-◌, Bool, List, [], ◌∷◌, length, take, Option, Some, None, true, IfSome, IsTrue, map, reverse}
+use Rattle.std.specs.Prelude.{◌≡◌, ◌≤◌, ◌<◌, ℕ, ◌+◌, ◌-◌, Bool, List, [], ◌∷◌, length, take, Option, Some, None, true, IfSome, IsTrue, map, reverse}
 use Rattle.std.specs.List.{list_all}
 use Rattle.std.specs.Option.{option_map}
 use Rattle.sha2.specs.Sha256.{sha256}
@@ -7,6 +7,7 @@ use Rattle.cat_io.specs.Causes.{Rose}
 use Rattle.cat_checks.specs.Histories.{IsLegalFrom, book_at}
 use Rattle.cat_checks.specs.HistoryLaws.{AreAtMost}
 use Rattle.cat_checks.specs.Legal.{draft_is_new, most_patterns}
+use Rattle.cat_checks.specs.Upheld.{Upholds}
 use Rattle.cat_frames.specs.Sweeps.{resolved_is_logged}
 use Rattle.cat_keeper.specs.declared.keeper.Keeper.{Ghosts}
 use Rattle.cat_model.specs.declared.log_entry.LogEntry.{LogEntry}
@@ -15,30 +16,31 @@ use Rattle.cat_model.specs.Drafts as drafts
 use Rattle.cat_model.specs.Drafts.{Open, Opening}
 use Rattle.cat_model.specs.Mark as marks
 use Rattle.cat_model.specs.Mark.{FailedAppend, Mark}
-use Rattle.cat_model.specs.State.{State, first_state, is_known}
+use Rattle.cat_model.specs.State.{State, is_known}
 use Rattle.cat_model.specs.Past.{past_of}
 use Rattle.cat_model.specs.Turns.{Opened, Snapshot}
 use Rattle.cat_graph.specs.Linked as linked
 use Rattle.cat_tables.specs.References.{heads_pass}
-use Rattle.cat_state.specs.Kept.{spellings}
+use Rattle.cat_state.specs.Kept.{reached}
 use Rattle.cat_names.specs.declared.hash.Hash.{Hash}
 use Rattle.cat_core.specs.declared.tickets.ClosedSweep.{ClosedSweep}
 use Rattle.cat_core.specs.declared.tickets.Fallen.{Fallen}
 use Rattle.cat_core.specs.declared.tickets.OpenDraft.{OpenDraft}
 use Rattle.cat_core.specs.declared.tickets.OpenSweep.{OpenSweep}
+use Rattle.cat_core.specs.declared.tickets.Start.{Start}
 use Rattle.cat_core.specs.declared.tickets.Ticket.{Ticket}
+use Rattle.cat_core.specs.Records.{IsInFlight, StandThrough}
 
--- a book, what keeps its log, the mark and what is open beside the log, and the keeper's count of faults as the store was opened
+-- a book, what keeps its log, the mark and what is open beside the log, and what the log starts from
 pub record Stored (K : Type 0) : Type 0 where
   pub book : Book
   pub keeper : K
   pub mark : Mark
   pub left_open : Open
-  pub began : ℕ
+  pub opened : Opened
 
--- what the log starts from
 abbrev pub opened_of : {K : Type 0} → Stored K → Opened
-opened_of s = record { state = first_state sha256 s.book.state.limits; draft = 0; faults = s.began }
+opened_of s = s.opened
 
 -- the log, the oldest entry first
 abbrev pub log_of : {K : Type 0} → Stored K → List LogEntry
@@ -52,7 +54,7 @@ open_of s = s.left_open
 
 -- all that a turn is judged by
 abbrev pub snap : {K : Type 0} → Stored K → Snapshot
-snap s = record { opened = opened_of s; log = log_of s; mark = s.mark; left_open = s.left_open }
+snap s = record { opened = s.opened; log = log_of s; mark = s.mark; left_open = s.left_open }
 
 -- no append has failed
 abbrev pub IsUp : {K : Type 0} → Stored K → Type 0
@@ -79,7 +81,7 @@ opening_at t = record { number = t.number; caller = t.caller; place = t.place }
 abbrev pub draft_held : OpenDraft → drafts.OpenDraft
 draft_held d = record { opening = opening_at d.ticket; names = record { commits = d.commits.items; contents = d.contents.items } }
 
--- the append that failed: its payload is in flight
+-- the append or the rebase that failed: its payload is in flight
 abbrev pub failed : Option Fallen → Option (List ℕ) → Option FailedAppend
 failed (Some f) (Some payload) = Some (record { caller = f.caller; count = f.count; payload = payload })
 failed (Some f) None = None
@@ -97,8 +99,8 @@ sweep_held s = record {
 abbrev pub closed_held : ClosedSweep → marks.ClosedSweep
 closed_held c = record { opening = opening_at c.ticket; names = c.names }
 
-abbrev pub held_mark : ℕ → ℕ → Option Ticket → Option Ticket → Option OpenSweep → Option ClosedSweep → Option FailedAppend → Mark
-held_mark draft drafter dropped expired sweep closed fault = record {
+abbrev pub held_mark : ℕ → ℕ → Option Ticket → Option Ticket → Option OpenSweep → Option ClosedSweep → Option FailedAppend → ℕ → ℕ → Option ℕ → Mark
+held_mark draft drafter dropped expired sweep closed fault format base bases = record {
   fault = fault;
   sweep = option_map (λ (s : OpenSweep). opening_at s.ticket) sweep;
   closed = option_map closed_held closed;
@@ -106,52 +108,62 @@ held_mark draft drafter dropped expired sweep closed fault = record {
   drafter = drafter;
   dropped = option_map opening_at dropped;
   expired = option_map opening_at expired;
+  format = format;
+  base = base;
+  bases = bases;
 }
+
+-- what a log starts from: a state, and what is held of the log before it
+abbrev pub opened_held : State → Start → Opened
+opened_held state s = record { state = state; draft = s.draft; drafts = s.drafts; payloads = s.payloads; faults = s.faults }
 
 abbrev pub held_open : List OpenDraft → Option OpenSweep → Open
 held_open left_open sweep = record { drafts = map draft_held left_open; sweep = option_map sweep_held sweep }
 
 -- ---- what holds of it
 
--- the keeper has the entries of the log, the oldest first, as far as its payloads are told; and it is known at which count an append failed
-pub record IsInStep {K : Type 0} (members : Ghosts K) (book : Book) (keeper : K) (fell : Option Fallen) (began : ℕ) : Type 0 where
-  pub payloads : IfSome (members.told keeper) (λ ps. ps ≡ spellings (reverse book.log))
-  pub number : members.kept keeper ≡ book.state.place
+-- the keeper's payloads stand for the log, as far as they are told; and it is known at which count an append or a rebase failed, and what is in flight then
+pub record IsInStep {K : Type 0} (members : Ghosts K) (o : Opened) (book : Book) (keeper : K) (fell : Option Fallen) : Type 0 where
+  pub payloads : IfSome (members.told keeper) (StandThrough o (reverse book.log))
+  pub number : reached members keeper ≡ book.state.place
   pub fallen : members.down keeper ≡ option_map (λ (f : Fallen). f.count) fell
-  pub later : began ≤ members.faults keeper
-  pub rose : IfSome fell (λ f. Rose began (members.faults keeper))
-  pub counted : IfSome fell (λ f. Rose began f.count × (f.count ≤ members.faults keeper))
+  pub later : o.faults ≤ members.faults keeper
+  pub rose : IfSome fell (λ f. Rose o.faults (members.faults keeper))
+  pub counted : IfSome fell (λ f. Rose o.faults f.count × (f.count ≤ members.faults keeper))
+  pub flies : IfSome fell (λ f. IfSome (members.in_flight keeper) (IsInFlight o (reverse book.log)))
 
 -- none has the number
 abbrev pub IsNumberOfNone : ℕ → List drafts.OpenDraft → Type 0
 IsNumberOfNone number [] = Unit {0}
 IsNumberOfNone number (x ∷ xs) = (x.opening.number ≡ number → ⊥) × IsNumberOfNone number xs
 
--- it has a number that was taken, and no entry of the log has it
-pub record IsWaiting (last : ℕ) (log : List LogEntry) (x : drafts.OpenDraft) : Type 0 where
-  pub above : 0 < x.opening.number
+-- it has a number that was taken since the log's start, and no entry of the log has it
+pub record IsWaiting (first last : ℕ) (log : List LogEntry) (x : drafts.OpenDraft) : Type 0 where
+  pub above : first < x.opening.number
   pub below : x.opening.number ≤ last
   pub new : draft_is_new log x.opening.number ≡ true
 
 -- so it is of each, and no two have one number
-abbrev pub AreWaiting : ℕ → List LogEntry → List drafts.OpenDraft → Type 0
-AreWaiting last log [] = Unit {0}
-AreWaiting last log (x ∷ xs) = IsWaiting last log x × IsNumberOfNone x.opening.number xs × AreWaiting last log xs
+abbrev pub AreWaiting : ℕ → ℕ → List LogEntry → List drafts.OpenDraft → Type 0
+AreWaiting first last log [] = Unit {0}
+AreWaiting first last log (x ∷ xs) = IsWaiting first last log x × IsNumberOfNone x.opening.number xs × AreWaiting first last log xs
 
--- the number was taken, and neither an entry nor an open draft has it
+-- the number was taken since the log's start, and neither an entry nor an open draft has it
 pub record IsFree {K : Type 0} (number : ℕ) (s : Stored K) : Type 0 where
-  pub above : 0 < number
+  pub above : s.opened.draft < number
   pub below : number ≤ s.book.draft
   pub new : draft_is_new s.book.log number ≡ true
   pub none : IsNumberOfNone number s.left_open.drafts
 
--- the book started from the empty catalogue and is what its log leads to, each entry legal where it stands; and so are the drafts
-pub record IsSound (book : Book) (faults : ℕ) (left_open : List drafts.OpenDraft) : Type 0 where
-  pub base : book.base ≡ first_state sha256 book.state.limits
-  pub legal : IsLegalFrom (record { state = first_state sha256 book.state.limits; draft = 0; faults = faults }) (reverse book.log)
-  pub led : (book_at (record { state = first_state sha256 book.state.limits; draft = 0; faults = faults }) (reverse book.log)).state ≡ book.state
+-- the book goes on from the log's start, which upholds what each state does, and is what its log leads to, each entry legal where it stands; and so are the drafts
+pub record IsSound (o : Opened) (book : Book) (left_open : List drafts.OpenDraft) : Type 0 where
+  pub base : book.base ≡ o.state
+  pub starts : Upholds sha256 o.state
+  pub legal : IsLegalFrom o (reverse book.log)
+  pub led : (book_at o (reverse book.log)).state ≡ book.state
+  pub above : o.draft ≤ book.draft
   pub taken : AreAtMost book.draft book.log
-  pub waiting : AreWaiting book.draft book.log left_open
+  pub waiting : AreWaiting o.draft book.draft book.log left_open
 
 -- ---- what holds of the open sweep
 
@@ -178,10 +190,11 @@ pub record HasFronts (s : OpenSweep) : Type 0 where
 abbrev pub is_headed : State → Bool
 is_headed state = heads_pass (linked.is_known state.commits) state.references
 
--- it was opened at a place that isn't after the one up to which its caller was given all, and may be logged; at each state since the opening the heads were known
+-- it was opened since the log's start, at a place that isn't after the one up to which its caller was given all, and may be logged; at each state since the opening the heads were known
 pub record IsUnderWay (book : Book) (s : OpenSweep) : Type 0 where
   pub fronts : HasFronts s
-  pub since : s.ticket.place ≤ s.drained
+  pub from : book.base.place ≤ s.ticket.place
+  pub since : s.ticket.place ≤ book.base.place + s.drained
   pub drained : s.drained ≤ length book.log
   pub few : length s.policy.cutoffs ≤ most_patterns
   pub logged : IsTrue (resolved_is_logged s.policy)

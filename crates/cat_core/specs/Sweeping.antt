@@ -1,5 +1,5 @@
 -- What is marked where a sweep is executed again, and what is known of the states that it looks back on.
-use Rattle.std.specs.Prelude.{◌≡◌, ℕ, ◌+◌, List, [], ◌∷◌, ◌++◌, drop, length, reverse, Option, Some, None, is_some, is_ok, Bool, true, false, not, ◌&&◌, ◌||◌, IsTrue}
+use Rattle.std.specs.Prelude.{◌≡◌, ℕ, ◌+◌, ◌-◌, List, [], ◌∷◌, ◌++◌, drop, length, reverse, Option, Some, None, is_some, is_ok, Bool, true, false, not, ◌&&◌, ◌||◌, IsTrue}
 use Rattle.std.specs.List.{flat_map, list_any}
 use Rattle.sha2.specs.Sha256.{sha256}
 use Rattle.cat_checks.specs.HistoryLaws.{EndsCourse}
@@ -39,9 +39,9 @@ live_if commits policy (Some r) = live_at commits policy r
 abbrev pub live_taken : Commits → Resolved → List (Option Reference) → List Hash
 live_taken commits policy taken = flat_map (live_if commits policy) taken
 
--- what is live now, what is live from the references that the entries since a sweep's opening took, and what its names keep
-abbrev pub rooted : State → List (Option Reference) → Sweep → List Hash
-rooted state taken s = live state s.policy ++ (live_taken state.commits s.policy (drop s.opened taken) ++ kept_by_names state.commits (names_in s))
+-- what is live now, what is live from the references that the entries since a sweep's opening took, which go on from a place, and what its names keep
+abbrev pub rooted : ℕ → State → List (Option Reference) → Sweep → List Hash
+rooted first state taken s = live state s.policy ++ (live_taken state.commits s.policy (drop (s.opened - first) taken) ++ kept_by_names state.commits (names_in s))
 
 -- what the sweep keeps on a book
 abbrev pub saved_on : Book → Sweep → List Hash
@@ -81,7 +81,7 @@ AreTaken state (before ∷ past) (t ∷ taken) = IsTaken before state t × AreTa
 pub record IsFollowed (numbers : List ℕ) (taken : List (Option Reference)) (book : Book) : Type 0 where
   pub drafts : AreDrafts numbers book.log
   pub ends : EndsCourse sha256 book
-  pub count : length taken ≡ book.state.place
+  pub count : book.base.place + length taken ≡ book.state.place
   pub taken_are : AreTaken book.state (past_of sha256 book) (reverse taken)
 
 -- what one more entry took stands after the others

@@ -8,14 +8,17 @@
 //! until the draft is closed. Each call answers what the model's call on the book does and leaves
 //! the book that it leaves; or is refused for want of memory or for a fault of the keeper, which
 //! leave state and log as they were. From a fault on the store only reads, and closes what is open.
-//! It is opened over a keeper of any payloads: each is executed again, and the first that is no
-//! entry or may not follow is told by its place.
+//! It is opened over a keeper of any payloads: each entry behind the base is executed again, from
+//! the base's state, and the first that has no reading or may not follow is told by its place. Its
+//! state is made the keeper's base by a checkpoint, from which the log in memory goes on.
 #![tactic(auto)]
 
+mod checkpointing;
 mod closing;
 mod counting;
 mod draft;
 mod drafting;
+mod judging;
 mod ledger;
 mod marking;
 mod opening;

@@ -1,6 +1,6 @@
 //! What sweeps keep of a catalogue.
 
-ghost use Rattle.std.specs.Prelude.{◌≡◌, ◌≤◌, IfOk, OnOk, length};
+ghost use Rattle.std.specs.Prelude.{◌≡◌, ◌≤◌, ◌+◌, IfOk, OnOk, length};
 ghost use Rattle.cat_model.specs.Base.{is_among};
 ghost use Rattle.cat_mark.specs.Marks.{AddsAll, is_marked, live_of};
 ghost use Rattle.cat_mark.specs.Walked.{HaveWalked};
@@ -41,23 +41,27 @@ pub(crate) fn mark_roots(
 }
 
 /// What is live now, what is live from the references that the entries since a sweep's opening
-/// took, and what its names keep.
+/// took, and what its names keep. The entries go on from a place.
 pub(crate) fn marks_of(
     alloc: Global,
     catalogue: &Catalogue,
+    first: u32,
     taken: &[Option<Reference>],
     sweep: &Sweep,
 ) -> Result<Marks, NoMemory>
-    requires { sweep.now.opened ≤ length taken.now }
+    requires since { first ≤ sweep.now.opened }
+    requires opened { sweep.now.opened ≤ first + length taken.now }
     ensures { IfOk result
         (λ marks. (hash : Hash)
-        → is_marked marks.set hash ≡ is_among (rooted catalogue.now taken.now sweep.now) hash) }
+        → is_marked marks.set hash
+        ≡ is_among (rooted first catalogue.now taken.now sweep.now) hash) }
 {
+    let since = (sweep.opened - first) as usize;
     let roots = roots_taken(
         alloc,
         &sweep.policy,
         catalogue.references(),
-        &taken[sweep.opened as usize..],
+        &taken[since..],
         sweep.commits.as_slice(),
         sweep.contents.as_slice(),
     )?;

@@ -1,34 +1,32 @@
 //! A log, executed again.
 
-ghost use Rattle.std.specs.Prelude.{◌≡◌, ◌≤◌, ◌<◌, ◌&&◌, ◌||◌, Some, IfOk, IsTrue, bytes_eq, length, nat_le};
-ghost use Rattle.std.specs.List.{list_all};
+ghost use Rattle.std.specs.Prelude.{◌≡◌, ◌≤◌, ◌<◌, ◌&&◌, ◌||◌, [], Ok, Some, IfOk, IsTrue, bytes_eq};
 ghost use Rattle.sha2.specs.Sha256.{sha256};
-ghost use Rattle.cat_checks.specs.Legal as legal;
-ghost use Rattle.cat_checks.specs.Legal.{draft_is_new, has_its_draft, replayed_call};
-ghost use Rattle.cat_frames.specs.Entries.{is_logged};
-ghost use Rattle.cat_graph.specs.Linked.{is_known};
+ghost use Rattle.cat_checks.specs.Legal.{draft_is_new, draft_may_come, has_its_draft, replayed_call};
+ghost use Rattle.cat_codes.specs.Code.{whole};
+ghost use Rattle.cat_frames.specs.Entries.{is_logged, log_entry_code, of_nobody};
 ghost use Rattle.cat_mark.specs.Marks.{is_marked};
 ghost use Rattle.cat_model.specs.declared.log_entry.Action.TheVariants as actions;
 ghost use Rattle.cat_model.specs.Base.{is_among};
-ghost use Rattle.cat_model.specs.Book.{first_book};
 ghost use Rattle.cat_model.specs.State.{reference_of};
 ghost use Rattle.cat_model.specs.WellMade.{is_well_made};
 ghost use Rattle.cat_names.specs.declared.hash.Hash.{Hash};
 ghost use Rattle.cat_state.specs.Kept.{spelling};
 ghost use Rattle.cat_core.specs.Opening as opening;
-ghost use Rattle.cat_core.specs.Opening.{Adds, AreDrafts, IsMadeAgain, NewestIsLogged, ReadsAs, RunsAgain};
+ghost use Rattle.cat_core.specs.Opening.{Adds, AreDrafts, NewestIsLogged, ReadsAs, ReadsNewest, RunsAgain};
+ghost use Rattle.cat_core.specs.Replays.{replayed_from};
 ghost use Rattle.cat_core.specs.Sweeping as sweeping;
 ghost use Rattle.cat_core.specs.Sweeping.{AreRemoved, IsFollowed, Removes, TakesOne, name_in, saved_on};
 
+use crate::judging::may_be_done;
 use crate::ledger::Ledger;
 use crate::marking::marks_of;
-use cat_checks::commands::is_well_made;
+use crate::tickets::Start;
 use cat_checks::drafts::has_its_draft;
 use cat_codes::fault::{FieldFault, NoMemory};
 use cat_frames::{from_bytes, to_bytes};
 use cat_mark::Marks;
 use cat_model::command::Command;
-use cat_model::limits::Limits;
 use cat_model::log_entry::{Action, LogEntry};
 use cat_model::reference::Reference;
 use cat_model::sweep::Sweep;
@@ -40,13 +38,12 @@ use cat_state::shared::SharedCatalogue;
 use std::alloc::Global;
 use std::collections::HashSet;
 
-/// The most patterns of a sweep's policy.
-const MOST_PATTERNS: usize = 1_000;
-
-/// A ledger that the payloads of a log led to, and the draft numbers of its entries.
+/// A ledger that the payloads of a log led to, what is held of the log before it, and the draft
+/// numbers of its entries.
 #[derive(Drop)]
 pub(crate) struct Replay {
     pub(crate) ledger: Ledger,
+    pub(crate) start: Start,
     pub(crate) drafts: HashSet<u64>,
     /// Of each entry the reference that it moved or removed, as it was before, so that a sweep
     /// finds what was live since its opening. None for an entry that made a reference, and for a
@@ -96,19 +93,25 @@ fn run_again(
     }
 }
 
-/// Whether an entry is spelled so.
+/// Whether an entry is spelled so. What is, is read back as the entry, of nobody.
+#[tactic(auto, using(crate::proofs::Following::read_alike))]
 fn is_spelled(alloc: Global, entry: &LogEntry, payload: &[u8]) -> Result<bool, NoMemory>
     requires { IsTrue (is_logged sha256 entry.now) }
-    ensures { IfOk result (λ b. b ≡ bytes_eq (spelling entry.now) payload.now) }
+    ensures spelled { IfOk result (λ b. b ≡ bytes_eq (spelling entry.now) payload.now) }
+    ensures read { IfOk result
+        (λ b. IsTrue b
+        → whole (log_entry_code sha256) payload.now ≡ Ok (of_nobody entry.now)) }
 {
     let bytes = to_bytes(alloc, entry)?;
     Ok(bytes.as_slice() == payload)
 }
 
 /// Whether the newest entry of the log is spelled so.
+#[tactic(auto, using(crate::proofs::Following::newest_read))]
 fn is_newest(alloc: Global, ledger: &Ledger, payload: &[u8]) -> Result<bool, NoMemory>
     requires { NewestIsLogged ledger.now.log }
-    ensures { IfOk result (λ b. b ≡ opening.is_newest ledger.now.log payload.now) }
+    ensures newest { IfOk result (λ b. b ≡ opening.is_newest ledger.now.log payload.now) }
+    ensures read { IfOk result (λ b. IsTrue b → ReadsNewest ledger.now.log payload.now) }
 {
     match ledger.last() {
         None => Ok(false),
@@ -141,38 +144,6 @@ fn reference_in(catalogue: &Catalogue, command: &Command) -> Result<Option<Refer
     }
 }
 
-/// Whether each of the hashes is known.
-fn are_known(catalogue: &Catalogue, hashes: &[Hash]) -> bool
-    ensures { result ≡ list_all (is_known catalogue.now.commits) hashes.now }
-{
-    for hash in hashes {
-        if !catalogue.commits().is_known(hash) {
-            return false;
-        }
-    }
-    true
-}
-
-/// Whether a sweep may be logged.
-fn may_be_swept(ledger: &Ledger, sweep: &Sweep) -> bool
-    ensures { result ≡ legal.may_be_swept sha256 ledger.now sweep.now }
-{
-    ledger.starts_empty();
-    sweep.opened <= ledger.place()
-        && are_known(ledger.catalogue(), sweep.commits.as_slice())
-        && sweep.policy.cutoffs.len() <= MOST_PATTERNS
-}
-
-/// Whether an action may be logged.
-fn may_be_done(alloc: Global, ledger: &Ledger, action: &Action) -> Result<bool, NoMemory>
-    ensures { IfOk result (λ b. b ≡ legal.may_be_done sha256 ledger.now action.now) }
-{
-    match action {
-        Action::Call(command) => is_well_made(alloc, command),
-        Action::Sweep(sweep) => Ok(may_be_swept(ledger, sweep)),
-    }
-}
-
 /// Whether there is room for a sweep: for an entry, and for so many names in it.
 fn has_room(catalogue: &Catalogue, sweep: &Sweep) -> bool
     ensures { result ≡ sweeping.has_room catalogue.now sweep.now }
@@ -185,20 +156,31 @@ fn has_room(catalogue: &Catalogue, sweep: &Sweep) -> bool
 }
 
 impl Replay {
-    /// The ledger of an empty catalogue.
-    pub(crate) fn new(alloc: Global, limits: Limits) -> Result<Replay, NoMemory>
-        requires log { limits.log ≤ 4294967295 }
-        requires commits { limits.commits ≤ 4294967295 }
-        ensures ledger { IfOk result (λ replay. replay.ledger ≡ first_book sha256 limits) }
+    /// A ledger without entries, and what is held of the log before it.
+    pub(crate) fn new(alloc: Global, ledger: Ledger, start: Start) -> Result<Replay, NoMemory>
+        requires none { ledger.log ≡ [] }
+        requires here { ledger.base ≡ ledger.state }
+        ensures ledger { IfOk result (λ replay. replay.ledger ≡ ledger) }
+        ensures start { IfOk result (λ replay. replay.start ≡ start) }
         ensures followed { IfOk result
             (λ replay. IsFollowed replay.drafts.keys replay.taken.items replay.ledger) }
     {
+        let spare = SharedCatalogue::new(alloc, ledger.catalogue().limits())?;
         Ok(Replay {
-            ledger: Ledger::new(alloc, limits)?,
+            ledger,
+            start,
             drafts: HashSet::new(alloc),
             taken: Vec::new(alloc),
-            spare: SharedCatalogue::new(alloc, limits)?,
+            spare,
         })
+    }
+
+    /// Whether the number is 0 or above the last one before the log, or a draft of it was open
+    /// then.
+    fn may_come(&self, draft: u64) -> bool
+        ensures { result ≡ draft_may_come (replayed_from self.now) draft }
+    {
+        draft == 0 || self.start.draft < draft || self.start.drafts.as_slice().contains(&draft)
     }
 
     /// Whether the number is 0, or no entry has it.
@@ -212,10 +194,12 @@ impl Replay {
     /// Whether the entry may follow, but for what its action brings.
     fn may_follow(&self, alloc: Global, entry: &LogEntry) -> Result<bool, NoMemory>
         requires { AreDrafts self.now.drafts.keys self.now.ledger.log }
-        ensures { IfOk result (λ b. b ≡ opening.may_follow self.now.ledger entry.now) }
+        ensures { IfOk result
+            (λ b. b ≡ opening.may_follow (replayed_from self.now) self.now.ledger entry.now) }
     {
         Ok(
-            may_be_done(alloc, &self.ledger, &entry.action)?
+            self.may_come(entry.draft)
+                && may_be_done(alloc, &self.ledger, &entry.action)?
                 && has_its_draft(entry)
                 && self.is_new(entry.draft),
         )
@@ -239,6 +223,7 @@ impl Replay {
             (λ ran. IsTrue ran
             → TakesOne self.old.ledger self.new.ledger self.old.taken.items self.new.taken.items) }
         ensures drafts { self.new.drafts ≡ self.old.drafts }
+        ensures start { self.new.start ≡ self.old.start }
     {
         let references = self.ledger.catalogue().references();
         references.known();
@@ -253,6 +238,7 @@ impl Replay {
     /// What a sweep keeps, as marks.
     fn marks(&self, alloc: Global, sweep: &Sweep) -> Result<Marks, NoMemory>
         requires followed { IsFollowed self.now.drafts.keys self.now.taken.items self.now.ledger }
+        requires since { self.now.ledger.base.place ≤ sweep.now.opened }
         requires opened { sweep.now.opened ≤ self.now.ledger.state.place }
         ensures { IfOk result
             (λ marks. (hash : Hash)
@@ -261,12 +247,19 @@ impl Replay {
         let catalogue = self.ledger.catalogue();
         let _ = catalogue.commits();
         let _ = catalogue.references();
-        marks_of(alloc, catalogue, self.taken.as_slice(), sweep)
+        marks_of(
+            alloc,
+            catalogue,
+            self.ledger.first(),
+            self.taken.as_slice(),
+            sweep,
+        )
     }
 
     /// The hashes of the contents that a sweep removes.
     fn removed(&self, alloc: Global, sweep: &Sweep) -> Result<Vec<Hash>, NoMemory>
         requires followed { IsFollowed self.now.drafts.keys self.now.taken.items self.now.ledger }
+        requires since { self.now.ledger.base.place ≤ sweep.now.opened }
         requires opened { sweep.now.opened ≤ self.now.ledger.state.place }
         ensures { IfOk result
             (λ hashes. AreRemoved self.now.ledger sweep.now hashes.items) }
@@ -292,6 +285,7 @@ impl Replay {
             (λ ran. IsTrue ran
             → TakesOne self.old.ledger self.new.ledger self.old.taken.items self.new.taken.items) }
         ensures drafts { self.new.drafts ≡ self.old.drafts }
+        ensures start { self.new.start ≡ self.old.start }
     {
         let catalogue = self.ledger.catalogue();
         let _ = catalogue.limits();
@@ -314,7 +308,8 @@ impl Replay {
     /// Executes an entry again: whether it brings an entry.
     fn run(&mut self, alloc: Global, entry: LogEntry) -> Result<bool, NoMemory>
         requires followed { IsFollowed self.old.drafts.keys self.old.taken.items self.old.ledger }
-        requires may { IsTrue (opening.may_follow self.old.ledger entry) }
+        requires may { IsTrue
+            (opening.may_follow (replayed_from self.old) self.old.ledger entry) }
         ensures runs { IfOk result
             (RunsAgain (replayed_call sha256 self.old.ledger entry) self.old.ledger
             self.new.ledger) }
@@ -322,6 +317,7 @@ impl Replay {
             (λ ran. IsTrue ran
             → TakesOne self.old.ledger self.new.ledger self.old.taken.items self.new.taken.items) }
         ensures drafts { self.new.drafts ≡ self.old.drafts }
+        ensures start { self.new.start ≡ self.old.start }
     {
         match &entry.action {
             Action::Call(command) => {
@@ -349,8 +345,12 @@ impl Replay {
     fn follow(&mut self, alloc: Global, entry: LogEntry, payload: &[u8]) -> Result<bool, NoMemory>
         requires followed { IsFollowed self.old.drafts.keys self.old.taken.items self.old.ledger }
         requires reads { ReadsAs payload.now (Some entry) }
-        requires may { IsTrue (opening.may_follow self.old.ledger entry) }
-        ensures adds { IfOk result (Adds self.old.ledger self.new.ledger payload.now) }
+        requires may { IsTrue
+            (opening.may_follow (replayed_from self.old) self.old.ledger entry) }
+        ensures adds { IfOk result
+            (Adds (replayed_from self.old) self.old.ledger self.new.ledger payload.now) }
+        ensures from { IfOk result
+            (λ added. IsTrue added → replayed_from self.new ≡ replayed_from self.old) }
         ensures followed { IfOk result
             (λ added. IsTrue added
             → IsFollowed self.new.drafts.keys self.new.taken.items self.new.ledger) }
@@ -370,7 +370,10 @@ impl Replay {
     /// follow.
     pub(crate) fn add(&mut self, alloc: Global, payload: &[u8]) -> Result<bool, NoMemory>
         requires followed { IsFollowed self.old.drafts.keys self.old.taken.items self.old.ledger }
-        ensures adds { IfOk result (Adds self.old.ledger self.new.ledger payload.now) }
+        ensures adds { IfOk result
+            (Adds (replayed_from self.old) self.old.ledger self.new.ledger payload.now) }
+        ensures from { IfOk result
+            (λ added. IsTrue added → replayed_from self.new ≡ replayed_from self.old) }
         ensures followed { IfOk result
             (λ added. IsTrue added
             → IsFollowed self.new.drafts.keys self.new.taken.items self.new.ledger) }

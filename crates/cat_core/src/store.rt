@@ -1,6 +1,6 @@
 //! The store.
 
-ghost use Rattle.std.specs.Prelude.{ℕ, ◌≡◌, ◌≢◌, ◌≤◌, [], Some, None, length, reverse, IfErr, IfOk, IfSome, IsTrue, MatchResult};
+ghost use Rattle.std.specs.Prelude.{ℕ, List, ◌≡◌, ◌≢◌, ◌≤◌, [], ◌∷◌, ◌++◌, Some, None, length, reverse, IfErr, IfOk, IfSome, IsTrue, MatchResult};
 ghost use Rattle.std.specs.Option.{option_map};
 ghost use Rattle.sha2.specs.Sha256.{sha256};
 ghost use Rattle.cat_checks.specs.Histories.{IsLegalFrom, book_at};
@@ -9,21 +9,27 @@ ghost use Rattle.cat_model.specs.Book.{Reads, first_book};
 ghost use Rattle.cat_model.specs.Chain.{entries};
 ghost use Rattle.cat_model.specs.Drafts.{nothing_open};
 ghost use Rattle.cat_model.specs.Maps.{entry_of};
-ghost use Rattle.cat_model.specs.Mark.{FailedAppend, no_mark};
+ghost use Rattle.cat_model.specs.declared.log_entry.LogEntry.{LogEntry};
+ghost use Rattle.cat_model.specs.Mark.{FailedAppend, new_mark};
+ghost use Rattle.cat_model.specs.Turns.{Opened};
 ghost use Rattle.cat_model.specs.Namespaces.{is_well_formed};
+ghost use Rattle.cat_frames.specs.Bases.{from_nothing};
 ghost use Rattle.cat_io.specs.Causes.{Rose};
+ghost use Rattle.cat_keeper.specs.Bases.{bases_in};
+ghost use Rattle.cat_keeper.specs.Keeping.{is_format};
 ghost use Rattle.cat_state.specs.Counting.{main_head};
-ghost use Rattle.cat_state.specs.Kept.{Stayed, spellings};
+ghost use Rattle.cat_state.specs.Kept.{Stayed, reached};
 ghost use Rattle.cat_core.specs.Lasting.{AreLasting, IsHolding};
 ghost use Rattle.cat_core.specs.Opening.{IsIllegalAt, IsLedTo};
+ghost use Rattle.cat_core.specs.Records.{GoesOn, StandFlown, StandFor, StandThrough};
 ghost use Rattle.cat_graph.specs.Linked.{AreLinked};
-ghost use Rattle.cat_core.specs.Stored.{IsMarked, IsSound, KnowsNames, MayBeDown, is_headed, log_of, opened_of};
+ghost use Rattle.cat_core.specs.Stored.{IsMarked, IsSound, KnowsNames, MayBeDown, is_headed, log_of, opened_held, opened_of};
 ghost use Rattle.cat_core.specs.Sweeps.{MayBeClosed};
 ghost use Rattle.cat_core.specs.Whole.{HasHeads, HasVisible};
 
 use crate::ledger::Ledger;
 use crate::opening::{StoreFault, led_to};
-use crate::tickets::{ClosedSweep, Fallen, OpenDraft, OpenSweep, Ticket};
+use crate::tickets::{ClosedSweep, Fallen, OpenDraft, OpenSweep, Start, Ticket};
 use cat_codes::fault::NoMemory;
 use cat_keeper::Keeper;
 use cat_model::ask::Ask;
@@ -39,8 +45,8 @@ use std::alloc::Global;
 use std::marker::Model;
 
 /// A catalogue in memory, what keeps the entries that led to it, and the drafts that are open. Each
-/// entry is kept before its change is seen. After an append that fails the store is down: it reads
-/// on, and makes no call.
+/// entry is kept before its change is seen. After an append or a checkpoint that fails the store is
+/// down: it reads on, and makes no call.
 #[derive(Drop)]
 pub struct Store<K: Keeper> {
     pub(crate) ledger: Ledger,
@@ -52,14 +58,15 @@ pub struct Store<K: Keeper> {
     pub(crate) drafts: Vec<OpenDraft>,
     pub(crate) sweep: Option<OpenSweep>,
     pub(crate) closed: Option<ClosedSweep>,
-    began: u64,
+    pub(crate) start: Start,
 }
 
 impl<K: Keeper> Model for Store<K> {
     ghost use Rattle.std.specs.Prelude.{map};
     ghost use Rattle.std.specs.Option.{option_map};
+    ghost use Rattle.cat_keeper.specs.Bases.{bases_in};
     ghost use Rattle.cat_core.specs.Lasting.{IsHolding};
-    ghost use Rattle.cat_core.specs.Stored.{IsInStep, IsSound, IsSwept, Stored, draft_held, failed, held_mark, held_open, sweep_held};
+    ghost use Rattle.cat_core.specs.Stored.{IsInStep, IsSound, IsSwept, Stored, draft_held, failed, held_mark, held_open, opened_held, sweep_held};
 
     ghost Value = { Stored K };
 
@@ -67,13 +74,15 @@ impl<K: Keeper> Model for Store<K> {
       book = s.ledger;
       keeper = s.keeper;
       mark = held_mark s.ledger.draft s.drafter s.dropped s.expired s.sweep s.closed
-          (failed s.fallen (K.in_flight s.keeper));
+          (failed s.fallen (K.in_flight s.keeper)) (K.form s.keeper) (K.start s.keeper)
+          (bases_in (K.told s.keeper));
       left_open = held_open s.drafts.items s.sweep;
-      began = s.began;
+      opened = opened_held s.ledger.base s.start;
     } };
 
-    ghost invariant = { λ s. IsInStep K.Keeper s.ledger s.keeper s.fallen s.began
-        × IsSound s.ledger s.began (map draft_held s.drafts.items)
+    ghost invariant = { λ s. IsInStep K.Keeper (opened_held s.ledger.base s.start) s.ledger s.keeper
+        s.fallen
+        × IsSound (opened_held s.ledger.base s.start) s.ledger (map draft_held s.drafts.items)
         × IsSwept s.ledger (map draft_held s.drafts.items) s.sweep s.closed
         × IsHolding s.ledger (map draft_held s.drafts.items) (option_map sweep_held s.sweep) };
 }
@@ -95,25 +104,31 @@ impl<K: Keeper> Logged for Store<K> {
     fn count(&self) -> u32 {
         self.ledger.place()
     }
+
+    fn first(&self) -> u32 {
+        self.ledger.first()
+    }
 }
 
 impl<K: Keeper> Store<K> {
     /// The store of a ledger over its keeper, without a draft.
-    fn over(alloc: Global, ledger: Ledger, keeper: K) -> Store<K>
-        requires payloads { IfSome (K.told keeper) (λ ps. ps ≡ spellings (reverse ledger.log)) }
-        requires number { K.kept keeper ≡ ledger.state.place }
+    fn over(alloc: Global, ledger: Ledger, start: Start, keeper: K) -> Store<K>
+        requires payloads { IfSome (K.told keeper)
+            (StandThrough (opened_held ledger.base start) (reverse ledger.log)) }
+        requires number { reached K.Keeper keeper ≡ ledger.state.place }
         requires up { K.down keeper ≡ None }
-        requires sound { (faults : ℕ) → IsSound ledger faults [] }
+        requires began { start.faults ≡ K.faults keeper }
+        requires sound { IsSound (opened_held ledger.base start) ledger [] }
         ensures { result
             ≡ record {
               book = ledger;
               keeper = keeper;
-              mark = record no_mark { draft = ledger.draft };
+              mark = new_mark ledger.draft (K.form keeper) (K.start keeper)
+                  (bases_in (K.told keeper));
               left_open = nothing_open;
-              began = K.faults keeper;
+              opened = opened_held ledger.base start;
             } }
     {
-        let began = keeper.fault_count();
         Store {
             ledger,
             keeper,
@@ -124,7 +139,7 @@ impl<K: Keeper> Store<K> {
             drafts: Vec::new(alloc),
             sweep: None,
             closed: None,
-            began,
+            start,
         }
     }
 
@@ -133,7 +148,7 @@ impl<K: Keeper> Store<K> {
     pub fn new(alloc: Global, keeper: K, limits: Limits) -> Result<Store<K>, (K, NoMemory)>
         requires log { limits.log ≤ 4294967295 }
         requires commits { limits.commits ≤ 4294967295 }
-        requires none_kept { K.kept keeper ≡ 0 }
+        requires none_kept { reached K.Keeper keeper ≡ 0 }
         requires none_told { IfSome (K.told keeper) (λ ps. ps ≡ []) }
         requires up { K.down keeper ≡ None }
         ensures ok { IfOk result
@@ -141,30 +156,40 @@ impl<K: Keeper> Store<K> {
             ≡ record {
               book = first_book sha256 limits;
               keeper = keeper;
-              mark = no_mark;
+              mark = new_mark 0 (K.form keeper) (K.start keeper) (bases_in (K.told keeper));
               left_open = nothing_open;
-              began = K.faults keeper;
+              opened = from_nothing limits 0 (K.faults keeper);
             }) }
         ensures err { IfErr result (λ e. e.0 ≡ keeper) }
     {
+        let start = Start::empty(alloc, 0, keeper.fault_count());
         match Ledger::new(alloc, limits) {
-            Ok(ledger) => Ok(Store::over(alloc, ledger, keeper)),
+            Ok(ledger) => Ok(Store::over(alloc, ledger, start, keeper)),
             Err(fault) => Err((keeper, fault)),
         }
     }
 
-    /// Executes every entry of the keeper again: the store of the catalogue that they lead to. With
-    /// each fault the keeper comes back.
+    /// Executes every entry of the keeper again that stands behind its base: the store of the
+    /// catalogue that they lead to, from the base's, or from the empty one. `Illegal` of the base's
+    /// place exactly where no log may start from it: where it isn't as each catalogue is that
+    /// entries lead to, or passes a limit. With each fault the keeper comes back.
     pub fn open(alloc: Global, keeper: K, limits: Limits) -> Result<Store<K>, (K, StoreFault)>
         requires log { limits.log ≤ 4294967295 }
         requires commits { limits.commits ≤ 4294967295 }
         requires up { K.down keeper ≡ None }
         ensures opened { IfOk result
-            (λ store. IsLedTo (K.told keeper) (K.kept keeper) limits store.book) }
+            (λ store. IsLedTo (K.told keeper) (K.kept keeper) limits store.opened store.book) }
+        ensures same { IfOk result
+            (λ store. (o : Opened) (log : List LogEntry) → o.state.limits ≡ limits
+            → IfSome (K.told keeper) (StandFor o log)
+            → IfSome (K.told keeper) (λ _. GoesOn o log store.opened (log_of store))) }
         ensures mark { IfOk result
-            (λ store. store.mark ≡ record no_mark { draft = store.book.draft }) }
+            (λ store. store.mark
+            ≡ new_mark store.book.draft (K.form keeper) (K.start keeper)
+            (bases_in (K.told keeper))) }
         ensures none { IfOk result (λ store. store.left_open ≡ nothing_open) }
-        ensures began { IfOk result (λ store. store.began ≡ K.faults store.keeper) }
+        ensures place { IfOk result (λ store. store.opened.state.place ≡ K.start keeper) }
+        ensures began { IfOk result (λ store. store.opened.faults ≡ K.faults store.keeper) }
         ensures stays { MatchResult result
             (λ store. Stayed K.Keeper keeper store.keeper)
             (λ e. Stayed K.Keeper keeper e.0) }
@@ -178,7 +203,7 @@ impl<K: Keeper> Store<K> {
     {
         let mut keeper = keeper;
         match led_to(alloc, &mut keeper, limits) {
-            Ok(ledger) => Ok(Store::over(alloc, ledger, keeper)),
+            Ok((ledger, start)) => Ok(Store::over(alloc, ledger, start, keeper)),
             Err(fault) => Err((keeper, fault)),
         }
     }
@@ -244,7 +269,11 @@ impl<K: Keeper> Store<K> {
 
     /// What holds of the book and of the drafts beside it.
     pub(crate) fn is_sound(&self)
-        ensures sound { IsSound self.now.book self.now.began self.now.left_open.drafts }
+        ensures sound { IsSound self.now.opened self.now.book self.now.left_open.drafts }
+        ensures base { self.now.mark.base ≡ K.start self.now.keeper }
+        ensures bases { self.now.mark.bases ≡ bases_in (K.told self.now.keeper) }
+        ensures format { self.now.mark.format ≡ K.form self.now.keeper }
+        ensures formed { IsTrue (is_format self.now.mark.format) }
         ensures draft { self.now.mark.draft ≡ self.now.book.draft }
         ensures sweep { IsMarked self.now.mark self.now.left_open.sweep }
         ensures closes { MayBeClosed self.now.book self.now.left_open.sweep }
@@ -284,21 +313,29 @@ impl<K: Keeper> Store<K> {
         let _ = catalogue.references();
     }
 
-    /// What holds of the keeper: it has the entries of the log, the oldest first, and the mark
-    /// tells of its failed append.
+    /// What holds of the keeper: its payloads stand for the log, and the mark tells of its bases and
+    /// of its failed append or rebase. With the payload that this left in flight they stand for the
+    /// log, or for it and one entry more.
     pub fn log_is_kept(&self)
         ensures payloads { IfSome (K.told self.now.keeper)
-            (λ ps. ps ≡ spellings (log_of self.now)) }
-        ensures number { K.kept self.now.keeper ≡ self.now.book.state.place }
+            (StandThrough self.now.opened (log_of self.now)) }
+        ensures number { reached K.Keeper self.now.keeper ≡ self.now.book.state.place }
+        ensures base { self.now.mark.base ≡ K.start self.now.keeper }
+        ensures bases { self.now.mark.bases ≡ bases_in (K.told self.now.keeper) }
+        ensures format { self.now.mark.format ≡ K.form self.now.keeper }
         ensures fallen { K.down self.now.keeper
             ≡ option_map (λ (x : FailedAppend). x.count) self.now.mark.fault }
         ensures flies { K.in_flight self.now.keeper
             ≡ option_map (λ (x : FailedAppend). x.payload) self.now.mark.fault }
-        ensures later { self.now.began ≤ K.faults self.now.keeper }
+        ensures flown { (x : FailedAppend) → self.now.mark.fault ≡ Some x
+            → IfSome (K.told self.now.keeper)
+            (λ ps. StandFlown self.now.opened (log_of self.now) x.payload
+            (ps ++ x.payload ∷ [])) }
+        ensures later { self.now.opened.faults ≤ K.faults self.now.keeper }
         ensures rose { (x : FailedAppend) → self.now.mark.fault ≡ Some x
-            → Rose self.now.began (K.faults self.now.keeper) }
+            → Rose self.now.opened.faults (K.faults self.now.keeper) }
         ensures counted { (x : FailedAppend) → self.now.mark.fault ≡ Some x
-            → Rose self.now.began x.count × (x.count ≤ K.faults self.now.keeper) }
+            → Rose self.now.opened.faults x.count × (x.count ≤ K.faults self.now.keeper) }
     {
         let _ = &self.fallen;
     }

@@ -47,6 +47,14 @@ fn behind(hashes: &[Hash], first: usize) -> &[Hash]
 }
 
 impl<K: Keeper> Store<K> {
+    /// How many entries the log has.
+    fn entries(&self) -> u32
+        ensures { result ≡ length self.now.book.log }
+    {
+        self.is_sound();
+        self.ledger.place() - self.ledger.first()
+    }
+
     /// The number of the sweep that was closed last, 0 where there is none.
     fn last_closed(&self) -> u64
         ensures { result ≡ closed_number self.now.mark.closed }
@@ -105,7 +113,7 @@ impl<K: Keeper> Store<K> {
             given_contents: contents.len(),
             commits,
             contents,
-            drained: ticket.place,
+            drained: self.entries(),
         });
         Ok((Sweep { ticket }, roots, view))
     }
@@ -175,9 +183,9 @@ impl<K: Keeper> Store<K> {
               };
             } }
     {
-        let place = self.ledger.place();
+        let entries = self.entries();
         if let Some(open) = &mut self.sweep {
-            open.drained = place;
+            open.drained = entries;
             open.given_commits = open.commits.len();
             open.given_contents = open.contents.len();
         }

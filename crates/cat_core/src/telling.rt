@@ -1,14 +1,14 @@
 //! What is told of calls.
 
 ghost use Rattle.std.specs.Prelude.{◌≡◌, None, Some};
-ghost use Rattle.cat_core.specs.Made.{fallen_by, told_at};
+ghost use Rattle.cat_core.specs.Made.{based_at, fallen_by, told_at};
 ghost use Rattle.cat_model.specs.declared.refusal.Refusal.TheVariants as refusals;
 
 use crate::ledger::refused;
 use crate::tickets::Fallen;
 use cat_keeper::Keeper;
 use cat_model::refusal::{Refusal, Refused};
-use cat_model::reply::Told;
+use cat_model::reply::{Reply, Told};
 use cat_state::unmade::Unmade;
 
 /// The refusal for want of memory.
@@ -31,6 +31,16 @@ pub(crate) fn down_at(place: u32, count: u64) -> Refused
     }
 }
 
+/// The refusal at a place, since the journal is of an old format.
+pub(crate) fn old_format_at(place: u32) -> Refused
+    ensures { result ≡ record { place = Some place; why = refusals.OldFormat } }
+{
+    Refused {
+        place: Some(place),
+        why: Refusal::OldFormat,
+    }
+}
+
 /// The refusal at a place, since a sweep is open that was opened at another.
 pub(crate) fn sweep_open_at(place: u32, opened: u32) -> Refused
     ensures { result ≡ record { place = Some place; why = refusals.SweepOpen opened } }
@@ -38,6 +48,19 @@ pub(crate) fn sweep_open_at(place: u32, opened: u32) -> Refused
     Refused {
         place: Some(place),
         why: Refusal::SweepOpen(opened),
+    }
+}
+
+/// What is told of a checkpoint at a place, which makes no entry.
+pub(crate) fn checkpoint_at(place: u32, kept: Result<(), Unmade>) -> Result<Told, Unmade>
+    ensures { result ≡ based_at place kept }
+{
+    match kept {
+        Ok(()) => Ok(Told {
+            place,
+            reply: Reply::Checkpoint(place),
+        }),
+        Err(why) => Err(why),
     }
 }
 

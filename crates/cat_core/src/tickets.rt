@@ -1,11 +1,38 @@
 //! What is kept of drafts and sweeps beside the log.
 
-ghost use Rattle.std.specs.Prelude.{◌≡◌, map};
+ghost use Rattle.std.specs.Prelude.{◌≡◌, [], map};
 ghost use Rattle.cat_core.specs.Drafts.{without};
 ghost use Rattle.cat_core.specs.Stored.{draft_held, opening_at};
 
+use cat_codes::seq::Seq;
 use cat_model::cutoff::Resolved;
 use cat_names::hash::Hash;
+use std::alloc::Global;
+
+/// What is held of the log before the store's: its greatest draft number, and those below it of the
+/// drafts that were open there, how many payloads the keeper had, and how many faults it had
+/// counted.
+#[derive(Drop)]
+pub(crate) struct Start {
+    pub(crate) draft: u64,
+    pub(crate) drafts: Seq<u64>,
+    pub(crate) payloads: u64,
+    pub(crate) faults: u64,
+}
+
+impl Start {
+    /// What is held where there was no log before.
+    pub(crate) fn empty(alloc: Global, payloads: u64, faults: u64) -> Start
+        ensures { result ≡ record { draft = 0; drafts = []; payloads = payloads; faults = faults } }
+    {
+        Start {
+            draft: 0,
+            drafts: Seq::new(alloc),
+            payloads,
+            faults,
+        }
+    }
+}
 
 /// A draft's or a sweep's number, its caller, and the place of its opening.
 #[derive(Clone, Copy)]
@@ -31,7 +58,7 @@ pub(crate) struct OpenSweep {
     pub(crate) policy: Resolved,
     pub(crate) commits: Vec<Hash>,
     pub(crate) contents: Vec<Hash>,
-    /// Its caller was given what so many entries of the log made, so many of the commits, and so
+    /// Its caller was given what so many entries of the log made, the oldest, so many of the commits, and so
     /// many of the contents.
     pub(crate) drained: u32,
     pub(crate) given_commits: usize,
@@ -45,7 +72,7 @@ pub(crate) struct ClosedSweep {
     pub(crate) names: u64,
 }
 
-/// Whose append failed, and at which count of faults.
+/// Whose append or checkpoint failed, and at which count of faults.
 #[derive(Clone, Copy)]
 pub(crate) struct Fallen {
     pub(crate) caller: u32,

@@ -6,7 +6,7 @@ ghost use Rattle.cat_model.specs.Book.{Reads, call_on};
 ghost use Rattle.cat_model.specs.Step.{opens_draft};
 ghost use Rattle.cat_model.specs.WellMade.{is_well_made};
 ghost use Rattle.cat_state.specs.Adding.{IsAbove};
-ghost use Rattle.cat_state.specs.Kept.{Keeps};
+ghost use Rattle.cat_state.specs.Kept.{Keeps, reached};
 ghost use Rattle.cat_core.specs.Making.{Runs, refused_at};
 
 use crate::ledger::Ledger;
@@ -72,11 +72,11 @@ impl Ledger {
         requires well_made { IsTrue (is_well_made sha256 command.now) }
         requires none { opens_draft command.now ≡ false }
         requires up { K.down keeper.old ≡ None }
-        requires kept { K.kept keeper.old ≡ self.old.state.place }
+        requires kept { reached K.Keeper keeper.old ≡ self.old.state.place }
         ensures call { Runs (call_on sha256 caller self.old command.now moment) self.old self.new
             result }
         ensures later { IsAbove self.old.state.commits self.new.state.commits }
-        ensures kept { K.kept keeper.new ≡ self.new.state.place }
+        ensures kept { reached K.Keeper keeper.new ≡ self.new.state.place }
         ensures keeps { Keeps K.Keeper keeper.old keeper.new
             (call_on sha256 caller self.old command.now moment).logged result }
     {

@@ -3,7 +3,7 @@
 ghost use Rattle.std.specs.Prelude.{◌≡◌, None, false, IfErr};
 ghost use Rattle.cat_model.specs.declared.command.Command.{Command};
 ghost use Rattle.cat_state.specs.Adding.{IsAbove};
-ghost use Rattle.cat_state.specs.Kept.{Keeps};
+ghost use Rattle.cat_state.specs.Kept.{Keeps, reached};
 ghost use Rattle.cat_core.specs.Deciding.{IsDecided};
 ghost use Rattle.cat_core.specs.Making.{Runs};
 ghost use Rattle.cat_core.specs.Turns.{turned};
@@ -39,11 +39,11 @@ impl Ledger {
     ) -> Result<Told, Unmade>
         requires decided { (command : Command) × IsDecided self.old turn command decided }
         requires up { K.down keeper.old ≡ None }
-        requires kept { K.kept keeper.old ≡ self.old.state.place }
+        requires kept { reached K.Keeper keeper.old ≡ self.old.state.place }
         ensures call { (command : Command) → IsDecided self.old turn command decided
             → Runs (turned self.old turn command) self.old self.new result }
         ensures later { IsAbove self.old.state.commits self.new.state.commits }
-        ensures kept { K.kept keeper.new ≡ self.new.state.place }
+        ensures kept { reached K.Keeper keeper.new ≡ self.new.state.place }
         ensures keeps { (command : Command) → IsDecided self.old turn command decided
             → Keeps K.Keeper keeper.old keeper.new (turned self.old turn command).logged result }
     {

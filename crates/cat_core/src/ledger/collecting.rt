@@ -7,7 +7,7 @@ ghost use Rattle.cat_frames.specs.Sweeps.{sweep_is_logged};
 ghost use Rattle.cat_mark.specs.Walked.{HaveWalked};
 ghost use Rattle.cat_model.specs.Sweeps.{needs_sweep_room};
 ghost use Rattle.cat_state.specs.Adding.{IsAbove};
-ghost use Rattle.cat_state.specs.Kept.{IsUnrefused, Keeps};
+ghost use Rattle.cat_state.specs.Kept.{IsUnrefused, Keeps, reached};
 ghost use Rattle.cat_state.specs.Sweeping.{spares_at, sweeping};
 ghost use Rattle.cat_tables.specs.References.{heads_pass};
 ghost use Rattle.cat_core.specs.Making.{Runs, with_entry};
@@ -91,12 +91,12 @@ impl Ledger {
             (heads_pass (spares_at self.old.state.commits hashes.now) self.old.state.references) }
         requires logged { IsTrue (is_logged sha256 entry) }
         requires up { K.down keeper.old ≡ None }
-        requires kept { K.kept keeper.old ≡ self.old.state.place }
+        requires kept { reached K.Keeper keeper.old ≡ self.old.state.place }
         ensures ok { OnOk result
             (self.new ≡ with_entry self.old (sweeping self.old.state hashes.now) entry) }
         ensures err { OnErr result (self.new ≡ self.old) }
         ensures unrefused { IfErr result IsUnrefused }
-        ensures kept { K.kept keeper.new ≡ self.new.state.place }
+        ensures kept { reached K.Keeper keeper.new ≡ self.new.state.place }
         ensures keeps { Keeps K.Keeper keeper.old keeper.new (entry ∷ []) result }
     {
         if self.log.reserve(1).is_err() {
@@ -148,10 +148,10 @@ impl Ledger {
         requires logged { IsTrue (sweep_is_logged sweep) }
         requires goes { AreRemoved self.old sweep hashes.items }
         requires up { K.down keeper.old ≡ None }
-        requires kept { K.kept keeper.old ≡ self.old.state.place }
+        requires kept { reached K.Keeper keeper.old ≡ self.old.state.place }
         ensures call { Runs (sweep_on caller self.old moment sweep) self.old self.new result }
         ensures later { IsAbove self.old.state.commits self.new.state.commits }
-        ensures kept { K.kept keeper.new ≡ self.new.state.place }
+        ensures kept { reached K.Keeper keeper.new ≡ self.new.state.place }
         ensures keeps { Keeps K.Keeper keeper.old keeper.new
             (sweep_on caller self.old moment sweep).logged result }
     {
@@ -186,11 +186,11 @@ impl Ledger {
         requires marked { AreAllMarked self.old (sweep_in closing) marks.set roots.now }
         requires walked { HaveWalked self.old.state.commits marks }
         requires up { K.down keeper.old ≡ None }
-        requires kept { K.kept keeper.old ≡ self.old.state.place }
+        requires kept { reached K.Keeper keeper.old ≡ self.old.state.place }
         ensures call { Runs (sweep_on closing.ticket.caller self.old moment (sweep_in closing))
             self.old self.new result }
         ensures later { IsAbove self.old.state.commits self.new.state.commits }
-        ensures kept { K.kept keeper.new ≡ self.new.state.place }
+        ensures kept { reached K.Keeper keeper.new ≡ self.new.state.place }
         ensures keeps { Keeps K.Keeper keeper.old keeper.new
             (sweep_on closing.ticket.caller self.old moment (sweep_in closing)).logged result }
     {

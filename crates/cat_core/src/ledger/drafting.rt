@@ -7,7 +7,7 @@ ghost use Rattle.cat_model.specs.Calls.{in_draft, needs_draft};
 ghost use Rattle.cat_model.specs.Step.{opening};
 ghost use Rattle.cat_model.specs.WellMade.{is_well_made};
 ghost use Rattle.cat_state.specs.Adding.{IsAbove};
-ghost use Rattle.cat_state.specs.Kept.{Keeps};
+ghost use Rattle.cat_state.specs.Kept.{Keeps, reached};
 ghost use Rattle.cat_decisions.specs.Builds.{IsBuilt, IsGivenBy, command_of};
 ghost use Rattle.cat_core.specs.Making.{Runs, taking};
 
@@ -67,12 +67,12 @@ impl Ledger {
         requires opened { opening sha256 self.old.state (command_of call) ≡ Ok tt }
         requires built { IsBuilt self.old.state call built }
         requires up { K.down keeper.old ≡ None }
-        requires kept { K.kept keeper.old ≡ self.old.state.place }
+        requires kept { reached K.Keeper keeper.old ≡ self.old.state.place }
         ensures call { Runs
             (attempt_on sha256 self.old (in_draft caller moment number opened) (command_of call.entry))
             self.old self.new result }
         ensures later { IsAbove self.old.state.commits self.new.state.commits }
-        ensures kept { K.kept keeper.new ≡ self.new.state.place }
+        ensures kept { reached K.Keeper keeper.new ≡ self.new.state.place }
         ensures keeps { Keeps K.Keeper keeper.old keeper.new
             (attempt_on sha256 self.old (in_draft caller moment number opened)
             (command_of call.entry)).logged result }

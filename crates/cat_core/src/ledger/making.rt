@@ -4,7 +4,7 @@ ghost use Rattle.std.specs.Prelude.{◌≡◌, ◌∷◌, [], None, IfErr, IfOk,
 ghost use Rattle.sha2.specs.Sha256.{sha256};
 ghost use Rattle.cat_frames.specs.Entries.{is_logged};
 ghost use Rattle.cat_state.specs.Changing.{MayBeMade, applied};
-ghost use Rattle.cat_state.specs.Kept.{IsUnrefused, Keeps};
+ghost use Rattle.cat_state.specs.Kept.{IsUnrefused, Keeps, reached};
 ghost use Rattle.cat_core.specs.Deciding.{made_book, made_entry, made_told};
 ghost use Rattle.cat_core.specs.Making.{with_entry};
 
@@ -32,12 +32,12 @@ impl Ledger {
         requires may { MayBeMade self.old.state change }
         requires logged { IsTrue (is_logged sha256 entry) }
         requires up { K.down keeper.old ≡ None }
-        requires kept { K.kept keeper.old ≡ self.old.state.place }
+        requires kept { reached K.Keeper keeper.old ≡ self.old.state.place }
         ensures ok { OnOk result
             (self.new ≡ with_entry self.old (applied self.old.state change) entry) }
         ensures err { OnErr result (self.new ≡ self.old) }
         ensures unrefused { IfErr result IsUnrefused }
-        ensures kept { K.kept keeper.new ≡ self.new.state.place }
+        ensures kept { reached K.Keeper keeper.new ≡ self.new.state.place }
         ensures keeps { Keeps K.Keeper keeper.old keeper.new (entry ∷ []) result }
     {
         if self.log.reserve(1).is_err() {
@@ -70,12 +70,12 @@ impl Ledger {
         requires may { MayBeMade self.old.state making.change }
         requires logged { IsTrue (is_logged sha256 (made_entry self.old turn making)) }
         requires up { K.down keeper.old ≡ None }
-        requires kept { K.kept keeper.old ≡ self.old.state.place }
+        requires kept { reached K.Keeper keeper.old ≡ self.old.state.place }
         ensures ok { OnOk result (self.new ≡ made_book self.old turn making) }
         ensures told { IfOk result (λ told. told ≡ made_told self.old making) }
         ensures err { OnErr result (self.new ≡ self.old) }
         ensures unrefused { IfErr result IsUnrefused }
-        ensures kept { K.kept keeper.new ≡ self.new.state.place }
+        ensures kept { reached K.Keeper keeper.new ≡ self.new.state.place }
         ensures keeps { Keeps K.Keeper keeper.old keeper.new
             (made_entry self.old turn making ∷ []) result }
     {

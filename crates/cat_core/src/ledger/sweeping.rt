@@ -1,8 +1,6 @@
 //! Sweeps of a log that is executed again.
 
 ghost use Rattle.std.specs.Prelude.{◌≡◌, ◌<◌, IsTrue, OnOk};
-ghost use Rattle.sha2.specs.Sha256.{sha256};
-ghost use Rattle.cat_model.specs.State.{first_state};
 ghost use Rattle.cat_state.specs.Sweeping.{spares_at, sweeping};
 ghost use Rattle.cat_tables.specs.References.{heads_pass};
 ghost use Rattle.cat_core.specs.Making.{with_entry};
@@ -14,13 +12,6 @@ use cat_names::hash::Hash;
 use std::alloc::Global;
 
 impl Ledger {
-    /// What holds of each ledger: its log starts from the empty catalogue.
-    pub(crate) fn starts_empty(&self)
-        ensures { self.now.base ≡ first_state sha256 self.now.state.limits }
-    {
-        let _ = &self.catalogue;
-    }
-
     /// Removes the contents of these hashes by a sweep whose entry is kept already: that of a log
     /// which is executed again.
     pub(crate) fn sweep_again(

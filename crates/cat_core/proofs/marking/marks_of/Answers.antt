@@ -1,4 +1,4 @@
-use Rattle.std.proofs.Common.{List, ◌||◌, ap, ◌∙◌}
+use Rattle.std.proofs.Common.{List, ◌-◌, ◌||◌, ap, ◌∙◌}
 use Rattle.cat_mark.specs.declared.roots.Roots.{Roots}
 use Rattle.cat_mark.specs.Marks.{is_marked, live_of}
 use Rattle.cat_model.specs.Base.{is_among}
@@ -12,8 +12,8 @@ returns c hash =
     let commits = c.args.catalogue.now.commits in
     c.in_ok-mark_roots.ensures hash
     ∙ ap (λ (l : List Hash). is_marked l hash || is_among (live_of commits c.in_ok-roots.roots) hash) c.empty-marks.ensures.none
-    ∙ ap (λ (r : Roots). is_among (live_of commits r) hash) (c.in_ok-roots.ensures ∙ (λ i. roots_taken c.args.sweep.now.policy (c.references.ensures.list i) (slice_is c.args.taken.now c.args.sweep.now.opened i) (record { commits = c.as_slice.ensures i; contents = c.as_slice-2.ensures i })))
-    ∙ keeps_rooted c.args.catalogue.now c.args.taken.now c.args.sweep.now hash
+    ∙ ap (λ (r : Roots). is_among (live_of commits r) hash) (c.in_ok-roots.ensures ∙ (λ i. roots_taken c.args.sweep.now.policy (c.references.ensures.list i) (slice_is c.args.taken.now (c.args.sweep.now.opened - c.args.first) i) (record { commits = c.as_slice.ensures i; contents = c.as_slice-2.ensures i })))
+    ∙ keeps_rooted c.args.first c.args.catalogue.now c.args.taken.now c.args.sweep.now hash
 
 pub mark_roots-requires : goal.mark_roots-requires
 mark_roots-requires c = c.empty-marks.ensures.walked c.args.catalogue.now.commits

@@ -1,5 +1,6 @@
 use Rattle.std.proofs.Common.{rules}
 use Rattle.cat_core.specs.Drafts.{opening_in}
+use Rattle.cat_core.specs.Stored.{opened_held}
 use Rattle.cat_core.proofs.Held.{frees, sound_closed, sound_seen}
 use Rattle.cat_core.proofs.Lasting.{holding_closed}
 use Rattle.cat_core.proofs.UnderWay.{swept_closed}
@@ -8,7 +9,7 @@ use Rattle.cat_core.proofs.store.Store.close.Goals as goal
 pub invariant_of-self : goal.invariant_of-self
 invariant_of-self g c = (
   c.self.invariant.0,
-  sound_closed c.self.inside.ledger c.self.inside.began _ _ (opening_in c.args.draft) c.self.invariant.1 (search rules),
+  sound_closed (opened_held c.self.inside.ledger.base c.self.inside.start) c.self.inside.ledger _ _ (opening_in c.args.draft) c.self.invariant.1 (search rules),
   swept_closed c.self.inside.ledger _ _ (opening_in c.args.draft) c.self.inside.sweep c.self.inside.closed c.self.invariant.2 (search rules),
   holding_closed c.self.inside.ledger _ _ (opening_in c.args.draft) _ c.self.invariant.3 (search rules),
 )

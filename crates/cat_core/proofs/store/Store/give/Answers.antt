@@ -2,11 +2,11 @@ use Rattle.std.proofs.Common.{Option, map, refl, rules, subst, ◌∙◌}
 use Rattle.std.specs.Option.{option_map}
 use Rattle.cat_core.specs.declared.tickets.OpenSweep.{OpenSweep}
 use Rattle.cat_core.specs.Lasting.{IsHolding}
-use Rattle.cat_core.specs.Stored.{IsSwept, draft_held, sweep_held}
+use Rattle.cat_core.specs.Stored.{IsSwept, draft_held, opened_held, sweep_held}
 use Rattle.cat_core.proofs.Giving.{given_is, none_seen}
-use Rattle.cat_core.proofs.Held.{at_least}
+use Rattle.cat_core.proofs.Held.{at_least, log_seen}
 use Rattle.cat_core.proofs.Lasting.{holding_given}
-use Rattle.cat_core.proofs.UnderWay.{place_log, swept_given}
+use Rattle.cat_core.proofs.UnderWay.{swept_given}
 use Rattle.cat_core.proofs.store.Store.give.Goals.{in-Some, in_default}
 use Rattle.cat_core.proofs.store.Store.give.Goals as goal
 
@@ -18,9 +18,9 @@ invariant_of-self g c =
           rw w.self-inside-is (
             c.self.invariant.0,
             c.self.invariant.1,
-            swept_given c.self.inside.ledger c.self.inside.began _ w.in-Some.open (record (w.in-Some.open) { drained = c.place-place.result; given_commits = w.len-open.result; given_contents = w.len-open-in-Some.result })
-                c.self.inside.closed was c.self.invariant.1 refl refl refl c.place-place.ensures (record { commits = at_least _ _ (search rules); contents = at_least _ _ (search rules) }),
-            holding_given c.self.inside.ledger _ (sweep_held w.in-Some.open) (sweep_held (record (w.in-Some.open) { drained = c.place-place.result; given_commits = w.len-open.result; given_contents = w.len-open-in-Some.result }))
+            swept_given c.self.inside.ledger (opened_held c.self.inside.ledger.base c.self.inside.start) _ w.in-Some.open (record (w.in-Some.open) { drained = c.entries-entries.result; given_commits = w.len-open.result; given_contents = w.len-open-in-Some.result })
+                c.self.inside.closed was c.self.invariant.1 refl refl refl (c.entries-entries.ensures ∙ log_seen _ _ c.self.view_is) (record { commits = at_least _ _ (search rules); contents = at_least _ _ (search rules) }),
+            holding_given c.self.inside.ledger _ (sweep_held w.in-Some.open) (sweep_held (record (w.in-Some.open) { drained = c.entries-entries.result; given_commits = w.len-open.result; given_contents = w.len-open-in-Some.result }))
                 (subst (λ (h : Option OpenSweep). IsHolding c.self.inside.ledger (map draft_held c.self.inside.drafts.items) (option_map sweep_held h)) w.in-Some.is c.self.invariant.3) refl,
           )
       | in_default w ↦ rw w.self-inside-is c.self.invariant
@@ -31,7 +31,7 @@ returns g c = λ o there.
     elim c.match-self.branch [
       | in-Some w ↦
           rw w.self-inside-is
-          (given_is _ _ c.self.view_is _ c.self.inside.sweep w.in-Some.open (record (w.in-Some.open) { drained = c.place-place.result; given_commits = w.len-open.result; given_contents = w.len-open-in-Some.result })
-          w.in-Some.is refl refl refl refl refl refl (c.place-place.ensures ∙ place_log c.self.inside.ledger c.self.inside.began _ c.self.invariant.1) (search rules) (search rules) refl o there)
+          (given_is _ _ c.self.view_is _ c.self.inside.sweep w.in-Some.open (record (w.in-Some.open) { drained = c.entries-entries.result; given_commits = w.len-open.result; given_contents = w.len-open-in-Some.result })
+          w.in-Some.is refl refl refl refl refl refl (c.entries-entries.ensures ∙ log_seen _ _ c.self.view_is) (search rules) (search rules) refl o there)
       | in_default w ↦ absurd (none_seen _ _ c.self.view_is c.self.inside.sweep w.in_default.is refl o there)
     ]

@@ -15,8 +15,8 @@ invariant_of-self-2 g c =
     let names = c.in_ok-commits.ensures c.args.ticket.number c.requires.given in
     let known = names_known c.self.inside.ledger.state command c.args.ticket.number (linked_inside _ _ c.self.view_is c.knows_heads.ensures.linked) (headed_inside _ _ c.self.view_is c.knows_heads.ensures.heads) (opened_inside _ _ command c.self.view_is c.requires.opened) in
     let held = holds c.args.ticket command c.self.inside.drafts.items c.push_reserved.new.self.items (record { ticket = c.args.ticket; commits = c.in_ok-commits.commits; contents = c.in_ok-commits.contents }) (search rules) refl names in (
-      step_held g.K.Keeper c.self.inside.ledger c.take.new.self c.self.inside.keeper c.self.inside.fallen c.self.inside.began c.args.ticket.number c.take.ensures c.self.invariant.0,
-      sound_held c.self.inside.ledger c.take.new.self c.self.inside.began _ _ c.args.ticket command c.self.invariant.1 c.take.ensures (search rules) held,
+      step_held g.K.Keeper c.self.inside.start c.self.inside.ledger c.take.new.self c.self.inside.keeper c.self.inside.fallen c.args.ticket.number c.take.ensures c.self.invariant.0,
+      sound_held c.self.inside.start c.self.inside.ledger c.take.new.self _ _ c.args.ticket command c.self.invariant.1 c.take.ensures (search rules) held,
       swept_held c.self.inside.ledger c.take.new.self _ _ (held_for c.args.ticket command) c.note.new.sweep c.self.inside.closed
           (swept_noted c.self.inside.ledger _ _ c.self.inside.sweep c.note.new.sweep c.self.inside.closed c.note.result c.self.invariant.2
           (subst (AreKnown c.self.inside.ledger.state) (sym c.as_slice.ensures.value) (subst (λ (n : Names). AreKnown c.self.inside.ledger.state n.commits) (sym names) known)) c.note.ensures.ok c.note.ensures.err c.note.ensures.fronts)
