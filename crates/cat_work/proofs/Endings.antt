@@ -32,7 +32,7 @@ use Rattle.cat_model.specs.State.{State}
 use Rattle.cat_model.specs.Step.{opening, opens_draft}
 use Rattle.cat_model.specs.TurnLaws.{grows_on, nothing_stays}
 use Rattle.cat_work.specs.declared.trying.Trying.{Trying}
-use Rattle.cat_work.specs.Answers.{Answers, AnswersAlone, Causes, IsDraftAbove, RefusesAlone, Spends, sweeps_in}
+use Rattle.cat_work.specs.Answers.{Answers, AnswersAlone, Causes, IsDraftAbove, RefusesAlone, Spends, rests_in}
 use Rattle.cat_work.specs.MarkLaws.{refused_mark}
 use Rattle.cat_work.specs.Passes.{IsAlone, book_of, state_of}
 use Rattle.cat_work.specs.Turns.{Begins, Comes, Ends, EndsLast, Going, IsSpent, Moves, SettlesAndTells, StoodAlone, Trail, Tries, Turned, out_of_memory}
@@ -40,6 +40,7 @@ use Rattle.cat_work.proofs.Callings.{Brings, called_alone, made_brings, made_dra
 use Rattle.cat_work.proofs.Opened.{drafts_more, drafts_one, none_but, none_left}
 use Rattle.cat_work.proofs.Openings.{may_room}
 use Rattle.cat_work.proofs.Telling.{AloneAt, Found, Left, Numbered, alone_err, alone_ok, answers_ok, book_found, causes, faults_same, follows_same, given_up_alone, gone_in_draft, grew_in, left_by_turn, refused_alone, stays_expired}
+use Rattle.cat_model.specs.Turns.{place_after}
 use Rattle.cat_work.proofs.Trails.{built_on, one_head, opened_within, place_at, trail_next, trail_start}
 
 -- ---- what is open of the caller
@@ -94,10 +95,10 @@ limits_are desk p q s s' turn = ap (λ (x : State). x.limits) (sym turn.led) ∙
 within_by : (last limit number : ℕ) → last < limit → number ≡ last + 1 → number ≤ limit
 within_by last limit number low is = omega arith
 
-known_at : (opened k size place here : ℕ) → k ≤ size → here ≡ opened + size → place ≡ here → opened + k ≤ place
+known_at : (opened k size place here : ℕ) → k ≤ opened + size → here ≡ opened + size → place ≡ here → k ≤ place
 known_at opened k size place here le e same = omega arith
 
-pub begins : (K : Type 0) (desk : DeskId) (c : Command) (p q : Pass) (t : Trying) (attempts : ℕ) → left_by p ≡ nothing_open → IsLegalFrom desk.opened (seen q) → Keeps desk p q → known p ≤ length (seen q) → attempts + 1 ≤ vec_capacity t.pairs → Begins K desk c p q t → Going desk c p q t attempts 1
+pub begins : (K : Type 0) (desk : DeskId) (c : Command) (p q : Pass) (t : Trying) (attempts : ℕ) → left_by p ≡ nothing_open → IsLegalFrom desk.opened (seen q) → Keeps desk p q → known p ≤ place_after desk.opened (seen q) → attempts + 1 ≤ vec_capacity t.pairs → Begins K desk c p q t → Going desk c p q t attempts 1
 begins K desk c p q t attempts none legal keeps known_is room b =
     let s : Stored K = b.opens.0 in
     let s' : Stored K = b.opens.1 in
@@ -224,7 +225,7 @@ goes_on {K} desk c first present next t u attempts number s s' g keeps legal tur
       command_is = ap (λ (x : Draft). command_in x) m.moved.draft ∙ g.command_is;
       newer = subst (λ (x : Draft). (mark_of first).draft < x.number) (sym m.moved.draft) g.newer;
       within = subst (λ (x : Draft). x.number ≤ desk.opened.state.limits.drafts) (sym m.moved.draft) g.within;
-      known_then = subst (λ (x : Draft). desk.opened.state.place + known first ≤ x.place) (sym m.moved.draft) g.known_then;
+      known_then = subst (λ (x : Draft). known first ≤ x.place) (sym m.moved.draft) g.known_then;
       count = more_long t.pairs.items u.pairs.items (u.view.place, m.head) m.pairs_are ∙ ap (λ (n : ℕ). n + 1) g.count;
       room = roomy (attempts + 1) (vec_capacity t.pairs) (vec_capacity u.pairs) g.room room;
       faults = λ x is own. found.no_new x (sym (ap (λ (y : Mark). y.fault) mark) ∙ is) own;
@@ -265,6 +266,7 @@ by_draft called s d r refusals.NoRoute s' h = inr (record { other = refl; refuse
 by_draft called s d r (refusals.WrongMethod x) s' h = inr (record { other = refl; refuses = h })
 by_draft called s d r refusals.TooLarge s' h = inr (record { other = refl; refuses = h })
 by_draft called s d r refusals.Encoding s' h = inr (record { other = refl; refuses = h })
+by_draft called s d r refusals.OldFormat s' h = inr (record { other = refl; refuses = h })
 
 not_gone : {A : Type 0} (why : Refusal) (keys : List Key) (opened : ℕ) → is_expired why ≡ false → why ≡ refusals.Expired keys opened → A
 not_gone why keys opened other gone = absurd (let wrong : false ≡ true = sym other ∙ ap is_expired gone in cc)
@@ -355,6 +357,7 @@ refuses_open {K} called n s r refusals.NoRoute s' left_open h = ap (λ (x : Stor
 refuses_open {K} called n s r (refusals.WrongMethod x) s' left_open h = ap (λ (x : Stored K). (stored.open_of x)) h.after
 refuses_open {K} called n s r refusals.TooLarge s' left_open h = ap (λ (x : Stored K). (stored.open_of x)) h.after
 refuses_open {K} called n s r refusals.Encoding s' left_open h = ap (λ (x : Stored K). (stored.open_of x)) h.after
+refuses_open {K} called n s r refusals.OldFormat s' left_open h = ap (λ (x : Stored K). (stored.open_of x)) h.after
 
 -- ---- nothing is left open by a draft
 
@@ -382,19 +385,19 @@ closed_alone desk c first present next t attempts number s s' g turn left_open o
     turn.all_left ∙ (left_open ∙ none)
 
 -- no sweep was opened or closed
-draft_unswept : {K : Type 0} (called : Called) (s : Stored K) (d : Draft) (r : Refused) (why : Refusal) (s' : Stored K) → IsGoneIn called s d r why s' ⊎ IsOtherIn called s d r why s' → sweeps_in s'.mark ≡ sweeps_in s.mark
-draft_unswept {K} called s d r why s' (inl x) = ap (λ (y : Stored K). sweeps_in y.mark) x.expires.after
-draft_unswept called s d r why s' (inr x) = ap (λ (m : Mark). sweeps_in m) (refused_mark called d.caller s r why s' (closed s d) x.refuses)
+draft_unswept : {K : Type 0} (called : Called) (s : Stored K) (d : Draft) (r : Refused) (why : Refusal) (s' : Stored K) → IsGoneIn called s d r why s' ⊎ IsOtherIn called s d r why s' → rests_in s'.mark ≡ rests_in s.mark
+draft_unswept {K} called s d r why s' (inl x) = ap (λ (y : Stored K). rests_in y.mark) x.expires.after
+draft_unswept called s d r why s' (inr x) = ap (λ (m : Mark). rests_in m) (refused_mark called d.caller s r why s' (closed s d) x.refuses)
 
-ends_unswept : {K : Type 0} (s s' : Stored K) (d : Draft) (view : State) (moment : ℕ) (r : Result Told Refused) → Ends s d view moment r s' → sweeps_in s'.mark ≡ sweeps_in s.mark
-ends_unswept {K} s s' d view moment (Ok told) h = ap (λ (y : Stored K). sweeps_in y.mark) h.2.0.1.after
+ends_unswept : {K : Type 0} (s s' : Stored K) (d : Draft) (view : State) (moment : ℕ) (r : Result Told Refused) → Ends s d view moment r s' → rests_in s'.mark ≡ rests_in s.mark
+ends_unswept {K} s s' d view moment (Ok told) h = ap (λ (y : Stored K). rests_in y.mark) h.2.0.1.after
 ends_unswept s s' d view moment (Err e) (inl h) = draft_unswept (called_in s d moment) s d e e.why s' (by_draft (called_in s d moment) s d e e.why s' h.2.0.1)
-ends_unswept {K} s s' d view moment (Err e) (inr h) = ap (λ (y : Stored K). sweeps_in y.mark) h.1
+ends_unswept {K} s s' d view moment (Err e) (inr h) = ap (λ (y : Stored K). rests_in y.mark) h.1
 
-unswept_alone : {K : Type 0} (desk : DeskId) (c : Command) (first present next : Pass) (t : Trying) (attempts number : ℕ) (s s' : Stored K) → Going desk c first present t attempts number → Turned desk present next s s' → sweeps_in s'.mark ≡ sweeps_in s.mark → IsAlone first
-    → sweeps_in (mark_of next) ≡ sweeps_in (mark_of first)
+unswept_alone : {K : Type 0} (desk : DeskId) (c : Command) (first present next : Pass) (t : Trying) (attempts number : ℕ) (s s' : Stored K) → Going desk c first present t attempts number → Turned desk present next s s' → rests_in s'.mark ≡ rests_in s.mark → IsAlone first
+    → rests_in (mark_of next) ≡ rests_in (mark_of first)
 unswept_alone desk c first present next t attempts number s s' g turn same only =
-    ap (λ (m : Mark). sweeps_in m) turn.mark_is ∙ (same ∙ ap (λ (m : Mark). sweeps_in m) ((turn.alone (alone_still desk first present g.kept only)).1 ∙ (g.alone only).mark_is))
+    ap (λ (m : Mark). rests_in m) turn.mark_is ∙ (same ∙ ap (λ (m : Mark). rests_in m) ((turn.alone (alone_still desk first present g.kept only)).1 ∙ (g.alone only).mark_is))
 
 -- the store is found as the opening left it
 alone_at : {K : Type 0} (desk : DeskId) (c : Command) (first present next : Pass) (t : Trying) (attempts number moment : ℕ) (s s' : Stored K) → opens_draft c ≡ true → Going desk c first present t attempts number → Turned desk present next s s' → IsAlone first
@@ -484,7 +487,7 @@ spent_pairs {K} desk c first present next t attempts s s' built r opens g legal 
       front = trail.front;
       head = trail.head;
       last = trail.last;
-      known = subst (λ (n : ℕ). desk.opened.state.place + known first ≤ n) (sym trail.begins) g.known_then;
+      known = subst (λ (n : ℕ). known first ≤ n) (sym trail.begins) g.known_then;
       number = d.number;
       dropped = dropped ∙ (λ i. Some (record { number = d.number; caller = caller_was g i; place = sym trail.begins i }));
       newer = g.newer;
@@ -508,7 +511,7 @@ spent_comes {K} desk c first present next t attempts moment s s' built r opens g
       alone = λ only. absurd (x.moved.other (stays_alone desk present next s s' t.draft t.view built g.tries.view_is is turn (alone_still desk first present g.kept only)));
       rests = closed_alone desk c first present next t attempts attempts s s' g turn (ap (λ (y : Stored K). stored.open_of y) x.after);
       undrafted = λ no. absurd (let wrong : true ≡ false = sym opens ∙ no in cc);
-      unswept = unswept_alone desk c first present next t attempts attempts s s' g turn (ap (λ (y : Stored K). sweeps_in y.mark) x.after);
+      unswept = unswept_alone desk c first present next t attempts attempts s s' g turn (ap (λ (y : Stored K). rests_in y.mark) x.after);
     }
 
 pub comes_late : {K : Type 0} (desk : DeskId) (c : Command) (first present next : Pass) (t : Trying) (attempts moment : ℕ) (s s' : Stored K) (r : Result Told Refused) → opens_draft c ≡ true → Going desk c first present t attempts attempts → IsLegalFrom desk.opened (seen next)

@@ -12,3 +12,4 @@ mod Turning
 mod Unopened
 mod AtOnce
 mod Made
+mod Checking

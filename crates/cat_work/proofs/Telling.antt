@@ -172,7 +172,7 @@ refused_here {K} desk n draft moment c first next s s' called r left_open why fo
 
 -- contents are gone
 gone_here : {K : Type 0} (desk : DeskId) (n draft opened moment attempts k : ℕ) (c : Command) (first next : Pass) (s s' : Stored K) (called : Called) (r : Refused) (keys : List Key) → Found desk n first s → Left desk next s' → Numbered desk c first draft → Stays called s r s'
-    → IsGone s.book.state c (record { draft = draft; opened = opened; moment = moment }) r.place keys opened → desk.opened.state.place + k ≤ opened → BeganAt n (opens_draft c) s.book.state.place s'.mark draft opened → (opens_draft c ≡ true → AreGoneIn s.book c opened keys)
+    → IsGone s.book.state c (record { draft = draft; opened = opened; moment = moment }) r.place keys opened → k ≤ opened → BeganAt n (opens_draft c) s.book.state.place s'.mark draft opened → (opens_draft c ≡ true → AreGoneIn s.book c opened keys)
     → Follows n (seen first) (seen next) × Causes desk n c moment attempts k (mark_of first) (mark_of next) (seen next) r.place (refusals.Expired keys opened)
 gone_here desk n draft opened moment attempts k c first next s s' called r keys found left numbered stays gone known began since =
     let state = state_same desk next s s' left stays.book in (
@@ -195,20 +195,20 @@ gone_here desk n draft opened moment attempts k c first next s s' called r keys 
 
 -- that a call without a draft would show
 pub gone_at_once : {K : Type 0} (desk : DeskId) (n moment attempts k : ℕ) (c : Command) (first next : Pass) (s s' : Stored K) (r : Refused) (left_open : Open) (keys : List Key) (opened : ℕ) → opens_draft c ≡ false → Found desk n first s → Left desk next s' → Numbered desk c first 0
-    → desk.opened.state.place + k ≤ s.book.state.place → r.why ≡ refusals.Expired keys opened → IsRefused (call_on sha256 n s.book c moment) s r s' left_open
+    → k ≤ s.book.state.place → r.why ≡ refusals.Expired keys opened → IsRefused (call_on sha256 n s.book c moment) s r s' left_open
     → Follows n (seen first) (seen next) × Causes desk n c moment attempts k (mark_of first) (mark_of next) (seen next) r.place (refusals.Expired keys opened)
 gone_at_once desk n moment attempts k c first next s s' r left_open keys opened opens found left numbered known gone refused =
     let is = call_gone n moment s.book c r keys opened opens gone refused.said in
     let there : opened ≡ s.book.state.place = gone_at_state s.book.state c (undrafted moment s.book.state) keys opened opens is.is in
     gone_here desk n 0 opened moment attempts k c first next s s' (call_on sha256 n s.book c moment) r keys found left numbered (stays_refused (call_on sha256 n s.book c moment) s r s' left_open refused)
     (subst (λ (place : ℕ). IsGone s.book.state c (record { draft = 0; opened = place; moment = moment }) r.place keys opened) (sym there) is)
-    (subst (λ (place : ℕ). desk.opened.state.place + k ≤ place) (sym there) known)
+    (subst (λ (place : ℕ). k ≤ place) (sym there) known)
     (subst (λ (b : Bool). BeganAt n b s.book.state.place s'.mark 0 opened) (sym opens) there)
     (λ yes. absurd (let wrong : false ≡ true = sym opens ∙ yes in cc))
 
 -- that a draft would set
 pub gone_in_draft : {K : Type 0} (desk : DeskId) (moment attempts k : ℕ) (d : Draft) (first next : Pass) (s s' : Stored K) (r : Refused) (keys : List Key) (opened : ℕ) → opens_draft (command_in d) ≡ true → Found desk d.caller first s → Left desk next s' → Numbered desk (command_in d) first d.number
-    → desk.opened.state.place + k ≤ d.place → r.why ≡ refusals.Expired keys opened → Expires (called_in s d moment) s d r s' → (built : Built) → IsSettledOn s d built r → TellsGone s d built.head (settled.Refused r) → d.place ≤ s.book.state.place
+    → k ≤ d.place → r.why ≡ refusals.Expired keys opened → Expires (called_in s d moment) s d r s' → (built : Built) → IsSettledOn s d built r → TellsGone s d built.head (settled.Refused r) → d.place ≤ s.book.state.place
     → Follows d.caller (seen first) (seen next) × Causes desk d.caller (command_in d) moment attempts k (mark_of first) (mark_of next) (seen next) r.place (refusals.Expired keys opened)
 gone_in_draft {K} desk moment attempts k d first next s s' r keys opened opens found left numbered known gone refused built on tells early =
     let is = draft_gone d.caller moment d.number d.place s.book (command_in d) r keys opened gone refused.said in
@@ -216,7 +216,7 @@ gone_in_draft {K} desk moment attempts k d first next s s' r keys opened opens f
     let told : s'.mark.expired ≡ Some (record { number = d.number; caller = d.caller; place = opened }) = ap (λ (x : Stored K). x.mark.expired) refused.after ∙ (λ i. Some (record { number = d.number; caller = d.caller; place = sym there i })) in
     gone_here desk d.caller d.number opened moment attempts k (command_in d) first next s s' (called_in s d moment) r keys found left numbered (stays_expired (called_in s d moment) s d r s' refused)
     (subst (λ (place : ℕ). IsGone s.book.state (command_in d) (record { draft = d.number; opened = place; moment = moment }) r.place keys opened) (sym there) is)
-    (subst (λ (place : ℕ). desk.opened.state.place + k ≤ place) (sym there) known)
+    (subst (λ (place : ℕ). k ≤ place) (sym there) known)
     (subst (λ (b : Bool). BeganAt d.caller b s.book.state.place s'.mark d.number opened) (sym opens) told)
     (λ _. gone_in s d built r keys opened refused.up is.passes gone on tells early)
 
@@ -237,6 +237,7 @@ by_limit desk n moment attempts k c first next quantities.Commits number place h
 by_limit desk n moment attempts k c first next quantities.Keys number place h = h
 by_limit desk n moment attempts k c first next quantities.Contents number place h = h
 by_limit desk n moment attempts k c first next quantities.Names number place h = h
+by_limit desk n moment attempts k c first next quantities.Checkpoint number place h = h
 
 not_none : (x : FailedAppend) → None ≡ Some x → ⊥
 not_none x e = cc
@@ -292,6 +293,7 @@ causes desk n draft moment attempts k c first next s s' called r left_open refus
 causes desk n draft moment attempts k c first next s s' called r left_open (refusals.WrongMethod x) found left brings numbered gone same h = refused_here desk n draft moment c first next s s' called r left_open (refusals.WrongMethod x) found left brings numbered same h
 causes desk n draft moment attempts k c first next s s' called r left_open refusals.TooLarge found left brings numbered gone same h = refused_here desk n draft moment c first next s s' called r left_open refusals.TooLarge found left brings numbered same h
 causes desk n draft moment attempts k c first next s s' called r left_open refusals.Encoding found left brings numbered gone same h = refused_here desk n draft moment c first next s s' called r left_open refusals.Encoding found left brings numbered same h
+causes desk n draft moment attempts k c first next s s' called r left_open refusals.OldFormat found left brings numbered gone same h = refused_here desk n draft moment c first next s s' called r left_open refusals.OldFormat found left brings numbered same h
 
 -- ---- on the only pass
 
@@ -381,3 +383,4 @@ alone_err desk n draft moment c next s s' called b f r left_open refusals.NoRout
 alone_err desk n draft moment c next s s' called b f r left_open (refusals.WrongMethod x) at left brings same h = refused_alone desk n draft moment c next s s' called b f r at left brings (stays_refused called s r s' left_open h)
 alone_err desk n draft moment c next s s' called b f r left_open refusals.TooLarge at left brings same h = refused_alone desk n draft moment c next s s' called b f r at left brings (stays_refused called s r s' left_open h)
 alone_err desk n draft moment c next s s' called b f r left_open refusals.Encoding at left brings same h = refused_alone desk n draft moment c next s s' called b f r at left brings (stays_refused called s r s' left_open h)
+alone_err desk n draft moment c next s s' called b f r left_open refusals.OldFormat at left brings same h = refused_alone desk n draft moment c next s s' called b f r at left brings (stays_refused called s r s' left_open h)

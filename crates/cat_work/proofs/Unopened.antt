@@ -1,5 +1,5 @@
 -- Calls for which no draft was opened.
-use Rattle.std.proofs.Common.{◌≡◌, ◌<◌, ◌≤◌, ◌⊎◌, inl, inr, ℕ, ◌+◌, Option, Some, None, Result, Ok, Err, Bool, true, false, refl, sym, ap, subst, ◌∙◌, arith, le_refl, length}
+use Rattle.std.proofs.Common.{◌≡◌, ◌<◌, ◌≤◌, ◌⊎◌, inl, inr, ℕ, ◌+◌, Option, Some, None, Result, Ok, Err, Bool, true, false, refl, sym, ap, subst, ◌∙◌, arith, le_refl}
 use Rattle.sha2.specs.Sha256.{sha256}
 use Rattle.cat_core.specs.Drafts.{NotOpened, may_open}
 use Rattle.cat_core.specs.Stored.{IsUp, Stored}
@@ -20,8 +20,9 @@ use Rattle.cat_model.specs.Refusing.{◌>>=◌, Tested}
 use Rattle.cat_model.specs.State.{State}
 use Rattle.cat_model.specs.Step.{opening, opens_draft}
 use Rattle.cat_model.specs.TurnLaws.{grows_self, nothing_stays}
+use Rattle.cat_model.specs.Turns.{place_after}
 use Rattle.cat_core.specs.Stored as stored
-use Rattle.cat_work.specs.Answers.{Causes, IsAt, IsDraftAbove, IsRuledOut, KnowsAt, Knows, RefusesAlone, sweeps_in}
+use Rattle.cat_work.specs.Answers.{Causes, IsAt, IsDraftAbove, IsRuledOut, KnowsAt, Knows, RefusesAlone, rests_in}
 use Rattle.cat_work.specs.Passes.{IsAlone, book_of, state_of}
 use Rattle.cat_work.specs.Turns.{BeginsNone, Comes, Turned, out_of_memory}
 use Rattle.cat_work.proofs.Openings as openings
@@ -62,6 +63,7 @@ early_cause desk n moment attempts k c p q place refusals.NoRoute early is = abs
 early_cause desk n moment attempts k c p q place (refusals.WrongMethod x) early is = absurd cc
 early_cause desk n moment attempts k c p q place refusals.TooLarge early is = absurd cc
 early_cause desk n moment attempts k c p q place refusals.Encoding early is = absurd cc
+early_cause desk n moment attempts k c p q place refusals.OldFormat early is = absurd cc
 
 early_alone : (n : ℕ) (called : Called) (b b' : Book) (f f' : Option FailedAppend) (r : Refused) (why : Refusal) → is_early why ≡ true → IsCalled called b b' (Err r) → f ≡ None → f' ≡ None → RefusesAlone n called b b' f f' r why
 early_alone n called b b' f f' r (refusals.BadRequest x) early is up down = (is, up, down)
@@ -81,6 +83,7 @@ early_alone n called b b' f f' r refusals.NoRoute early is up down = absurd cc
 early_alone n called b b' f f' r (refusals.WrongMethod x) early is up down = absurd cc
 early_alone n called b b' f f' r refusals.TooLarge early is up down = absurd cc
 early_alone n called b b' f f' r refusals.Encoding early is up down = absurd cc
+early_alone n called b b' f f' r refusals.OldFormat early is up down = absurd cc
 
 -- ---- the answer
 
@@ -161,6 +164,7 @@ answers_none desk moment attempts k c p q s s' r refusals.NoRoute opens turn sam
 answers_none desk moment attempts k c p q s s' r (refusals.WrongMethod x) opens turn same reason h = by_reason desk moment attempts k c p q s s' r (refusals.WrongMethod x) opens turn same h.0 h.1 (may_not s.book c (refusals.WrongMethod x) h.2)
 answers_none desk moment attempts k c p q s s' r refusals.TooLarge opens turn same reason h = by_reason desk moment attempts k c p q s s' r refusals.TooLarge opens turn same h.0 h.1 (may_not s.book c refusals.TooLarge h.2)
 answers_none desk moment attempts k c p q s s' r refusals.Encoding opens turn same reason h = by_reason desk moment attempts k c p q s s' r refusals.Encoding opens turn same h.0 h.1 (may_not s.book c refusals.Encoding h.2)
+answers_none desk moment attempts k c p q s s' r refusals.OldFormat opens turn same reason h = by_reason desk moment attempts k c p q s s' r refusals.OldFormat opens turn same h.0 h.1 (may_not s.book c refusals.OldFormat h.2)
 
 -- ---- on the only pass
 
@@ -225,6 +229,7 @@ alone_none desk moment c p q s s' r refusals.NoRoute opens turn same reason h on
 alone_none desk moment c p q s s' r (refusals.WrongMethod x) opens turn same reason h only = refused_alone desk moment c p q s s' r (refusals.WrongMethod x) opens turn same only h.0 h.1 h.2
 alone_none desk moment c p q s s' r refusals.TooLarge opens turn same reason h only = refused_alone desk moment c p q s s' r refusals.TooLarge opens turn same only h.0 h.1 h.2
 alone_none desk moment c p q s s' r refusals.Encoding opens turn same reason h only = refused_alone desk moment c p q s s' r refusals.Encoding opens turn same only h.0 h.1 h.2
+alone_none desk moment c p q s s' r refusals.OldFormat opens turn same reason h only = refused_alone desk moment c p q s s' r refusals.OldFormat opens turn same only h.0 h.1 h.2
 
 -- ---- no draft
 
@@ -248,18 +253,18 @@ begins_none K desk c p q attempts moment r opens none (inr h) = record {
   alone = λ only. alone_none desk moment c p q h.0 h.1 r r.why opens h.2 h.3 refl h.4 only;
   rests = λ only nothing. same_open desk p q h.0 h.1 h.2 (ap (λ (y : Stored K). stored.open_of y) h.3) only ∙ nothing;
   undrafted = λ no. absurd (let wrong : true ≡ false = sym opens ∙ no in cc);
-  unswept = λ only. ap (λ (m : Mark). sweeps_in m) (h.2.mark_is ∙ (ap (λ (y : Stored K). y.mark) h.3 ∙ (h.2.alone only).1));
+  unswept = λ only. ap (λ (m : Mark). rests_in m) (h.2.mark_is ∙ (ap (λ (y : Stored K). y.mark) h.3 ∙ (h.2.alone only).1));
 }
 
 -- ---- what is known
 
-known_at : (p q : Pass) (place : Option ℕ) → known p ≤ known q → known q ≡ length (seen q) → turn_of p < turn_of q → KnowsAt p q place
-known_at p q None le is turn = le
-known_at p q (Some place) le is turn = (subst (λ (n : ℕ). known p ≤ n) is le, is, turn)
+known_at : (desk : DeskId) (p q : Pass) (place : Option ℕ) → known p ≤ known q → known q ≡ place_after desk.opened (seen q) → turn_of p < turn_of q → KnowsAt desk p q place
+known_at desk p q None le is turn = le
+known_at desk p q (Some place) le is turn = (subst (λ (n : ℕ). known p ≤ n) is le, is, turn)
 
-pub knows_all : (p q : Pass) (r : Result Told Refused) → known p ≤ known q → known q ≡ length (seen q) → turn_of p < turn_of q → Knows p q r
-knows_all p q (Ok told) le is turn = (subst (λ (n : ℕ). known p ≤ n) is le, is, turn)
-knows_all p q (Err e) le is turn = known_at p q e.place le is turn
+pub knows_all : (desk : DeskId) (p q : Pass) (r : Result Told Refused) → known p ≤ known q → known q ≡ place_after desk.opened (seen q) → turn_of p < turn_of q → Knows desk p q r
+knows_all desk p q (Ok told) le is turn = (subst (λ (n : ℕ). known p ≤ n) is le, is, turn)
+knows_all desk p q (Err e) le is turn = known_at desk p q e.place le is turn
 
 pub known_on : (a b c : ℕ) (size : ℕ) → a ≤ b → b ≤ size → c ≡ size → a ≤ c
 known_on a b c size p q e = omega arith

@@ -30,6 +30,7 @@ use Rattle.cat_model.specs.KeySets.{key_set}
 use Rattle.cat_model.specs.Mark.{ClosedSweep, FailedAppend, Mark}
 use Rattle.cat_model.specs.Refusing.{Outcome}
 use Rattle.cat_model.specs.State.{State}
+use Rattle.cat_model.specs.Turns.{place_after}
 use Rattle.cat_model.specs.Step.{Turn, logged_command, opening, opens_draft, step}
 use Rattle.cat_work.specs.Passes.{IsAlone, book_of, state_of}
 
@@ -158,7 +159,7 @@ pub record Expires (desk : DeskId) (n : ℕ) (c : Command) (moment k : ℕ) (bef
   pub draft : ℕ
   pub above : IsDraftAbove before.draft (opens_draft c) draft
   pub is : step sha256 (state_of desk m) c (record { draft = draft; opened = opened; moment = moment }) ≡ Err (refusals.Expired keys opened)
-  pub known : desk.opened.state.place + k ≤ opened
+  pub known : k ≤ opened
   pub began : BeganAt n (opens_draft c) (state_of desk m).place after draft opened
   pub gone : opens_draft c ≡ true → AreGoneSince desk c m opened keys
 
@@ -200,7 +201,7 @@ pub record Spends (desk : DeskId) (n : ℕ) (c : Command) (attempts k : ℕ) (be
   pub front : List (ℕ × Hash)
   pub head : Hash
   pub last : pairs ≡ front ++ ((state_of desk m).place, head) ∷ []
-  pub known : desk.opened.state.place + k ≤ first_place pairs
+  pub known : k ≤ first_place pairs
   pub number : ℕ
   pub dropped : after.dropped ≡ Some (record { number = number; caller = n; place = first_place pairs })
   pub newer : before.draft < number
@@ -221,19 +222,19 @@ Causes desk n c moment attempts k before after m place (refusals.Expired keys op
 Causes desk n c moment attempts k before after m place (refusals.Limit which number) = CausesLimit desk n c moment before after m place which number
 Causes desk n c moment attempts k before after m place why = IsRuledOut desk c moment before after m place why
 
--- what a call at a moment answers on a pass with number n that had seen l, knew of k entries and held the mark before, and has then seen m and holds the mark after
+-- what a call at a moment answers on a pass with number n that had seen l, knew of the place k and held the mark before, and has then seen m and holds the mark after
 abbrev pub Answers : DeskId → ℕ → Command → ℕ → ℕ → ℕ → Mark → Mark → List LogEntry → List LogEntry → Result Told Refused → Type 0
 Answers desk n c moment attempts k before after l m (Ok told) = Accepts desk n c moment before after l told m ⊎ Tells desk n c moment before after l told m
 Answers desk n c moment attempts k before after l m (Err refused) = Follows n l m × Causes desk n c moment attempts k before after m refused.place refused.why
 
 -- where a state was looked at, it was in a turn of the call, and the pass has seen all that it knows of, which is no less than before
-abbrev pub KnowsAt : Pass → Pass → Option ℕ → Type 0
-KnowsAt p q None = known p ≤ known q
-KnowsAt p q (Some place) = (known p ≤ length (seen q)) × (known q ≡ length (seen q)) × (turn_of p < turn_of q)
+abbrev pub KnowsAt : DeskId → Pass → Pass → Option ℕ → Type 0
+KnowsAt desk p q None = known p ≤ known q
+KnowsAt desk p q (Some place) = (known p ≤ place_after desk.opened (seen q)) × (known q ≡ place_after desk.opened (seen q)) × (turn_of p < turn_of q)
 
-abbrev pub Knows : Pass → Pass → Result Told Refused → Type 0
-Knows p q (Ok told) = (known p ≤ length (seen q)) × (known q ≡ length (seen q)) × (turn_of p < turn_of q)
-Knows p q (Err refused) = KnowsAt p q refused.place
+abbrev pub Knows : DeskId → Pass → Pass → Result Told Refused → Type 0
+Knows desk p q (Ok told) = (known p ≤ place_after desk.opened (seen q)) × (known q ≡ place_after desk.opened (seen q)) × (turn_of p < turn_of q)
+Knows desk p q (Err refused) = KnowsAt desk p q refused.place
 
 -- ---- the only pass
 
@@ -276,7 +277,15 @@ AnswersAlone n called b b' f f' (Err refused) = RefusesAlone n called b b' f f' 
 abbrev pub sweeps_in : Mark → Option Opening × Option ClosedSweep
 sweeps_in m = (m.sweep, m.closed)
 
--- what a call on a pass answers, at the moment of one reading of the clock and in so many attempts, whatever others do; what on the only pass of its desk, where nothing is left open if nothing was open, and no sweep was opened; and a call that needs no draft opens none
+-- how a mark tells that the log is kept: in which format, the place of the last checkpoint, and how many there are
+abbrev pub journal_in : Mark → ℕ × ℕ × Option ℕ
+journal_in m = (m.format, m.base, m.bases)
+
+-- both, which a change of the catalogue leaves
+abbrev pub rests_in : Mark → (ℕ × ℕ × Option ℕ) × Option Opening × Option ClosedSweep
+rests_in m = (journal_in m, m.sweep, m.closed)
+
+-- what a call on a pass answers, at the moment of one reading of the clock and in so many attempts, whatever others do; what on the only pass of its desk, where nothing is left open if nothing was open, no sweep was opened, and the log is kept as it was; and a call that needs no draft opens none
 abbrev pub AnswersTo : DeskId → Command → ℕ → Option (ℕ → ℕ) → Option (ℕ → ℕ) → Pass → Pass → Result Told Refused → Type 0
 AnswersTo desk command attempts ahead ahead' p q result =
     (moment : ℕ) × Ticks ahead ahead' moment
@@ -284,4 +293,4 @@ AnswersTo desk command attempts ahead ahead' p q result =
     × (IsAlone p → AnswersAlone (number_of p) (call_on sha256 (number_of p) (book_of desk p) command moment) (book_of desk p) (book_of desk q) (mark_of p).fault (mark_of q).fault result)
     × (IsAlone p → all_left_by p ≡ nothing_open → all_left_by q ≡ nothing_open)
     × (opens_draft command ≡ false → NoDraftIsNew (number_of p) (mark_of p) (mark_of q))
-    × (IsAlone p → sweeps_in (mark_of q) ≡ sweeps_in (mark_of p))
+    × (IsAlone p → rests_in (mark_of q) ≡ rests_in (mark_of p))

@@ -6,3 +6,4 @@ pub mod MarkLaws
 pub mod BookLaws
 pub mod AnswerLaws
 pub mod ReadyLaws
+pub mod Checkpoints

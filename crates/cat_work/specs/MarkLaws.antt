@@ -1,5 +1,5 @@
 -- Laws of what a turn leaves of the mark.
-use Rattle.std.proofs.Common.{◌≡◌, ℕ, None, Result, Ok, Err, sym, ap, ◌∙◌}
+use Rattle.std.proofs.Common.{◌≡◌, ℕ, Option, None, Result, Ok, Err, sym, ap, ◌∙◌}
 use Rattle.cat_core.specs.Drafts.{Refers, Refuses}
 use Rattle.cat_core.specs.Stored.{Stored}
 use Rattle.cat_desk.specs.Marks.{Linked}
@@ -8,9 +8,9 @@ use Rattle.cat_model.specs.declared.refusal.Refusal.TheVariants as refusals
 use Rattle.cat_model.specs.declared.refusal.Refused.{Refused}
 use Rattle.cat_model.specs.declared.reply.Told.{Told}
 use Rattle.cat_model.specs.Calls.{Called}
-use Rattle.cat_model.specs.Drafts.{Open}
-use Rattle.cat_model.specs.Mark.{Mark}
-use Rattle.cat_work.specs.Answers.{NoDraftIsNew}
+use Rattle.cat_model.specs.Drafts.{Open, Opening}
+use Rattle.cat_model.specs.Mark.{ClosedSweep, Mark}
+use Rattle.cat_work.specs.Answers.{NoDraftIsNew, journal_in, rests_in}
 
 -- ---- calls without a draft
 
@@ -37,11 +37,16 @@ refused_mark {K} called n s r refusals.NoRoute s' left_open h = ap (λ (x : Stor
 refused_mark {K} called n s r (refusals.WrongMethod x) s' left_open h = ap (λ (x : Stored K). but_fault x.mark) h.after
 refused_mark {K} called n s r refusals.TooLarge s' left_open h = ap (λ (x : Stored K). but_fault x.mark) h.after
 refused_mark {K} called n s r refusals.Encoding s' left_open h = ap (λ (x : Stored K). but_fault x.mark) h.after
+refused_mark {K} called n s r refusals.OldFormat s' left_open h = ap (λ (x : Stored K). but_fault x.mark) h.after
 
 -- and so does a call that opens no draft
 pub refers_mark : {K : Type 0} (called : Called) (n : ℕ) (s s' : Stored K) (r : Result Told Refused) → Refers called n s s' r → but_fault s'.mark ≡ but_fault s.mark
 refers_mark {K} called n s s' (Ok told) h = ap (λ (x : Stored K). but_fault x.mark) h.after
 refers_mark called n s s' (Err r) h = refused_mark called n s r r.why s' s.left_open h
+
+-- what leaves the sweeps and how the log is kept leaves this
+pub journal_stays : (a b : Mark) → rests_in a ≡ rests_in b → journal_in a ≡ journal_in b
+journal_stays a b same = ap (λ (x : (ℕ × ℕ × Option ℕ) × Option Opening × Option ClosedSweep). x.0) same
 
 -- ---- draft numbers
 

@@ -1,5 +1,5 @@
--- Laws of turns: what the desk's calls and the store's say of one, taken together, and what it leaves; and of logs that go on.
-use Rattle.std.proofs.Common.{◌≡◌, ◌≤◌, ℕ, ◌+◌, List, length, length-append, reverse, sym, ap, subst, ◌∙◌, arith}
+-- Laws of turns: what the desk's calls and the store's say of one, taken together, and what it leaves and finds open; and of logs that go on.
+use Rattle.std.proofs.Common.{◌≡◌, ◌≤◌, ℕ, ◌+◌, List, length, length-append, reverse, Option, Some, None, Bool, true, false, cond, nat_eq, eq-eqb, refl, sym, ap, subst, ◌∙◌, arith}
 use Rattle.std.proofs.lemmas.List.{reverse-reverse}
 use Rattle.sha2.specs.Sha256.{sha256}
 use Rattle.cat_checks.specs.Histories.{IsLegalFrom, begun, book_at}
@@ -12,10 +12,10 @@ use Rattle.cat_desk.specs.Pass.{DeskId, all_left_by, left_by, mark_of, number_of
 use Rattle.cat_desk.specs.declared.pass.Pass.{Pass}
 use Rattle.cat_model.specs.declared.log_entry.LogEntry.{LogEntry}
 use Rattle.cat_model.specs.Book.{Book}
-use Rattle.cat_model.specs.Drafts.{StaysOpen, open_of}
+use Rattle.cat_model.specs.Drafts.{Open, OpenSweep, StaysOpen, nothing_open, open_of, sweep_of}
 use Rattle.cat_model.specs.Later.{IsLater}
 use Rattle.cat_model.specs.Mark.{Grows, Mark}
-use Rattle.cat_model.specs.TurnLaws.{grows_on}
+use Rattle.cat_model.specs.TurnLaws.{grows_on, nothing_stays}
 use Rattle.cat_model.specs.Turns.{Opened}
 use Rattle.cat_work.specs.Passes.{IsAlone, book_of, state_of}
 use Rattle.cat_work.specs.Turns.{Turned}
@@ -74,6 +74,20 @@ book_found desk p q s s' t alone =
     let draft : s.book.draft ≡ (mark_of p).draft = sym t.draft ∙ ap (λ (m : Mark). m.draft) there.1 in
     let log : s.book.log ≡ reverse (seen p) = sym (reverse-reverse s.book.log) ∙ ap (λ (l : List LogEntry). reverse l) there.0 in
     λ i. record { state = state i; draft = draft i; log = log i; base = t.base i }
+
+-- ---- what is open of others
+
+-- none of the caller's is found where it left none
+pub none_found : {K : Type 0} (n : ℕ) (p : Pass) (s : Stored K) → left_by p ≡ nothing_open → StaysOpen (left_by p) (open_of n (stored.open_of s)) → open_of n (stored.open_of s) ≡ nothing_open
+none_found n p s left stays = nothing_stays (open_of n (stored.open_of s)) (subst (λ (o : Open). StaysOpen o (open_of n (stored.open_of s))) left stays)
+
+-- an open sweep of which the caller has none is another's
+others_by : (n : ℕ) (x : OpenSweep) (t : Bool) → nat_eq x.opening.caller n ≡ t → ◌≡◌ {A = Option OpenSweep} (cond t (Some x) None) None → x.opening.caller ≡ n → ⊥
+others_by n x true e none same = cc
+others_by n x false e none same = let wrong : nat_eq x.opening.caller n ≡ true = eq-eqb x.opening.caller n same in (let no : false ≡ true = sym e ∙ wrong in cc)
+
+pub others : (n : ℕ) (o : Open) (x : OpenSweep) → open_of n o ≡ nothing_open → o.sweep ≡ Some x → x.opening.caller ≡ n → ⊥
+others n o x none is = others_by n x (nat_eq x.opening.caller n) refl (ap (sweep_of n) (sym is) ∙ ap (λ (y : Open). y.sweep) none)
 
 -- ---- logs that go on
 

@@ -29,7 +29,7 @@ use Rattle.cat_model.specs.Step.{opening, opens_draft}
 use Rattle.cat_work.specs.declared.trying.Tried.{Tried}
 use Rattle.cat_work.specs.declared.trying.Tried.TheVariants.{Ended, On}
 use Rattle.cat_work.specs.declared.trying.Trying.{Trying}
-use Rattle.cat_work.specs.Answers.{Answers, AnswersAlone, AreHeadsAt, NoDraftIsNew, NoFaultIsNew, Rises, first_place, sweeps_in}
+use Rattle.cat_work.specs.Answers.{Answers, AnswersAlone, AreHeadsAt, NoDraftIsNew, NoFaultIsNew, Rises, first_place, rests_in}
 use Rattle.cat_work.specs.Passes.{IsAlone, book_of, state_of}
 
 -- ---- kinds of calls
@@ -184,7 +184,7 @@ pub record Going (desk : DeskId) (c : Command) (first present : Pass) (t : Tryin
   pub command_is : command_in t.draft ≡ c
   pub newer : (mark_of first).draft < t.draft.number
   pub within : t.draft.number ≤ desk.opened.state.limits.drafts
-  pub known_then : desk.opened.state.place + known first ≤ t.draft.place
+  pub known_then : known first ≤ t.draft.place
   pub count : length t.pairs.items ≡ number
   pub room : attempts + 1 ≤ vec_capacity t.pairs
   pub faults : NoFaultIsNew (number_of first) (mark_of first) (mark_of present)
@@ -211,4 +211,4 @@ pub record Comes (desk : DeskId) (c : Command) (first next : Pass) (attempts mom
   pub alone : IsAlone first → AnswersAlone (number_of first) (call_on sha256 (number_of first) (book_of desk first) c moment) (book_of desk first) (book_of desk next) (mark_of first).fault (mark_of next).fault r
   pub rests : IsAlone first → all_left_by first ≡ nothing_open → all_left_by next ≡ nothing_open
   pub undrafted : opens_draft c ≡ false → NoDraftIsNew (number_of first) (mark_of first) (mark_of next)
-  pub unswept : IsAlone first → sweeps_in (mark_of next) ≡ sweeps_in (mark_of first)
+  pub unswept : IsAlone first → rests_in (mark_of next) ≡ rests_in (mark_of first)

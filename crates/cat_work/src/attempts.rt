@@ -1,5 +1,5 @@
 //! The attempts of a call that opens a draft.
-ghost use Rattle.std.specs.Prelude.{◌≡◌, ◌≤◌, ◌<◌, ◌+◌, true, length, IfOk, IfErr, IsTrue, vec_len, vec_capacity};
+ghost use Rattle.std.specs.Prelude.{◌≡◌, ◌≤◌, ◌<◌, ◌+◌, true, IfOk, IfErr, IsTrue, vec_len, vec_capacity};
 ghost use Rattle.sha2.specs.Sha256.{sha256};
 ghost use Rattle.cat_checks.specs.Histories.{IsLegalFrom};
 ghost use Rattle.cat_core.specs.Drafts.{command_in};
@@ -8,6 +8,7 @@ ghost use Rattle.cat_model.specs.Step.{opens_draft};
 ghost use Rattle.cat_model.specs.WellMade.{is_well_made};
 ghost use Rattle.cat_work.specs.Answers.{KnowsAt};
 ghost use Rattle.cat_work.specs.Turns.{Begins, BeginsNone, Tries, TriesOn, out_of_memory};
+ghost use Rattle.cat_model.specs.Turns.{place_after};
 
 use crate::trying::{Tried, Trying};
 use crate::turns::{give_up, open, settle};
@@ -48,13 +49,13 @@ pub(crate) fn begin<'a, R: Wait, K: Keeper>(
         (λ t. Begins K desk.now command.now pass.old pass.new t
         × (attempts + 1 ≤ vec_capacity t.pairs)) }
     ensures known { IfOk result
-        (λ _. (known pass.old ≤ length (seen pass.new))
-        × (known pass.new ≡ length (seen pass.new))) }
+        (λ _. (known pass.old ≤ place_after desk.now.opened (seen pass.new))
+        × (known pass.new ≡ place_after desk.now.opened (seen pass.new))) }
     ensures turn { IfOk result (λ _. turn_of pass.old < turn_of pass.new) }
     ensures legal { IfOk result (λ _. IsLegalFrom desk.now.opened (seen pass.new)) }
     ensures refused { IfErr result
         (λ r. BeginsNone K desk.now command.now pass.old pass.new r
-        × KnowsAt pass.old pass.new r.place
+        × KnowsAt desk.now pass.old pass.new r.place
         × (IsLegalFrom desk.now.opened (seen pass.old)
         → IsLegalFrom desk.now.opened (seen pass.new))) }
 {
@@ -91,8 +92,8 @@ pub(crate) fn attempt<'a, R: Wait, K: Keeper, G: Gate>(
     requires room { vec_len trying.pairs < vec_capacity trying.pairs }
     ensures kept { Keeps desk.now pass.old pass.new }
     ensures gate { G.ready gate.new × (G.desks gate.new ≡ G.desks gate.old) }
-    ensures known { (known pass.old ≤ length (seen pass.new))
-        × (known pass.new ≡ length (seen pass.new)) }
+    ensures known { (known pass.old ≤ place_after desk.now.opened (seen pass.new))
+        × (known pass.new ≡ place_after desk.now.opened (seen pass.new)) }
     ensures turn { turn_of pass.old < turn_of pass.new }
     ensures legal { IsLegalFrom desk.now.opened (seen pass.new) }
     ensures tried { TriesOn K desk.now pass.old pass.new moment trying.entry result }

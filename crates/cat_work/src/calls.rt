@@ -45,7 +45,7 @@ fn make_at<R: Wait, K: Keeper, G: Gate>(
     ensures kept { Keeps desk.now pass.old pass.new }
     ensures legal { IsLegalFrom desk.now.opened (seen pass.new) }
     ensures gate { G.ready gate.new × (G.desks gate.new ≡ G.desks gate.old) }
-    ensures known { Knows pass.old pass.new result }
+    ensures known { Knows desk.now pass.old pass.new result }
     ensures comes { Comes desk.now command.now pass.old pass.new attempts moment result }
 {
     let mut trying = match begin(rt, alloc, desk, pass, attempts, command) {
@@ -80,7 +80,7 @@ fn make<R: Wait, K: Keeper, G: Gate, C: Clock>(
     ensures kept { Keeps desk.now pass.old pass.new }
     ensures ready { IsReady desk.now pass.new }
     ensures gate { G.ready gate.new × (G.desks gate.new ≡ G.desks gate.old) }
-    ensures known { Knows pass.old pass.new result }
+    ensures known { Knows desk.now pass.old pass.new result }
     ensures grows { Grows (mark_of pass.old) (mark_of pass.new) }
     ensures answers { AnswersTo desk.now command.now attempts (C.ahead clock.old)
         (C.ahead clock.new) pass.old pass.new result }
@@ -108,7 +108,7 @@ pub fn commit<R: Wait, K: Keeper, G: Gate, C: Clock>(
     ensures kept { Keeps desk.now pass.old pass.new }
     ensures ready { IsReady desk.now pass.new }
     ensures gate { G.ready gate.new × (G.desks gate.new ≡ G.desks gate.old) }
-    ensures known { Knows pass.old pass.new result }
+    ensures known { Knows desk.now pass.old pass.new result }
     ensures grows { Grows (mark_of pass.old) (mark_of pass.new) }
     ensures answers { AnswersTo desk.now command.now attempts (C.ahead clock.old)
         (C.ahead clock.new) pass.old pass.new result }
@@ -135,7 +135,7 @@ pub fn merge<R: Wait, K: Keeper, G: Gate, C: Clock>(
     ensures kept { Keeps desk.now pass.old pass.new }
     ensures ready { IsReady desk.now pass.new }
     ensures gate { G.ready gate.new × (G.desks gate.new ≡ G.desks gate.old) }
-    ensures known { Knows pass.old pass.new result }
+    ensures known { Knows desk.now pass.old pass.new result }
     ensures grows { Grows (mark_of pass.old) (mark_of pass.new) }
     ensures answers { AnswersTo desk.now command.now attempts (C.ahead clock.old)
         (C.ahead clock.new) pass.old pass.new result }
@@ -162,7 +162,7 @@ pub fn transplant<R: Wait, K: Keeper, G: Gate, C: Clock>(
     ensures kept { Keeps desk.now pass.old pass.new }
     ensures ready { IsReady desk.now pass.new }
     ensures gate { G.ready gate.new × (G.desks gate.new ≡ G.desks gate.old) }
-    ensures known { Knows pass.old pass.new result }
+    ensures known { Knows desk.now pass.old pass.new result }
     ensures grows { Grows (mark_of pass.old) (mark_of pass.new) }
     ensures answers { AnswersTo desk.now command.now attempts (C.ahead clock.old)
         (C.ahead clock.new) pass.old pass.new result }
@@ -189,7 +189,7 @@ pub fn call<R: Wait, K: Keeper, G: Gate, C: Clock>(
     ensures kept { Keeps desk.now pass.old pass.new }
     ensures ready { IsReady desk.now pass.new }
     ensures gate { G.ready gate.new × (G.desks gate.new ≡ G.desks gate.old) }
-    ensures known { Knows pass.old pass.new result }
+    ensures known { Knows desk.now pass.old pass.new result }
     ensures grows { Grows (mark_of pass.old) (mark_of pass.new) }
     ensures answers { AnswersTo desk.now command.now attempts (C.ahead clock.old)
         (C.ahead clock.new) pass.old pass.new result }

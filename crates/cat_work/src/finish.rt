@@ -1,5 +1,5 @@
 //! The last attempt of a call.
-ghost use Rattle.std.specs.Prelude.{◌≡◌, ◌≤◌, ◌<◌, [], ◌∷◌, ◌++◌, Some, length, IsTrue, vec_len, vec_capacity};
+ghost use Rattle.std.specs.Prelude.{◌≡◌, ◌≤◌, ◌<◌, [], ◌∷◌, ◌++◌, Some, IsTrue, vec_len, vec_capacity};
 ghost use Rattle.sha2.specs.Sha256.{sha256};
 ghost use Rattle.cat_decisions.specs.Builds.{IsBuilt, IsGivenBy};
 ghost use Rattle.cat_checks.specs.Histories.{IsLegalFrom};
@@ -10,7 +10,7 @@ ghost use Rattle.cat_model.specs.declared.refusal.Refusal.TheVariants.{RetriesSp
 ghost use Rattle.cat_model.specs.Drafts.{drafts_of};
 ghost use Rattle.cat_model.specs.Later.{IsLater};
 ghost use Rattle.cat_model.specs.State.{State};
-ghost use Rattle.cat_model.specs.Turns.{Acts};
+ghost use Rattle.cat_model.specs.Turns.{Acts, place_after};
 ghost use Rattle.cat_model.specs.WellMade.{is_well_made};
 ghost use Rattle.cat_work.specs.Turns.{Finishes, SettlesLast, Tries};
 
@@ -99,8 +99,8 @@ pub(crate) fn finish<R: Wait, K: Keeper, G: Gate>(
     requires few { vec_len trying.pairs ≤ 64 }
     ensures kept { Keeps desk.now pass.old pass.new }
     ensures gate { G.ready gate.new × (G.desks gate.new ≡ G.desks gate.old) }
-    ensures known { (known pass.old ≤ length (seen pass.new))
-        × (known pass.new ≡ length (seen pass.new)) }
+    ensures known { (known pass.old ≤ place_after desk.now.opened (seen pass.new))
+        × (known pass.new ≡ place_after desk.now.opened (seen pass.new)) }
     ensures turn { turn_of pass.old < turn_of pass.new }
     ensures legal { IsLegalFrom desk.now.opened (seen pass.new) }
     ensures finishes { Finishes K desk.now pass.old pass.new moment trying.entry result }

@@ -8,6 +8,7 @@
 mod alone;
 mod attempts;
 mod calls;
+mod checkpointing;
 mod finish;
 mod reading;
 mod referring;
@@ -16,5 +17,6 @@ mod turns;
 
 pub use alone::{hold, release};
 pub use calls::{call, commit, merge, transplant};
+pub use checkpointing::checkpoint;
 pub use reading::read;
 pub use referring::refer;

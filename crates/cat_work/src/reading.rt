@@ -1,5 +1,5 @@
 //! Calls that read.
-ghost use Rattle.std.specs.Prelude.{◌≡◌, ◌<◌, ◌≤◌, length};
+ghost use Rattle.std.specs.Prelude.{◌≡◌, ◌<◌, ◌≤◌};
 ghost use Rattle.sha2.specs.Sha256.{sha256};
 ghost use Rattle.cat_desk.specs.Log.{Follows};
 ghost use Rattle.cat_desk.specs.Marks.{Linked};
@@ -7,6 +7,7 @@ ghost use Rattle.cat_desk.specs.Pass.{Keeps, all_left_by, known, mark_of, number
 ghost use Rattle.cat_model.specs.Book.{Reads};
 ghost use Rattle.cat_model.specs.Mark.{Grows};
 ghost use Rattle.cat_work.specs.Passes.{IsAlone, IsReady, book_of};
+ghost use Rattle.cat_model.specs.Turns.{place_after};
 
 use cat_core::Store;
 use cat_desk::{Desk, Pass};
@@ -28,8 +29,8 @@ pub fn read<R: Wait, K: Keeper>(
     requires ready { IsReady desk.now pass.old }
     ensures kept { Keeps desk.now pass.old pass.new }
     ensures ready { IsReady desk.now pass.new }
-    ensures known { (known pass.old ≤ length (seen pass.new))
-        × (known pass.new ≡ length (seen pass.new)) }
+    ensures known { (known pass.old ≤ place_after desk.now.opened (seen pass.new))
+        × (known pass.new ≡ place_after desk.now.opened (seen pass.new)) }
     ensures turn { turn_of pass.old < turn_of pass.new }
     ensures grows { Grows (mark_of pass.old) (mark_of pass.new) }
     ensures linked { Linked (number_of pass.old) (mark_of pass.old) (mark_of pass.new) }

@@ -1,5 +1,5 @@
 //! Calls on references.
-ghost use Rattle.std.specs.Prelude.{ℕ, ◌≡◌, ◌<◌, ◌≤◌, false, length, IsTrue};
+ghost use Rattle.std.specs.Prelude.{ℕ, ◌≡◌, ◌<◌, ◌≤◌, false, IsTrue};
 ghost use Rattle.sha2.specs.Sha256.{sha256};
 ghost use Rattle.cat_checks.specs.Histories.{IsLegalFrom};
 ghost use Rattle.cat_desk.specs.Pass.{Keeps, all_left_by, known, mark_of, number_of, seen, turn_of};
@@ -9,9 +9,10 @@ ghost use Rattle.cat_model.specs.Drafts.{nothing_open};
 ghost use Rattle.cat_model.specs.Mark.{Grows};
 ghost use Rattle.cat_model.specs.Step.{opens_draft};
 ghost use Rattle.cat_model.specs.WellMade.{is_well_made};
-ghost use Rattle.cat_work.specs.Answers.{Answers, AnswersAlone, Knows, NoDraftIsNew, sweeps_in};
+ghost use Rattle.cat_work.specs.Answers.{Answers, AnswersAlone, Knows, NoDraftIsNew, rests_in};
 ghost use Rattle.cat_work.specs.Passes.{IsAlone, IsReady, book_of};
 ghost use Rattle.cat_work.specs.Turns.{Comes};
+ghost use Rattle.cat_model.specs.Turns.{place_after};
 
 use cat_core::Store;
 use cat_desk::{Desk, Pass};
@@ -37,8 +38,8 @@ fn refer_at<R: Wait, K: Keeper>(
     requires well_made { IsTrue (is_well_made sha256 command.now) }
     requires ready { IsReady desk.now pass.old }
     ensures kept { Keeps desk.now pass.old pass.new }
-    ensures known { (known pass.old ≤ length (seen pass.new))
-        × (known pass.new ≡ length (seen pass.new)) }
+    ensures known { (known pass.old ≤ place_after desk.now.opened (seen pass.new))
+        × (known pass.new ≡ place_after desk.now.opened (seen pass.new)) }
     ensures turn { turn_of pass.old < turn_of pass.new }
     ensures legal { IsLegalFrom desk.now.opened (seen pass.new) }
     ensures comes { (attempts : ℕ)
@@ -66,7 +67,7 @@ pub fn refer<R: Wait, K: Keeper, C: Clock>(
     requires ready { IsReady desk.now pass.old }
     ensures kept { Keeps desk.now pass.old pass.new }
     ensures ready { IsReady desk.now pass.new }
-    ensures known { Knows pass.old pass.new result }
+    ensures known { Knows desk.now pass.old pass.new result }
     ensures grows { Grows (mark_of pass.old) (mark_of pass.new) }
     ensures answers { (moment : ℕ) × Ticks (C.ahead clock.old) (C.ahead clock.new) moment
         × ((attempts : ℕ)
@@ -81,7 +82,7 @@ pub fn refer<R: Wait, K: Keeper, C: Clock>(
         → all_left_by pass.old ≡ nothing_open
         → all_left_by pass.new ≡ nothing_open) }
     ensures unswept { IsAlone pass.old
-        → sweeps_in (mark_of pass.new) ≡ sweeps_in (mark_of pass.old) }
+        → rests_in (mark_of pass.new) ≡ rests_in (mark_of pass.old) }
     ensures undrafted { NoDraftIsNew (number_of pass.old) (mark_of pass.old) (mark_of pass.new) }
 {
     let moment = Moment::from_micros(clock.now());

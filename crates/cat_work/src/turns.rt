@@ -1,5 +1,5 @@
 //! The turns of a call: each finds the store in one state and leaves it in another.
-ghost use Rattle.std.specs.Prelude.{◌≡◌, ◌<◌, ◌≤◌, ◌∷◌, [], None, true, length, IfOk, IfErr, IsTrue};
+ghost use Rattle.std.specs.Prelude.{◌≡◌, ◌<◌, ◌≤◌, ◌∷◌, [], None, true, IfOk, IfErr, IsTrue};
 ghost use Rattle.sha2.specs.Sha256.{sha256};
 ghost use Rattle.cat_decisions.specs.Builds.{IsBuilt, IsGivenBy};
 ghost use Rattle.cat_checks.specs.Histories.{IsLegalFrom};
@@ -9,6 +9,7 @@ ghost use Rattle.cat_model.specs.Step.{opens_draft};
 ghost use Rattle.cat_model.specs.WellMade.{is_well_made};
 ghost use Rattle.cat_work.specs.Passes.{state_of};
 ghost use Rattle.cat_work.specs.Turns.{DropsIn, Opens, OpensNone, SettlesIn};
+ghost use Rattle.cat_model.specs.Turns.{place_after};
 
 use cat_core::{Built, Draft, Settled, Store, View};
 use cat_desk::{Desk, Pass};
@@ -31,8 +32,8 @@ pub(crate) fn open<'a, R: Wait, K: Keeper>(
     requires well_made { IsTrue (is_well_made sha256 command.now) }
     requires opens { opens_draft command.now ≡ true }
     ensures kept { Keeps desk.now pass.old pass.new }
-    ensures known { (known pass.old ≤ length (seen pass.new))
-        × (known pass.new ≡ length (seen pass.new)) }
+    ensures known { (known pass.old ≤ place_after desk.now.opened (seen pass.new))
+        × (known pass.new ≡ place_after desk.now.opened (seen pass.new)) }
     ensures turn { turn_of pass.old < turn_of pass.new }
     ensures legal { IsLegalFrom desk.now.opened (seen pass.new) }
     ensures opened { IfOk result (λ t. Opens K desk.now command.now pass.old pass.new t.0 t.1) }
@@ -63,8 +64,8 @@ pub(crate) fn settle<'a, R: Wait, K: Keeper>(
         × (draft.caller ≡ number_of pass.old) }
     requires built { IsBuilt (state_of desk.now (seen pass.old)) draft.call built }
     ensures kept { Keeps desk.now pass.old pass.new }
-    ensures known { (known pass.old ≤ length (seen pass.new))
-        × (known pass.new ≡ length (seen pass.new)) }
+    ensures known { (known pass.old ≤ place_after desk.now.opened (seen pass.new))
+        × (known pass.new ≡ place_after desk.now.opened (seen pass.new)) }
     ensures turn { turn_of pass.old < turn_of pass.new }
     ensures legal { IsLegalFrom desk.now.opened (seen pass.new) }
     ensures settled { SettlesIn K desk.now pass.old pass.new draft.entry built moment result }
@@ -88,8 +89,8 @@ pub(crate) fn give_up<R: Wait, K: Keeper>(
     requires own { (left_by pass.old ≡ record { drafts = open_draft_of draft ∷ []; sweep = None })
         × (draft.caller ≡ number_of pass.old) }
     ensures kept { Keeps desk.now pass.old pass.new }
-    ensures known { (known pass.old ≤ length (seen pass.new))
-        × (known pass.new ≡ length (seen pass.new)) }
+    ensures known { (known pass.old ≤ place_after desk.now.opened (seen pass.new))
+        × (known pass.new ≡ place_after desk.now.opened (seen pass.new)) }
     ensures turn { turn_of pass.old < turn_of pass.new }
     ensures legal { IsLegalFrom desk.now.opened (seen pass.new) }
     ensures dropped { DropsIn K desk.now pass.old pass.new draft.entry }

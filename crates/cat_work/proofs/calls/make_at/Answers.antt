@@ -1,8 +1,9 @@
-use Rattle.std.proofs.Common.{rules, ◌≡◌, ℕ, refl, subst, ◌∙◌, length}
+use Rattle.std.proofs.Common.{rules, ◌≡◌, ℕ, refl, subst, ◌∙◌}
 use Rattle.cat_desk.specs.Pass.{known, seen, turn_of}
 use Rattle.cat_work.specs.Turns.{Going}
 use Rattle.cat_work.proofs.Endings.{begins, comes_early, comes_late, goes_on}
 use Rattle.cat_work.proofs.Unopened.{begins_none, knows_all, known_on, turned_on}
+use Rattle.cat_model.specs.Turns.{place_after}
 use Rattle.cat_work.proofs.calls.make_at.Goals as goal
 
 pub returns-in-Err-clause-comes : goal.returns-in-Err-clause-comes
@@ -14,13 +15,13 @@ loop-number-init g c = (
   c.requires.gate,
   refl,
   c.in-Ok.ensures.legal,
-  known_on (known c.args.pass.now) (length (seen c.begin.new.pass)) (known c.begin.new.pass) (length (seen c.begin.new.pass)) c.in-Ok.ensures.known.0 (search rules) c.in-Ok.ensures.known.1,
+  known_on (known c.args.pass.now) (place_after c.args.desk.now.opened (seen c.begin.new.pass)) (known c.begin.new.pass) (place_after c.args.desk.now.opened (seen c.begin.new.pass)) c.in-Ok.ensures.known.0 (search rules) c.in-Ok.ensures.known.1,
   c.in-Ok.ensures.turn,
 )
 
 pub returns-in-Ended-clause-known : goal.returns-in-Ended-clause-known
-returns-in-Ended-clause-known g c = knows_all c.args.pass.now c.attempt.new.pass c.in-Ended.answer
-    (known_on (known c.args.pass.now) (known c.loop-number.pass) (known c.attempt.new.pass) (length (seen c.attempt.new.pass)) c.loop-number.invariant.4 c.in-Ended.ensures.known.0 c.in-Ended.ensures.known.1) c.in-Ended.ensures.known.1
+returns-in-Ended-clause-known g c = knows_all c.args.desk.now c.args.pass.now c.attempt.new.pass c.in-Ended.answer
+    (known_on (known c.args.pass.now) (known c.loop-number.pass) (known c.attempt.new.pass) (place_after c.args.desk.now.opened (seen c.attempt.new.pass)) c.loop-number.invariant.4 c.in-Ended.ensures.known.0 c.in-Ended.ensures.known.1) c.in-Ended.ensures.known.1
     (turned_on (turn_of c.args.pass.now) (turn_of c.loop-number.pass) (turn_of c.attempt.new.pass) c.loop-number.invariant.5 c.in-Ended.ensures.turn)
 
 pub returns-in-Ended-clause-comes : goal.returns-in-Ended-clause-comes
@@ -33,13 +34,13 @@ loop-number-preserved g c = let x = c.in-On.ensures.tried in (
   c.in-On.ensures.gate.0,
   c.in-On.ensures.gate.1 ∙ c.loop-number.invariant.2,
   c.in-On.ensures.legal,
-  known_on (known c.args.pass.now) (known c.loop-number.pass) (known c.attempt.new.pass) (length (seen c.attempt.new.pass)) c.loop-number.invariant.4 c.in-On.ensures.known.0 c.in-On.ensures.known.1,
+  known_on (known c.args.pass.now) (known c.loop-number.pass) (known c.attempt.new.pass) (place_after c.args.desk.now.opened (seen c.attempt.new.pass)) c.loop-number.invariant.4 c.in-On.ensures.known.0 c.in-On.ensures.known.1,
   turned_on (turn_of c.args.pass.now) (turn_of c.loop-number.pass) (turn_of c.attempt.new.pass) c.loop-number.invariant.5 c.in-On.ensures.turn,
 )
 
 pub returns-clause-known : goal.returns-clause-known
-returns-clause-known g c = knows_all c.args.pass.now c.finish.new.pass c.finish.result
-    (known_on (known c.args.pass.now) (known c.loop-number.pass) (known c.finish.new.pass) (length (seen c.finish.new.pass)) c.loop-number.invariant.4 c.finish.ensures.known.0 c.finish.ensures.known.1) c.finish.ensures.known.1
+returns-clause-known g c = knows_all c.args.desk.now c.args.pass.now c.finish.new.pass c.finish.result
+    (known_on (known c.args.pass.now) (known c.loop-number.pass) (known c.finish.new.pass) (place_after c.args.desk.now.opened (seen c.finish.new.pass)) c.loop-number.invariant.4 c.finish.ensures.known.0 c.finish.ensures.known.1) c.finish.ensures.known.1
     (turned_on (turn_of c.args.pass.now) (turn_of c.loop-number.pass) (turn_of c.finish.new.pass) c.loop-number.invariant.5 c.finish.ensures.turn)
 
 pub returns-clause-comes : goal.returns-clause-comes
