@@ -28,7 +28,7 @@ use Rattle.cat_model.specs.Refusing.{Outcome}
 use Rattle.cat_model.specs.State.{State}
 use Rattle.cat_model.specs.Sweeps.{step_sweep, sweep_call, sweep_entry, sweep_of}
 use Rattle.cat_state.specs.Kept.{spelling}
-use Rattle.cat_work.specs.Answers.{AnswersAlone, FallsAlone, IsAt, NoFaultIsNew, RefusesAlone}
+use Rattle.cat_work.specs.Answers.{AnswersAlone, FallsAlone, IsAt, NoFaultIsNew, RefusesAlone, journal_in}
 use Rattle.cat_work.specs.MarkLaws.{but_fault, no_draft_still, refers_mark}
 use Rattle.cat_work.specs.Passes.{IsAlone, book_of, state_of}
 use Rattle.cat_work.specs.TurnLaws.{Left, book_found, left_by_turn}
@@ -59,6 +59,7 @@ refused_open {K} called n s r refusals.NoRoute s' left_open h = ap (λ (x : Stor
 refused_open {K} called n s r (refusals.WrongMethod x) s' left_open h = ap (λ (x : Stored K). stored.open_of x) h.after
 refused_open {K} called n s r refusals.TooLarge s' left_open h = ap (λ (x : Stored K). stored.open_of x) h.after
 refused_open {K} called n s r refusals.Encoding s' left_open h = ap (λ (x : Stored K). stored.open_of x) h.after
+refused_open {K} called n s r refusals.OldFormat s' left_open h = ap (λ (x : Stored K). stored.open_of x) h.after
 
 refers_open : {K : Type 0} (called : Called) (n : ℕ) (s s' : Stored K) (r : Result Told Refused) → Refers called n s s' r → stored.open_of s' ≡ stored.open_of s
 refers_open {K} called n s s' (Ok told) h = ap (λ (x : Stored K). stored.open_of x) h.after
@@ -120,7 +121,7 @@ module _ {K : Type 0} (desk : DeskId) (policy : Resolved) (moment : ℕ) (first 
   is_sweep : (log : List LogEntry) → Follows (number_of present) (seen present) log → IsLegalFrom desk.opened log → s'.mark.closed ≡ (shut s o).mark.closed → IsSweepOf desk n policy (known first) (mark_of first) (mark_of next) log w
   is_sweep log follows is_legal same = record {
     policy_is = policy_is;
-    known = subst (λ (x : ℕ). desk.opened.state.place + known first ≤ x) (sym place) g.known_then;
+    known = subst (λ (x : ℕ). known first ≤ x) (sym place) g.known_then;
     within = subst (λ (x : ℕ). x ≤ (state_of desk log).place) (sym place) (within_on desk (number_of present) (seen present) log g.sweep.opening.place follows is_legal g.within);
     closed = is_closed same;
   }
@@ -255,6 +256,7 @@ module _ {K : Type 0} (desk : DeskId) (policy : Resolved) (moment : ℕ) (first 
   causes r (refusals.WrongMethod x) same h = other r (refusals.WrongMethod x) same refl h.said
   causes r refusals.TooLarge same h = other r refusals.TooLarge same refl h.said
   causes r refusals.Encoding same h = other r refusals.Encoding same refl h.said
+  causes r refusals.OldFormat same h = other r refusals.OldFormat same refl h.said
 
   answers : (r : Result Told Refused) → Refers called o.opening.caller (shut s o) s' r → Answers desk n policy moment (known first) (mark_of first) (mark_of next) (seen first) (seen next) r
   answers (Ok told) h = accepted told h
@@ -347,6 +349,7 @@ module _ {K : Type 0} (desk : DeskId) (policy : Resolved) (moment : ℕ) (first 
     refused_alone r (refusals.WrongMethod x) same h = other r (refusals.WrongMethod x) same refl h.said
     refused_alone r refusals.TooLarge same h = other r refusals.TooLarge same refl h.said
     refused_alone r refusals.Encoding same h = other r refusals.Encoding same refl h.said
+    refused_alone r refusals.OldFormat same h = other r refusals.OldFormat same refl h.said
 
     by_result : (r : Result Told Refused) → Refers called o.opening.caller (shut s o) s' r → AnswersAlone n called b (book_of desk next) f (mark_of next).fault r
     by_result (Ok told) h = made_alone told h
@@ -359,6 +362,10 @@ module _ {K : Type 0} (desk : DeskId) (policy : Resolved) (moment : ℕ) (first 
     rests : stored.open_of s' ≡ stored.open_of (shut s o) → all_left_by next ≡ nothing_open
     rests same = turn.all_left ∙ same ∙ (λ i. record { drafts = (found_alone desk policy first present next s s' g turn only rest i).drafts; sweep = None })
 
+  -- the log is kept as it was, where the pass was alone and nothing was open
+  journal_found : IsAlone first → all_left_by first ≡ nothing_open → journal_in s.mark ≡ journal_in (mark_of first)
+  journal_found only rest = ap (λ (m : Mark). journal_in m) ((turn.alone (alone_still desk first present g.kept only)).1 ∙ (g.alone only rest).mark_is)
+
   settled : (r : Result Told Refused) → Refers called o.opening.caller (shut s o) s' r → Comes desk policy moment first next r
   settled r h = let kept : but_fault s'.mark ≡ but_fault (shut s o).mark = refers_mark called o.opening.caller (shut s o) s' r h in record {
     none = none_open (refers_open called o.opening.caller (shut s o) s' r h);
@@ -367,6 +374,7 @@ module _ {K : Type 0} (desk : DeskId) (policy : Resolved) (moment : ℕ) (first 
     alone = λ only rest. alone only rest r h;
     rests = λ only rest. rests only rest (refers_open called o.opening.caller (shut s o) s' r h);
     undrafted = no_draft_still n (mark_of first) s.mark (mark_of next) at.no_draft (ap (λ (m : Mark). m.draft) left.mark_is ∙ ap (λ (m : Mark). m.draft) kept) (ap (λ (m : Mark). m.drafter) left.mark_is ∙ ap (λ (m : Mark). m.drafter) kept);
+    unbased = λ only rest. ap (λ (m : Mark). journal_in m) left.mark_is ∙ ap (λ (m : Mark). journal_in m) kept ∙ journal_found only rest;
   }
 
   dropped : s' ≡ shut s o → Comes desk policy moment first next (Err out_of_memory)
@@ -380,6 +388,7 @@ module _ {K : Type 0} (desk : DeskId) (policy : Resolved) (moment : ℕ) (first 
         alone = λ only rest. by only rest (left.book_is ∙ book) fault;
         rests = λ only rest. rests only rest (ap (λ (x : Stored K). stored.open_of x) is);
         undrafted = no_draft_still n (mark_of first) s.mark (mark_of next) at.no_draft (ap (λ (m : Mark). m.draft) left.mark_is ∙ ap (λ (x : Stored K). x.mark.draft) is) (ap (λ (m : Mark). m.drafter) left.mark_is ∙ ap (λ (x : Stored K). x.mark.drafter) is);
+        unbased = λ only rest. ap (λ (m : Mark). journal_in m) left.mark_is ∙ ap (λ (x : Stored K). journal_in x.mark) is ∙ journal_found only rest;
       }
     where
       by : (only : IsAlone first) → all_left_by first ≡ nothing_open → book_of desk next ≡ s.book → s'.mark.fault ≡ s.mark.fault → AnswersAlone n (swept_on sha256 n (book_of desk first) policy no_names moment) (book_of desk first) (book_of desk next) (mark_of first).fault (mark_of next).fault (Err out_of_memory)

@@ -35,13 +35,14 @@ use Rattle.cat_names.specs.declared.hash.Hash.{Hash}
 use Rattle.cat_work.specs.Answers.{NoDraftIsNew, NoFaultIsNew}
 use Rattle.cat_work.specs.MarkLaws.{no_draft_on, no_draft_still}
 use Rattle.cat_work.specs.Passes.{IsAlone, book_of, state_of}
-use Rattle.cat_work.specs.TurnLaws.{Left, book_found, follows_length, goes_later, grew_in, left_by_turn, legal_before, place_at}
+use Rattle.cat_work.specs.TurnLaws.{Left, book_found, follows_length, goes_later, grew_in, left_by_turn, legal_before, none_found, place_at}
 use Rattle.cat_work.specs.Turns.{Turned}
 use Rattle.cat_collect.specs.Answers.{IsNewer}
 use Rattle.cat_collect.specs.Turns.{DrainsIn, Going, HasMarked, HasOpen, Holds, LeavesIn, OpensSweep, StoodAlone, is_nothing}
 use Rattle.cat_collect.proofs.Given.{all_marked, given_is}
 use Rattle.cat_collect.proofs.Later.{walked_later}
-use Rattle.cat_collect.proofs.Owned.{IsFound, found_as, found_open, none_found, one_left, one_open}
+use Rattle.cat_model.specs.Turns.{place_after}
+use Rattle.cat_collect.proofs.Owned.{IsFound, found_as, found_open, one_left, one_open}
 
 -- ---- what a turn finds, against the pass at first
 
@@ -78,7 +79,7 @@ found_same desk policy first present next s s' g turn only rest x is = same_Some
 
 -- ---- places
 
-known_at : (opened k size place here : ℕ) → k ≤ size → here ≡ opened + size → place ≡ here → opened + k ≤ place
+known_at : (opened k size place here : ℕ) → k ≤ opened + size → here ≡ opened + size → place ≡ here → k ≤ place
 known_at opened k size place here le e same = omega arith
 
 no_more : (a b : ℕ) → a ≡ b → a ≤ b
@@ -156,7 +157,7 @@ module _ (K : Type 0) (desk : DeskId) (policy : Resolved) (p q : Pass) (sweep : 
   no_drafts : IsAlone p → all_left_by p ≡ nothing_open → s.left_open.drafts ≡ []
   no_drafts only rest = ap (λ (y : Open). y.drafts) ((turn.alone only).2 ∙ rest)
 
-  pub begins : known p ≤ length (seen q) → IsLegalFrom desk.opened (seen q) → Going desk policy p q
+  pub begins : known p ≤ place_after desk.opened (seen q) → IsLegalFrom desk.opened (seen q) → Going desk policy p q
   begins known_is legal = record {
     sweep = o;
     left_is = left_is;
@@ -239,7 +240,7 @@ module _ {K : Type 0} (desk : DeskId) (policy : Resolved) (first present next : 
         caller = ap (λ (o : Opening). o.caller) opening ∙ g.caller;
         policy_is = policy_is ∙ g.policy_is;
         newer = subst (λ (y : Opening). IsNewer (mark_of first) y.number) (sym opening) g.newer;
-        known_then = subst (λ (n : ℕ). desk.opened.state.place + known first ≤ n) (sym place_then) g.known_then;
+        known_then = subst (λ (n : ℕ). known first ≤ n) (sym place_then) g.known_then;
         within = subst (λ (n : ℕ). n ≤ (state_of desk (seen next)).place) (sym place_then) (within_on desk (number_of present) (seen present) (seen next) g.sweep.opening.place more legal g.within);
         faults = λ x is own. found.no_new x (sym (ap (λ (m : Mark). m.fault) marks) ∙ is) own;
         drafts = no_draft_still (number_of first) (mark_of first) s.mark (mark_of next) found.no_draft (ap (λ (m : Mark). m.draft) marks) (ap (λ (m : Mark). m.drafter) marks);

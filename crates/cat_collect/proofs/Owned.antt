@@ -9,7 +9,6 @@ use Rattle.cat_core.specs.declared.sweeping.Sweep.{Sweep}
 use Rattle.cat_desk.specs.Pass.{left_by}
 use Rattle.cat_desk.specs.declared.pass.Pass.{Pass}
 use Rattle.cat_model.specs.Drafts.{Awaits, Open, OpenSweep, StaysOpen, SweepAwaits, drafts_of, nothing_open, open_of, sweep_of}
-use Rattle.cat_model.specs.TurnLaws.{nothing_stays}
 
 abbrev pub one_open : OpenSweep → Open
 one_open o = record { drafts = []; sweep = Some o }
@@ -40,10 +39,6 @@ found_as n p s a x left stays is =
     let found = found_open n p s a left stays in
     subst (λ (y : OpenSweep). IsFound n s a y) (same_Some found.0 x (sym found.1.is ∙ is)) found.1
 
--- none of the caller's is found where it left none
-pub none_found : {K : Type 0} (n : ℕ) (p : Pass) (s : Stored K) → left_by p ≡ nothing_open → StaysOpen (left_by p) (open_of n (stored.open_of s)) → open_of n (stored.open_of s) ≡ nothing_open
-none_found n p s left stays = nothing_stays (open_of n (stored.open_of s)) (subst (λ (o : Open). StaysOpen o (open_of n (stored.open_of s))) left stays)
-
 -- ---- what is left
 
 pub one_left : (n : ℕ) (o : Open) (x : OpenSweep) → drafts_of n o.drafts ≡ [] → o.sweep ≡ Some x → x.opening.caller ≡ n → open_of n o ≡ one_open x
@@ -53,14 +48,6 @@ one_left n o x drafts is own =
 
 pub none_left : (n : ℕ) (o : Open) → drafts_of n o.drafts ≡ [] → o.sweep ≡ None → open_of n o ≡ nothing_open
 none_left n o drafts is = λ i. record { drafts = drafts i; sweep = ap (sweep_of n) is i }
-
--- an open sweep of which the caller has none is another's
-others_by : (n : ℕ) (x : OpenSweep) (t : Bool) → nat_eq x.opening.caller n ≡ t → ◌≡◌ {A = Option OpenSweep} (cond t (Some x) None) None → x.opening.caller ≡ n → ⊥
-others_by n x true e none same = cc
-others_by n x false e none same = let wrong : nat_eq x.opening.caller n ≡ true = eq-eqb x.opening.caller n same in (let no : false ≡ true = sym e ∙ wrong in cc)
-
-pub others : (n : ℕ) (o : Open) (x : OpenSweep) → open_of n o ≡ nothing_open → o.sweep ≡ Some x → x.opening.caller ≡ n → ⊥
-others n o x none is = others_by n x (nat_eq x.opening.caller n) refl (ap (sweep_of n) (sym is) ∙ ap (λ (y : Open). y.sweep) none)
 
 -- ---- as the store's calls want it
 

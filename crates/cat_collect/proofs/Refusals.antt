@@ -18,15 +18,14 @@ use Rattle.cat_model.specs.Past.{swept_on}
 use Rattle.cat_model.specs.Mark.{Mark}
 use Rattle.cat_model.specs.State.{State}
 use Rattle.cat_model.specs.TurnLaws.{grows_self}
-use Rattle.cat_work.specs.Answers.{IsAt, NoFaultIsNew, RefusesAlone}
+use Rattle.cat_work.specs.Answers.{IsAt, NoFaultIsNew, RefusesAlone, journal_in}
 use Rattle.cat_work.specs.MarkLaws.{no_draft_still}
 use Rattle.cat_work.specs.Passes.{IsAlone, book_of}
-use Rattle.cat_work.specs.TurnLaws.{Left, book_found, grew_in, left_by_turn}
+use Rattle.cat_work.specs.TurnLaws.{Left, book_found, grew_in, left_by_turn, none_found, others}
 use Rattle.cat_work.specs.Turns.{Turned}
 use Rattle.cat_collect.specs.Answers.{Causes}
 use Rattle.cat_collect.specs.Turns.{Comes, OpensNone, out_of_memory}
 use Rattle.cat_collect.proofs.Goings.{Found, found_first}
-use Rattle.cat_collect.proofs.Owned.{none_found, others}
 
 given_up : (b b' : Book) (r : Refused) → b' ≡ b → r.place ≡ None → IsGivenUp b b' r
 given_up b b' r same none =
@@ -94,6 +93,7 @@ module _ {K : Type 0} (desk : DeskId) (policy : Resolved) (moment : ℕ) (p q : 
   causes (refusals.WrongMethod x) h = absurd h
   causes refusals.TooLarge h = absurd h
   causes refusals.Encoding h = absurd h
+  causes refusals.OldFormat h = absurd h
 
   module _ (only : IsAlone p) (rest : all_left_by p ≡ nothing_open) where
     mark_alone : mark_of q ≡ mark_of p
@@ -130,6 +130,7 @@ module _ {K : Type 0} (desk : DeskId) (policy : Resolved) (moment : ℕ) (p q : 
     alone (refusals.WrongMethod x) h = absurd h
     alone refusals.TooLarge h = absurd h
     alone refusals.Encoding h = absurd h
+    alone refusals.OldFormat h = absurd h
 
   unopened : NotSwept s r r.why → Comes desk policy moment p q (Err r)
   unopened h = record {
@@ -139,6 +140,7 @@ module _ {K : Type 0} (desk : DeskId) (policy : Resolved) (moment : ℕ) (p q : 
     alone = λ only rest. alone only rest r.why h;
     rests = λ only rest. turn.all_left ∙ ap (λ (x : Stored K). x.left_open) same ∙ rests only rest;
     undrafted = no_draft_still n (mark_of p) s.mark (mark_of q) at.no_draft (ap (λ (m : Mark). m.draft) mark) (ap (λ (m : Mark). m.drafter) mark);
+    unbased = λ only rest. ap (λ (m : Mark). journal_in m) (mark_alone only rest);
   }
 
 pub not_opened : (K : Type 0) (desk : DeskId) (policy : Resolved) (p q : Pass) (r : Refused) → left_by p ≡ nothing_open → OpensNone K desk p q r → (moment : ℕ) → Comes desk policy moment p q (Err r)
@@ -153,4 +155,5 @@ no_turn desk policy moment p none = record {
   alone = λ only rest. (given_up (book_of desk p) (book_of desk p) out_of_memory refl refl, refl);
   rests = λ only rest. rest;
   undrafted = λ last. refl;
+  unbased = λ only rest. refl;
 }

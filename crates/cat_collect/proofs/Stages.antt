@@ -1,5 +1,5 @@
 -- What the opening and a round of a collection come to.
-use Rattle.std.proofs.Common.{◌≡◌, ◌≤◌, ℕ, [], length, true, Err, sym, subst, ◌∙◌, arith}
+use Rattle.std.proofs.Common.{◌≡◌, ◌≤◌, ℕ, [], true, Err, sym, subst, ◌∙◌, arith}
 use Rattle.cat_checks.specs.Histories.{IsLegalFrom}
 use Rattle.cat_core.specs.declared.sweeping.Sweep.{Sweep}
 use Rattle.cat_desk.specs.Pass.{DeskId, Keeps, known, left_by, seen}
@@ -14,6 +14,7 @@ use Rattle.cat_model.specs.Drafts.{nothing_open}
 use Rattle.cat_model.specs.State.{State}
 use Rattle.cat_collect.specs.Turns.{Comes, DrainsIn, DropsIn, Going, Holds, IsOpenIn, LeavesIn, OpensSweep, is_nothing, out_of_memory}
 use Rattle.cat_collect.proofs.Endings.{drops}
+use Rattle.cat_model.specs.Turns.{place_after}
 use Rattle.cat_collect.proofs.Goings.{begins, begins_held, begins_open, drained_goes, nothing_added, now_marked, now_open, still_goes, still_open, walked_view}
 
 -- ---- two turns, one after the other
@@ -29,11 +30,11 @@ known_over k size there last first same later = omega arith
 pub opened_own : (K : Type 0) (desk : DeskId) (policy : Resolved) (p q : Pass) (sweep : Sweep) (roots : Roots) (view : State) → left_by p ≡ nothing_open → Keeps desk p q → OpensSweep K desk policy p q sweep roots view → IsOpenIn q sweep
 opened_own K desk policy p q sweep roots view none keeps opens = (_, begins_open K desk policy p q sweep roots view none keeps opens)
 
-pub opened_on : (K : Type 0) (desk : DeskId) (policy : Resolved) (p q : Pass) (sweep : Sweep) (roots : Roots) (view : State) (marks : Marks) → left_by p ≡ nothing_open → Keeps desk p q → OpensSweep K desk policy p q sweep roots view → known p ≤ length (seen q) → IsLegalFrom desk.opened (seen q)
+pub opened_on : (K : Type 0) (desk : DeskId) (policy : Resolved) (p q : Pass) (sweep : Sweep) (roots : Roots) (view : State) (marks : Marks) → left_by p ≡ nothing_open → Keeps desk p q → OpensSweep K desk policy p q sweep roots view → known p ≤ place_after desk.opened (seen q) → IsLegalFrom desk.opened (seen q)
     → AddsAll [] marks.set (live_of view.commits roots) → HaveWalked view.commits marks → Holds desk q sweep marks × Going desk policy p q
 opened_on K desk policy p q sweep roots view marks none keeps opens known_is legal adds walked = (begins_held K desk policy p q sweep roots view none keeps opens marks adds walked, begins K desk policy p q sweep roots view none keeps opens known_is legal)
 
-pub opened_spent : (K : Type 0) (desk : DeskId) (policy : Resolved) (p q z : Pass) (sweep : Sweep) (roots : Roots) (view : State) (r : Refused) → left_by p ≡ nothing_open → Keeps desk p q → OpensSweep K desk policy p q sweep roots view → known p ≤ length (seen q) → IsLegalFrom desk.opened (seen q)
+pub opened_spent : (K : Type 0) (desk : DeskId) (policy : Resolved) (p q z : Pass) (sweep : Sweep) (roots : Roots) (view : State) (r : Refused) → left_by p ≡ nothing_open → Keeps desk p q → OpensSweep K desk policy p q sweep roots view → known p ≤ place_after desk.opened (seen q) → IsLegalFrom desk.opened (seen q)
     → IsLegalFrom desk.opened (seen z) → DropsIn K desk q z → r ≡ out_of_memory → (moment : ℕ) → Comes desk policy moment p z (Err r)
 opened_spent K desk policy p q z sweep roots view r none keeps opens known_is legal after dropped is moment =
     subst (λ (x : Refused). Comes desk policy moment p z (Err x)) (sym is) (drops K desk policy moment p q z (begins K desk policy p q sweep roots view none keeps opens known_is legal) after dropped)

@@ -18,6 +18,7 @@ use Rattle.cat_model.specs.declared.log_entry.LogEntry.{LogEntry}
 use Rattle.cat_model.specs.declared.refusal.Refused.{Refused}
 use Rattle.cat_model.specs.declared.reply.Told.{Told}
 use Rattle.cat_model.specs.Mark.{Mark}
+use Rattle.cat_model.specs.Turns.{place_after}
 use Rattle.cat_policy.specs.declared.given.GivenCutoff.{GivenCutoff}
 use Rattle.cat_policy.specs.declared.given.GivenCutoff.TheVariants.{Back, Fixed}
 use Rattle.cat_policy.specs.declared.policy.Policy.{Policy}
@@ -42,13 +43,13 @@ comes_ready desk policy moment p q r ready kept legal comes =
 
 -- ---- what is known
 
-known_at : (p q : Pass) (place : Option ℕ) → known p ≤ known q → known q ≡ length (seen q) → turn_of p < turn_of q → KnowsAt p q place
-known_at p q None le is turn = le
-known_at p q (Some place) le is turn = (subst (λ (n : ℕ). known p ≤ n) is le, is, turn)
+known_at : (desk : DeskId) (p q : Pass) (place : Option ℕ) → known p ≤ known q → known q ≡ place_after desk.opened (seen q) → turn_of p < turn_of q → KnowsAt desk p q place
+known_at desk p q None le is turn = le
+known_at desk p q (Some place) le is turn = (subst (λ (n : ℕ). known p ≤ n) is le, is, turn)
 
-pub knows_all : (p q : Pass) (r : Result Told Refused) → known p ≤ known q → known q ≡ length (seen q) → turn_of p < turn_of q → Knows p q r
-knows_all p q (Ok told) le is turn = (subst (λ (n : ℕ). known p ≤ n) is le, is, turn)
-knows_all p q (Err e) le is turn = known_at p q e.place le is turn
+pub knows_all : (desk : DeskId) (p q : Pass) (r : Result Told Refused) → known p ≤ known q → known q ≡ place_after desk.opened (seen q) → turn_of p < turn_of q → Knows desk p q r
+knows_all desk p q (Ok told) le is turn = (subst (λ (n : ℕ). known p ≤ n) is le, is, turn)
+knows_all desk p q (Err e) le is turn = known_at desk p q e.place le is turn
 
 pub known_on : (a b c size : ℕ) → a ≤ b → b ≤ size → c ≡ size → a ≤ c
 known_on a b c size p q e = omega arith
@@ -61,7 +62,7 @@ turned_on a b c p q = omega arith
 pub collects : (desk : DeskId) (policy : Policy) (ahead later : Option (ℕ → ℕ)) (p q : Pass) (r : Result Told Refused) (now moment : ℕ) (at : Resolved) → moment ≡ now → Ticks ahead later now → at ≡ resolved moment policy → Comes desk at moment p q r → CollectsTo desk policy ahead later p q r
 collects desk policy ahead later p q r now moment at same ticks is comes =
     let there : Comes desk (resolved now policy) now p q r = subst (λ (x : Resolved × ℕ). Comes desk x.0 x.1 p q r) (λ i. ((is ∙ ap (λ (n : ℕ). resolved n policy) same) i, same i)) comes in
-    (now, ticks, there.answers, there.alone, there.rests, there.undrafted)
+    (now, ticks, there.answers, there.alone, there.rests, there.undrafted, there.unbased)
 
 -- ---- policies
 

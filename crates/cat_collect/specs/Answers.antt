@@ -21,7 +21,7 @@ use Rattle.cat_model.specs.Sweeps.{step_sweep, sweep_entry}
 use Rattle.cat_policy.specs.declared.policy.Policy.{Policy}
 use Rattle.cat_policy.specs.Policies.{resolved}
 use Rattle.cat_state.specs.Kept.{spelling}
-use Rattle.cat_work.specs.Answers.{AnswersAlone, IsAt, IsDown, NoDraftIsNew, NoFaultIsNew}
+use Rattle.cat_work.specs.Answers.{AnswersAlone, IsAt, IsDown, NoDraftIsNew, NoFaultIsNew, journal_in}
 use Rattle.cat_work.specs.Passes.{IsAlone, book_of, state_of}
 
 -- ---- sweeps
@@ -45,7 +45,7 @@ IsClosedBy n sweep before after = (number : ℕ) × IsNewer before number × (af
 -- it has the policy, was opened since the mark before, at a place that is no less than was known and not behind this log, and was closed
 pub record IsSweepOf (desk : DeskId) (n : ℕ) (policy : Resolved) (k : ℕ) (before after : Mark) (log : List LogEntry) (sweep : Sweep) : Type 0 where
   pub policy_is : sweep.policy ≡ policy
-  pub known : desk.opened.state.place + k ≤ sweep.opened
+  pub known : k ≤ sweep.opened
   pub within : sweep.opened ≤ (state_of desk log).place
   pub closed : IsClosedBy n sweep before after
 
@@ -103,14 +103,14 @@ Causes desk n policy moment k before after m place why = ⊥
 
 -- ---- answers
 
--- what a collection at a moment answers on a pass with number n that had seen l, knew of k entries and held the mark before, and has then seen m and holds the mark after
+-- what a collection at a moment answers on a pass with number n that had seen l, knew of the place k and held the mark before, and has then seen m and holds the mark after
 abbrev pub Answers : DeskId → ℕ → Resolved → ℕ → ℕ → Mark → Mark → List LogEntry → List LogEntry → Result Told Refused → Type 0
 Answers desk n policy moment k before after l m (Ok told) = Collects desk n policy moment k before after l told m
 Answers desk n policy moment k before after l m (Err refused) = Follows n l m × Causes desk n policy moment k before after m refused.place refused.why
 
 -- ---- a collection
 
--- what a collection on a pass answers, at the moment of one reading of the clock, whatever others do; and on the only pass of its desk, where nothing is open, it is the model's sweep on the pass's book, with no names, unless memory runs out or an append fails, and nothing is open after it; it opens no draft
+-- what a collection on a pass answers, at the moment of one reading of the clock, whatever others do; and on the only pass of its desk, where nothing is open, it is the model's sweep on the pass's book, with no names, unless memory runs out or an append fails, and nothing is open after it, and no checkpoint was made; it opens no draft
 abbrev pub CollectsTo : DeskId → Policy → Option (ℕ → ℕ) → Option (ℕ → ℕ) → Pass → Pass → Result Told Refused → Type 0
 CollectsTo desk policy ahead ahead' p q result =
     (moment : ℕ) × Ticks ahead ahead' moment
@@ -118,3 +118,4 @@ CollectsTo desk policy ahead ahead' p q result =
     × (IsAlone p → all_left_by p ≡ nothing_open → AnswersAlone (number_of p) (swept_on sha256 (number_of p) (book_of desk p) (resolved moment policy) no_names moment) (book_of desk p) (book_of desk q) (mark_of p).fault (mark_of q).fault result)
     × (IsAlone p → all_left_by p ≡ nothing_open → all_left_by q ≡ nothing_open)
     × NoDraftIsNew (number_of p) (mark_of p) (mark_of q)
+    × (IsAlone p → all_left_by p ≡ nothing_open → journal_in (mark_of q) ≡ journal_in (mark_of p))

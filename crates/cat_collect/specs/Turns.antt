@@ -1,5 +1,5 @@
 -- What the turns of a collection find and leave.
-use Rattle.std.specs.Prelude.{◌≡◌, ◌≤◌, ℕ, ◌+◌, [], length, Bool, ◌&&◌, nat_eq, Some, None, Result, Err}
+use Rattle.std.specs.Prelude.{◌≡◌, ◌≤◌, ℕ, [], length, Bool, ◌&&◌, nat_eq, Some, None, Result, Err}
 use Rattle.sha2.specs.Sha256.{sha256}
 use Rattle.cat_names.specs.declared.hash.Hash.{Hash}
 use Rattle.cat_mark.specs.declared.roots.Roots.{Roots}
@@ -23,7 +23,7 @@ use Rattle.cat_model.specs.Drafts.{OpenSweep, no_names, nothing_open}
 use Rattle.cat_model.specs.Mark.{Grows}
 use Rattle.cat_model.specs.Past.{swept_on}
 use Rattle.cat_model.specs.State.{State}
-use Rattle.cat_work.specs.Answers.{AnswersAlone, NoDraftIsNew, NoFaultIsNew}
+use Rattle.cat_work.specs.Answers.{AnswersAlone, NoDraftIsNew, NoFaultIsNew, journal_in}
 use Rattle.cat_work.specs.Passes.{IsAlone, book_of, state_of}
 use Rattle.cat_work.specs.Turns.{Turned}
 use Rattle.cat_collect.specs.declared.rounds.Marking.{Marking}
@@ -108,7 +108,7 @@ pub record Going (desk : DeskId) (policy : Resolved) (first present : Pass) : Ty
   pub caller : sweep.opening.caller ≡ number_of first
   pub policy_is : sweep.policy ≡ policy
   pub newer : IsNewer (mark_of first) sweep.opening.number
-  pub known_then : desk.opened.state.place + known first ≤ sweep.opening.place
+  pub known_then : known first ≤ sweep.opening.place
   pub within : sweep.opening.place ≤ (state_of desk (seen present)).place
   pub faults : NoFaultIsNew (number_of first) (mark_of first) (mark_of present)
   pub drafts : NoDraftIsNew (number_of first) (mark_of first) (mark_of present)
@@ -123,6 +123,7 @@ pub record Comes (desk : DeskId) (policy : Resolved) (moment : ℕ) (first next 
   pub alone : IsAlone first → all_left_by first ≡ nothing_open → AnswersAlone (number_of first) (swept_on sha256 (number_of first) (book_of desk first) policy no_names moment) (book_of desk first) (book_of desk next) (mark_of first).fault (mark_of next).fault r
   pub rests : IsAlone first → all_left_by first ≡ nothing_open → all_left_by next ≡ nothing_open
   pub undrafted : NoDraftIsNew (number_of first) (mark_of first) (mark_of next)
+  pub unbased : IsAlone first → all_left_by first ≡ nothing_open → journal_in (mark_of next) ≡ journal_in (mark_of first)
 
 -- it goes on with these marks
 abbrev pub GoesWith : DeskId → Resolved → Pass → Pass → Marking → Type 0

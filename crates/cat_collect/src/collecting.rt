@@ -48,7 +48,7 @@ fn collect_at<R: Wait + Threads + Sync, K: Keeper, G: Gate>(
     ensures kept { Keeps desk.now pass.old pass.new }
     ensures legal { IsLegalFrom desk.now.opened (seen pass.new) }
     ensures gate { G.ready gate.new × (G.desks gate.new ≡ G.desks gate.old) }
-    ensures known { Knows pass.old pass.new result }
+    ensures known { Knows desk.now pass.old pass.new result }
     ensures comes { Comes desk.now policy moment pass.old pass.new result }
 {
     let mut marking = match begin(rt, alloc, desk, pass, policy, workers) {
@@ -90,7 +90,7 @@ pub fn collect<R: Wait + Threads + Sync, K: Keeper, G: Gate, C: Clock>(
     ensures kept { Keeps desk.now pass.old pass.new }
     ensures ready { IsReady desk.now pass.new }
     ensures gate { G.ready gate.new × (G.desks gate.new ≡ G.desks gate.old) }
-    ensures known { Knows pass.old pass.new result }
+    ensures known { Knows desk.now pass.old pass.new result }
     ensures grows { Grows (mark_of pass.old) (mark_of pass.new) }
     ensures collects { CollectsTo desk.now policy.now (C.ahead clock.old) (C.ahead clock.new)
         pass.old pass.new result }

@@ -8,6 +8,7 @@ ghost use Rattle.cat_frames.specs.Sweeps.{resolved_is_logged};
 ghost use Rattle.cat_model.specs.declared.cutoff.Resolved.{Resolved};
 ghost use Rattle.cat_model.specs.Drafts.{nothing_open};
 ghost use Rattle.cat_collect.specs.Turns.{Comes, GoesAfter, GoesWith, Going, Holds, is_nothing, out_of_memory};
+ghost use Rattle.cat_model.specs.Turns.{place_after};
 
 use crate::marking::mark;
 use crate::turns::{drain, give_up, open};
@@ -69,8 +70,8 @@ pub(crate) fn begin<R: Wait + Threads + Sync, K: Keeper>(
     requires logged { IsTrue (resolved_is_logged policy) }
     requires workers { (1 ≤ workers) × (workers ≤ 64) }
     ensures kept { Keeps desk.now pass.old pass.new }
-    ensures known { (known pass.old ≤ length (seen pass.new))
-        × (known pass.new ≡ length (seen pass.new)) }
+    ensures known { (known pass.old ≤ place_after desk.now.opened (seen pass.new))
+        × (known pass.new ≡ place_after desk.now.opened (seen pass.new)) }
     ensures turn { turn_of pass.old < turn_of pass.new }
     ensures legal { IsLegalFrom desk.now.opened (seen pass.new) }
     ensures begun { IfOk result (λ m. GoesWith desk.now policy pass.old pass.new m) }
@@ -110,8 +111,8 @@ pub(crate) fn next_round<R: Wait + Threads + Sync, K: Keeper, G: Gate>(
     requires holds { Holds desk.now pass.old marking.sweep marking.marks }
     ensures kept { Keeps desk.now pass.old pass.new }
     ensures gate { G.ready gate.new × (G.desks gate.new ≡ G.desks gate.old) }
-    ensures known { (known pass.old ≤ length (seen pass.new))
-        × (known pass.new ≡ length (seen pass.new)) }
+    ensures known { (known pass.old ≤ place_after desk.now.opened (seen pass.new))
+        × (known pass.new ≡ place_after desk.now.opened (seen pass.new)) }
     ensures turn { turn_of pass.old < turn_of pass.new }
     ensures legal { IsLegalFrom desk.now.opened (seen pass.new) }
     ensures goes { (policy : Resolved) (first : Pass) → Going desk.now policy first pass.old

@@ -5,6 +5,7 @@ ghost use Rattle.cat_checks.specs.Histories.{IsLegalFrom};
 ghost use Rattle.cat_desk.specs.Pass.{IsFree, Keeps, known, seen, turn_of};
 ghost use Rattle.cat_frames.specs.Sweeps.{resolved_is_logged};
 ghost use Rattle.cat_collect.specs.Turns.{DrainsIn, DropsIn, Holds, IsOpenIn, LeavesIn, OpensNone, OpensSweep, SettlesIn};
+ghost use Rattle.cat_model.specs.Turns.{place_after};
 
 use cat_codes::fault::NoMemory;
 use cat_core::{Store, Sweep, View};
@@ -30,8 +31,8 @@ pub(crate) fn open<R: Wait, K: Keeper>(
     requires few { length policy.cutoffs ≤ 1000 }
     requires logged { IsTrue (resolved_is_logged policy) }
     ensures kept { Keeps desk.now pass.old pass.new }
-    ensures known { (known pass.old ≤ length (seen pass.new))
-        × (known pass.new ≡ length (seen pass.new)) }
+    ensures known { (known pass.old ≤ place_after desk.now.opened (seen pass.new))
+        × (known pass.new ≡ place_after desk.now.opened (seen pass.new)) }
     ensures turn { turn_of pass.old < turn_of pass.new }
     ensures legal { IsLegalFrom desk.now.opened (seen pass.new) }
     ensures opened { IfOk result
@@ -59,8 +60,8 @@ pub(crate) fn drain<R: Wait, K: Keeper>(
     requires free { IsFree desk.now pass.old }
     requires own { IsOpenIn pass.old sweep.now }
     ensures kept { Keeps desk.now pass.old pass.new }
-    ensures known { (known pass.old ≤ length (seen pass.new))
-        × (known pass.new ≡ length (seen pass.new)) }
+    ensures known { (known pass.old ≤ place_after desk.now.opened (seen pass.new))
+        × (known pass.new ≡ place_after desk.now.opened (seen pass.new)) }
     ensures turn { turn_of pass.old < turn_of pass.new }
     ensures legal { IsLegalFrom desk.now.opened (seen pass.new) }
     ensures drained { IfOk result (λ t. DrainsIn K desk.now pass.old pass.new t.0 t.1) }
@@ -89,8 +90,8 @@ pub(crate) fn settle<R: Wait, K: Keeper>(
     requires free { IsFree desk.now pass.old }
     requires holds { Holds desk.now pass.old sweep marks }
     ensures kept { Keeps desk.now pass.old pass.new }
-    ensures known { (known pass.old ≤ length (seen pass.new))
-        × (known pass.new ≡ length (seen pass.new)) }
+    ensures known { (known pass.old ≤ place_after desk.now.opened (seen pass.new))
+        × (known pass.new ≡ place_after desk.now.opened (seen pass.new)) }
     ensures turn { turn_of pass.old < turn_of pass.new }
     ensures legal { IsLegalFrom desk.now.opened (seen pass.new) }
     ensures settled { SettlesIn K desk.now pass.old pass.new moment result }
@@ -115,8 +116,8 @@ pub(crate) fn give_up<R: Wait, K: Keeper>(
     requires free { IsFree desk.now pass.old }
     requires own { IsOpenIn pass.old sweep }
     ensures kept { Keeps desk.now pass.old pass.new }
-    ensures known { (known pass.old ≤ length (seen pass.new))
-        × (known pass.new ≡ length (seen pass.new)) }
+    ensures known { (known pass.old ≤ place_after desk.now.opened (seen pass.new))
+        × (known pass.new ≡ place_after desk.now.opened (seen pass.new)) }
     ensures turn { turn_of pass.old < turn_of pass.new }
     ensures legal { IsLegalFrom desk.now.opened (seen pass.new) }
     ensures dropped { DropsIn K desk.now pass.old pass.new }

@@ -1,9 +1,10 @@
-use Rattle.std.proofs.Common.{length, Err, sym, subst, ◌∙◌}
+use Rattle.std.proofs.Common.{Err, sym, subst, ◌∙◌}
 use Rattle.cat_desk.specs.Pass.{known, seen, turn_of}
 use Rattle.cat_model.specs.declared.refusal.Refused.{Refused}
 use Rattle.cat_collect.specs.Turns.{Comes}
 use Rattle.cat_collect.proofs.Endings.{settles}
 use Rattle.cat_collect.proofs.Told.{known_on, turned_on}
+use Rattle.cat_model.specs.Turns.{place_after}
 use Rattle.cat_collect.proofs.collecting.collect_at.Goals as goal
 
 pub returns-in-Err-clause-comes : goal.returns-in-Err-clause-comes
@@ -27,7 +28,7 @@ loop-number-preserved g c = (
   c.in-On.ensures.gate.0,
   c.in-On.ensures.gate.1 ∙ c.loop-number.invariant.2,
   c.in-On.ensures.legal,
-  known_on (known c.args.pass.now) (known c.loop-number.pass) (known c.next_round.new.pass) (length (seen c.next_round.new.pass)) c.loop-number.invariant.4 c.in-On.ensures.known.0 c.in-On.ensures.known.1,
+  known_on (known c.args.pass.now) (known c.loop-number.pass) (known c.next_round.new.pass) (place_after c.args.desk.now.opened (seen c.next_round.new.pass)) c.loop-number.invariant.4 c.in-On.ensures.known.0 c.in-On.ensures.known.1,
   turned_on (turn_of c.args.pass.now) (turn_of c.loop-number.pass) (turn_of c.next_round.new.pass) c.loop-number.invariant.5 c.in-On.ensures.turn,
 )
 
