@@ -10,7 +10,7 @@ use Rattle.cat_names.specs.Fields.{Key}
 use Rattle.cat_names.specs.declared.hash.Hash.{Hash}
 use Rattle.cat_model.specs.declared.conflict.Conflict.{Conflict}
 use Rattle.cat_model.specs.declared.refusal.Refusal.{Refusal}
-use Rattle.cat_model.specs.declared.refusal.Refusal.TheVariants.{BadRequest, RefNotFound, RefExists, ContentNotFound, Conflicts, Expired, RetriesSpent, SweepOpen, Limit, Collision, Fault, Down, NoMemory, NoRoute, WrongMethod, TooLarge, Encoding}
+use Rattle.cat_model.specs.declared.refusal.Refusal.TheVariants.{BadRequest, RefNotFound, RefExists, ContentNotFound, Conflicts, Expired, RetriesSpent, SweepOpen, Limit, Collision, Fault, Down, NoMemory, NoRoute, WrongMethod, TooLarge, Encoding, OldFormat}
 use Rattle.cat_names.specs.Paths.{path_form}
 use Rattle.cat_replies.specs.Wording.{conflict_text, quantity_text, status_of, phrase_of, code_of, message_of}
 
@@ -98,3 +98,4 @@ no_float_refusal NoRoute = search floatless
 no_float_refusal (WrongMethod allowed) = search floatless
 no_float_refusal TooLarge = search floatless
 no_float_refusal Encoding = search floatless
+no_float_refusal OldFormat = search floatless

@@ -102,6 +102,11 @@ swept_data s = object (no_members
     +> (codes "openedPlace", natural_data s.opened)
     +> (codes "removed", natural_data s.removed))
 
+-- a checkpoint: the place of its state
+abbrev pub checkpoint_data : ℕ → Data
+checkpoint_data place = object (no_members
+    +> (codes "place", natural_data place))
+
 -- ---- pages: each tells whether more follows, and the token of the next one where it does
 
 abbrev pub references_token : List ℕ → Data
@@ -170,6 +175,7 @@ reply_data (replies.Reference reference) = object (no_members
 reply_data (replies.Committed r) = committed_data r
 reply_data (replies.Merged m) = merged_data m
 reply_data (replies.Swept s) = swept_data s
+reply_data (replies.Checkpoint place) = checkpoint_data place
 
 -- ---- none of them has a float, so its text is a function of it
 
@@ -226,3 +232,4 @@ no_float_reply (replies.Reference reference) = search floatless
 no_float_reply (replies.Committed r) = search (floatless, no_float_added)
 no_float_reply (replies.Merged m) = no_float_merged m
 no_float_reply (replies.Swept s) = search floatless
+no_float_reply (replies.Checkpoint place) = search floatless

@@ -14,7 +14,7 @@ use Rattle.cat_model.specs.declared.refusal.Missing.TheVariants as missing
 use Rattle.cat_model.specs.declared.refusal.Reason.{Reason}
 use Rattle.cat_model.specs.declared.refusal.Reason.TheVariants.{BadHead, BadBody, BadQuery, BadPath, NotABranch, DefaultBranch, OtherType, NotConsecutive}
 use Rattle.cat_model.specs.declared.refusal.Refusal.{Refusal}
-use Rattle.cat_model.specs.declared.refusal.Refusal.TheVariants.{BadRequest, RefNotFound, RefExists, ContentNotFound, Conflicts, Expired, RetriesSpent, SweepOpen, Limit, Collision, Fault, Down, NoMemory, NoRoute, WrongMethod, TooLarge, Encoding}
+use Rattle.cat_model.specs.declared.refusal.Refusal.TheVariants.{BadRequest, RefNotFound, RefExists, ContentNotFound, Conflicts, Expired, RetriesSpent, SweepOpen, Limit, Collision, Fault, Down, NoMemory, NoRoute, WrongMethod, TooLarge, Encoding, OldFormat}
 
 abbrev pub kind_text : Kind → List ℕ
 kind_text Branch = codes "BRANCH"
@@ -44,6 +44,7 @@ quantity_text quantities.Keys = codes "Keys"
 quantity_text quantities.Contents = codes "Contents"
 quantity_text quantities.Names = codes "Names"
 quantity_text quantities.Drafts = codes "Drafts"
+quantity_text quantities.Checkpoint = codes "Checkpoint"
 
 abbrev pub reason_text : Reason → List ℕ
 reason_text BadHead = codes "bad head"
@@ -74,6 +75,7 @@ status_of NoRoute = 404
 status_of (WrongMethod allowed) = 405
 status_of TooLarge = 413
 status_of Encoding = 415
+status_of OldFormat = 409
 
 -- the phrase of its status line
 abbrev pub phrase_of : Refusal → List ℕ
@@ -98,6 +100,7 @@ has_phrase NoRoute = refl
 has_phrase (WrongMethod allowed) = refl
 has_phrase TooLarge = refl
 has_phrase Encoding = refl
+has_phrase OldFormat = refl
 
 abbrev pub code_of : Refusal → List ℕ
 code_of (BadRequest reason) = codes "BAD_REQUEST"
@@ -117,6 +120,7 @@ code_of NoRoute = codes "NO_ROUTE"
 code_of (WrongMethod allowed) = codes "WRONG_METHOD"
 code_of TooLarge = codes "TOO_LARGE"
 code_of Encoding = codes "ENCODING"
+code_of OldFormat = codes "OLD_FORMAT"
 
 abbrev pub message_of : Refusal → List ℕ
 message_of (BadRequest reason) = reason_text reason
@@ -137,3 +141,4 @@ message_of NoRoute = codes "no such path"
 message_of (WrongMethod allowed) = codes "method not allowed"
 message_of TooLarge = codes "body too large"
 message_of Encoding = codes "encoding not supported"
+message_of OldFormat = codes "old format"

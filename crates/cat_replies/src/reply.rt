@@ -3,7 +3,7 @@
 ghost use Rattle.std.specs.Prelude.{◌≡◌, IfOk, string_bytes};
 ghost use Rattle.serde_json.specs.View.{view};
 ghost use Rattle.serde_json.specs.Written.{compact_text};
-ghost use Rattle.cat_replies.specs.Replies.{added_data, config_data, committed_data, reply_data, swept_data, no_float_added, no_float_reply};
+ghost use Rattle.cat_replies.specs.Replies.{added_data, config_data, checkpoint_data, committed_data, reply_data, swept_data, no_float_added, no_float_reply};
 
 use crate::content::{content_reply, contents_reply};
 use crate::history::history_page;
@@ -79,6 +79,12 @@ fn swept(alloc: Global, reply: &Swept) -> Result<Value, NoMemory>
     )
 }
 
+fn checkpoint(alloc: Global, place: &u32) -> Result<Value, NoMemory>
+    ensures { IfOk result (λ v. view v ≡ checkpoint_data place.now) }
+{
+    Ok(Object::new(alloc).with::<u32>("place", place)?.into_value())
+}
+
 impl WriteForm for ReplyForm {
     type Of = Reply;
 
@@ -107,6 +113,7 @@ impl WriteForm for ReplyForm {
             Reply::Committed(reply) => committed(alloc, reply),
             Reply::Merged(reply) => merged(alloc, reply),
             Reply::Swept(reply) => swept(alloc, reply),
+            Reply::Checkpoint(place) => checkpoint(alloc, place),
         }
     }
 }

@@ -57,6 +57,7 @@ pub(crate) fn quantity_text(which: Quantity) -> &'static str
         Quantity::Contents => "Contents",
         Quantity::Names => "Names",
         Quantity::Drafts => "Drafts",
+        Quantity::Checkpoint => "Checkpoint",
     }
 }
 
@@ -97,6 +98,7 @@ pub fn status_of(refusal: &Refusal) -> StatusCode
         Refusal::WrongMethod(_) => StatusCode::METHOD_NOT_ALLOWED,
         Refusal::TooLarge => StatusCode::PAYLOAD_TOO_LARGE,
         Refusal::Encoding => StatusCode::UNSUPPORTED_MEDIA_TYPE,
+        Refusal::OldFormat => StatusCode::CONFLICT,
     }
 }
 
@@ -127,6 +129,7 @@ pub(crate) fn code_of(refusal: &Refusal) -> &'static str
         Refusal::WrongMethod(_) => "WRONG_METHOD",
         Refusal::TooLarge => "TOO_LARGE",
         Refusal::Encoding => "ENCODING",
+        Refusal::OldFormat => "OLD_FORMAT",
     }
 }
 
@@ -155,6 +158,7 @@ pub(crate) fn message_of(alloc: Global, refusal: &Refusal) -> Result<String, All
         Refusal::WrongMethod(_) => "method not allowed",
         Refusal::TooLarge => "body too large",
         Refusal::Encoding => "encoding not supported",
+        Refusal::OldFormat => "old format",
     };
     String::from_str(alloc, text)
 }

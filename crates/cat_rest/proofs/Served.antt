@@ -231,6 +231,7 @@ read_served (routes.Commit, parts) r = commit_served parts.0 r.body
 read_served (routes.Merge, parts) r = merge_served parts.0 r.body
 read_served (routes.Transplant, parts) r = transplant_served parts.0 r.body
 read_served (routes.Sweep, parts) r = collect_served r.body
+read_served (routes.Checkpoint, parts) r = tt
 
 route_served : (found : Option Match) (r : Message) → AreServed (by_route found r)
 route_served None r = tt

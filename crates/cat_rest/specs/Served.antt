@@ -5,12 +5,13 @@ use Rattle.cat_model.specs.WellMade.{is_well_made}
 use Rattle.cat_model.specs.declared.refusal.Refusal.{Refusal}
 use Rattle.cat_policy.specs.Policies.{HasCounts, HasFew}
 use Rattle.cat_rest.specs.declared.wanted.Wanted.{Wanted}
-use Rattle.cat_rest.specs.declared.wanted.Wanted.TheVariants.{Read, Change, Collect}
+use Rattle.cat_rest.specs.declared.wanted.Wanted.TheVariants.{Read, Change, Collect, Checkpoint}
 
 abbrev pub IsServed : Wanted → Type 0
 IsServed (Read ask) = ⊤
 IsServed (Change command) = IsTrue (is_well_made sha256 command)
 IsServed (Collect policy) = HasFew policy × HasCounts policy
+IsServed Checkpoint = ⊤
 
 -- the same of what a request wants, or its refusal
 abbrev pub AreServed : Result Wanted Refusal → Type 0

@@ -17,7 +17,7 @@ use Rattle.cat_routes.specs.declared.routes.Route.TheVariants as routes
 use Rattle.cat_rest.specs.Changes.{create_at, assign_at, delete_at, commit_at, merge_at, transplant_at, collect_at}
 use Rattle.cat_rest.specs.Reads.{references_at, reference_at, entries_at, history_at, contents_at, requested_at, content_at}
 use Rattle.cat_rest.specs.declared.wanted.Wanted.{Wanted}
-use Rattle.cat_rest.specs.declared.wanted.Wanted.TheVariants.{Read, Change, Collect}
+use Rattle.cat_rest.specs.declared.wanted.Wanted.TheVariants.{Read, Change, Collect, Checkpoint}
 
 -- the methods of a route
 abbrev pub methods_of : Route → Allowed
@@ -32,6 +32,7 @@ methods_of routes.Commit = Post
 methods_of routes.Merge = Post
 methods_of routes.Transplant = Post
 methods_of routes.Sweep = Post
+methods_of routes.Checkpoint = Post
 
 abbrev pub allows : Allowed → List ℕ → Bool
 allows Get method = bytes_eq method (codes "GET")
@@ -79,7 +80,7 @@ contents_by part r =
 
 -- ---- requests
 
--- what a request wants of a route that has its method
+-- what a request wants of a route that has its method; of a checkpoint the query and the body have no effect
 abbrev pub read_at : Match → Message → Result Wanted Refusal
 read_at (routes.Config, parts) r = Ok (Read asks.Config)
 read_at (routes.Trees, parts) r = trees_by r
@@ -92,6 +93,7 @@ read_at (routes.Commit, parts) r = commit_at parts.0 r.body
 read_at (routes.Merge, parts) r = merge_at parts.0 r.body
 read_at (routes.Transplant, parts) r = transplant_at parts.0 r.body
 read_at (routes.Sweep, parts) r = collect_at r.body
+read_at (routes.Checkpoint, parts) r = Ok Checkpoint
 
 -- the method comes first, then the encoding
 abbrev pub with_route : Match → Message → Result Wanted Refusal
@@ -113,3 +115,4 @@ abbrev pub wants : Wanted → requests.Wants
 wants (Read ask) = requests.Read ask
 wants (Change command) = requests.Change command
 wants (Collect policy) = requests.Collect (λ moment. resolved moment policy)
+wants Checkpoint = requests.Checkpoint

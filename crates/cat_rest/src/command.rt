@@ -35,6 +35,7 @@ fn methods_of(route: Route) -> Allowed
         Route::Merge => Allowed::Post,
         Route::Transplant => Allowed::Post,
         Route::Sweep => Allowed::Post,
+        Route::Checkpoint => Allowed::Post,
     }
 }
 
@@ -126,6 +127,7 @@ fn read_at(alloc: Global, found: Found<'_>, request: &Request<'_>) -> Result<Wan
         Route::Merge => merge_at(alloc, part, request.body()),
         Route::Transplant => transplant_at(alloc, part, request.body()),
         Route::Sweep => collect_at(alloc, request.body()),
+        Route::Checkpoint => Ok(Wanted::Checkpoint),
     }
 }
 

@@ -4,10 +4,11 @@ use cat_model::ask::Ask;
 use cat_model::command::Command;
 use cat_policy::Policy;
 
-/// A reading call, a changing one, or a collection by a policy.
+/// A reading call, a changing one, a collection by a policy, or a checkpoint.
 #[derive(Drop)]
 pub enum Wanted {
     Read(Ask),
     Change(Command),
     Collect(Policy),
+    Checkpoint,
 }

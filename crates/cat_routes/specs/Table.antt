@@ -10,7 +10,7 @@ use Rattle.matchit.specs.Params.{walk}
 use Rattle.matchit.specs.declared.error.InsertError.{InsertError}
 use Rattle.cat_routes.specs.declared.routes.Found.{Found}
 use Rattle.cat_routes.specs.declared.routes.Route.{Route}
-use Rattle.cat_routes.specs.declared.routes.Route.TheVariants.{Config, Trees, Tree, Entries, History, Contents, Content, Commit, Merge, Transplant, Sweep}
+use Rattle.cat_routes.specs.declared.routes.Route.TheVariants.{Config, Trees, Tree, Entries, History, Contents, Content, Commit, Merge, Transplant, Sweep, Checkpoint}
 
 -- the table with one more route
 abbrev pub with_route : Result Scan InsertError → Route → RowsOf (RouteOf Route) → RowsOf (RouteOf Route)
@@ -19,6 +19,7 @@ with_route (Err e) route rows = rows
 
 abbrev pub table : RowsOf (RouteOf Route)
 table =
+    (with_route (parse_route (codes "/gc/v1/checkpoint")) Checkpoint
     (with_route (parse_route (codes "/gc/v1/sweep")) Sweep
     (with_route (parse_route (codes "/api/v2/trees/{reference}/history/transplant")) Transplant
     (with_route (parse_route (codes "/api/v2/trees/{reference}/history/merge")) Merge
@@ -30,7 +31,7 @@ table =
     (with_route (parse_route (codes "/api/v2/trees/{reference}")) Tree
     (with_route (parse_route (codes "/api/v2/trees")) Trees
     (with_route (parse_route (codes "/api/v2/config")) Config
-    [])))))))))))
+    []))))))))))))
 
 -- what the parameters of a route took of a path, in their order
 abbrev pub parts_of : RouteOf Route → List ℕ → List (List ℕ)

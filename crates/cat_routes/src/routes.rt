@@ -34,6 +34,8 @@ pub enum Route {
     Transplant,
     /// `/gc/v1/sweep`
     Sweep,
+    /// `/gc/v1/checkpoint`
+    Checkpoint,
 }
 
 /// The route of a path, and what its parameters took, still escaped.
@@ -137,6 +139,7 @@ impl Routes {
             Route::Transplant,
         )?;
         add(&mut router, "/gc/v1/sweep", Route::Sweep)?;
+        add(&mut router, "/gc/v1/checkpoint", Route::Checkpoint)?;
         Ok(Routes { router })
     }
 
