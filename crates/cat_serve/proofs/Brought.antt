@@ -35,13 +35,14 @@ record IsAnswer (k : Readings) (s : Session) (w : Result Wanted Refusal) (told :
 abbrev MaySay : Readings → Session → Result Wanted Refusal → Result Told Refused → Type 0
 MaySay k s w told = IsAnswer k s w told ⊎ IsGivenUp s (said_only s told)
 
-given_up_at : (s : Session) (place : Option ℕ) → place ≡ None → IsGivenUp s (said_only s (no_memory_at place))
+pub given_up_at : (s : Session) (place : Option ℕ) → place ≡ None → IsGivenUp s (said_only s (no_memory_at place))
 given_up_at s place none = record {
   said = ap no_memory_at none;
   logged = refl;
   state = refl;
   log = refl;
   base = refl;
+  journal = refl;
   draft_kept = omega arith;
   draft_taken = omega arith;
   reading_kept = omega arith;

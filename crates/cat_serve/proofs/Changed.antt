@@ -13,6 +13,7 @@ use Rattle.cat_model.specs.Requests.{Brought, IsGivenUp, Session, request, broug
 use Rattle.cat_http.specs.Message.{Message}
 use Rattle.cat_rest.specs.Wanted.{wanted}
 use Rattle.cat_core.specs.Making.{IsNotKept}
+use Rattle.cat_state.specs.Kept.{spelling}
 use Rattle.cat_serve.specs.Sessions.{Readings, Fallen, Standing, MayComeTo, down_call, down_request, wants_in}
 use Rattle.cat_serve.specs.Answers.{Brings, given_up}
 use Rattle.cat_serve.specs.Replies.{must_be_told}
@@ -22,7 +23,7 @@ use Rattle.cat_serve.proofs.Changing.{Settles, Spares}
 
 -- a session after a call: its moment is taken
 abbrev pub session_after : Session → Book → Session
-session_after s book = record { book = book; readings = s.readings + 1 }
+session_after s book = record s { book = book; readings = s.readings + 1 }
 
 -- a standing after a call
 abbrev pub after_change : Standing → Book → Option Fallen → Standing
@@ -35,9 +36,9 @@ left_so s told book = record { said = told; logged = []; after = session_after s
 -- the call was given up for want of memory, or that is told in place of what was
 given_up_is : (s : Session) (told : Result Told Refused) (book : Book) → told ≡ Err given_up → book.state ≡ s.book.state → book.log ≡ s.book.log → book.base ≡ s.book.base → s.book.draft ≤ book.draft → book.draft ≤ s.book.draft + 1 → IsGivenUp s (left_so s told book)
 given_up_is s told book said state log base kept taken =
-    record { said = said; logged = refl; state = state; log = log; base = base; draft_kept = kept; draft_taken = taken; reading_kept = omega arith; reading_taken = omega arith }
+    record { said = said; logged = refl; state = state; log = log; base = base; journal = refl; draft_kept = kept; draft_taken = taken; reading_kept = omega arith; reading_taken = omega arith }
 
-at_fallen : (k : Readings) (s : Standing) (fallen : Option Fallen) (m : Message) (b : Brought) (s' : Standing) → s.fallen ≡ fallen → MayComeTo k s fallen (wanted m) b s' → MayComeTo k s s.fallen (wanted m) b s'
+pub at_fallen : (k : Readings) (s : Standing) (fallen : Option Fallen) (m : Message) (b : Brought) (s' : Standing) → s.fallen ≡ fallen → MayComeTo k s fallen (wanted m) b s' → MayComeTo k s s.fallen (wanted m) b s'
 at_fallen k s fallen m b s' at p = subst (λ (x : Option Fallen). MayComeTo k s x (wanted m) b s') (sym at) p
 
 -- ---- while the store is down
@@ -52,7 +53,7 @@ down k s f m at is = record {
 
 -- ---- while it is not
 
-clash : (b : Bool) → b ≡ true → b ≡ false → ⊥
+pub clash : (b : Bool) → b ≡ true → b ≡ false → ⊥
 clash b one other = cc
 
 -- a call of which want of memory may be told spared the book
@@ -60,7 +61,7 @@ spared : (called : Called) (state : State) (told : Result Told Refused) → call
 spared called state told said (inl must) h = absurd (clash (must_be_told told) (ap must_be_told (sym said) ∙ must) h)
 spared called state told said (inr spares) h = spares
 
-true_stands : true ≡ false → ⊥
+pub true_stands : true ≡ false → ⊥
 true_stands h = cc
 
 -- the request's call on the session's book
@@ -82,18 +83,18 @@ module _ (k : Readings) (s : Standing) (m : Message) (c : Called) (after : Book)
       }
 
   -- the entry of the call wasn't kept
-  pub falls : (place : Option ℕ) (fallen : Fallen) → place ≡ Some s.session.book.state.place → c.logged ≡ fallen.entry ∷ [] → IsNotKept c s.session.book after
+  pub falls : (place : Option ℕ) (fallen : Fallen) (entry : LogEntry) → place ≡ Some s.session.book.state.place → c.logged ≡ entry ∷ [] → fallen.payload ≡ spelling entry → IsNotKept c s.session.book after
       → Brings k s m (Err (record { place = place; why = Fault })) (left_so s.session (Err (record { place = place; why = Fault })) (record s.session.book { draft = c.draft })) (after_change s after (Some fallen))
-  falls place fallen at one p =
+  falls place fallen entry at one spelled p =
       let leaves : session_after s.session after ≡ session_after s.session (record s.session.book { draft = c.draft }) =
       λ i. session_after s.session (record { state = p.state i; draft = p.draft i; log = p.log i; base = p.base i }) in
       record {
         comes = at_fallen k s None m _ _ up (inr (record {
           fallen = fallen;
-          accepted = ap (λ (b : Brought). b.logged) (sym is) ∙ one;
+          accepted = inl (entry, ap (λ (b : Brought). b.logged) (sym is) ∙ one, spelled);
           said = ap (λ (x : Option ℕ). Err (record { place = x; why = Fault })) at;
           logged = refl;
-          after_is = ap (λ (b : Brought). session_after s.session (record s.session.book { draft = b.after.book.draft })) is;
+          after_is = ap (λ (b : Brought). record (s.session) { book = record s.session.book { draft = b.after.book.draft }; readings = b.after.readings }) is;
           leaves = leaves;
           down = refl;
         }));

@@ -6,6 +6,7 @@ pub mod Changing
 pub mod Brought
 pub mod Changed
 pub mod Standing
+pub mod Checkpointing
 pub mod Answering
 pub mod Reading
 pub mod Making

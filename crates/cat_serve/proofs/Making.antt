@@ -20,7 +20,7 @@ use Rattle.cat_policy.specs.declared.policy.Policy.{Policy}
 use Rattle.cat_policy.specs.Policies.{resolved}
 use Rattle.cat_collect.specs.Answers.{Answers as CollectionAnswers}
 use Rattle.cat_rest.specs.declared.wanted.Wanted.{Wanted}
-use Rattle.cat_rest.specs.declared.wanted.Wanted.TheVariants.{Change, Collect, Read}
+use Rattle.cat_rest.specs.declared.wanted.Wanted.TheVariants.{Change, Checkpoint, Collect, Read}
 use Rattle.cat_work.specs.Answers.{Answers}
 use Rattle.cat_work.specs.Passes.{state_of}
 use Rattle.cat_serve.specs.Entries.{Makes, entries_of}
@@ -117,6 +117,7 @@ pub made_in : (desk : DeskId) (attempts : ℕ) (wants : Result Wanted Refusal) (
 made_in desk attempts (Ok (Change command)) taken p q told (inl change) = made_by_change desk attempts command change.moment taken p q told change.one change.answers
 made_in desk attempts (Ok (Collect policy)) taken p q told (inl collection) = made_by_collection desk policy collection.moment taken p q told collection.one collection.answers
 made_in desk attempts (Ok (Read ask)) taken p q told (inl reading) = ([], reading.follows)
+made_in desk attempts (Ok Checkpoint) taken p q told (inl checkpoint) = ([], checkpoint.checks.follows)
 made_in desk attempts (Err why) taken p q told (inl call) = absurd call
 made_in desk attempts wants taken p q told (inr refusal) = ([], ([], ap seen refusal.stays ∙ sym (append-nil (seen p)), tt))
 
@@ -125,5 +126,6 @@ pub mark_grows : (desk : DeskId) (attempts : ℕ) (wants : Result Wanted Refusal
 mark_grows desk attempts (Ok (Change command)) taken p q told (inl change) = change.grows
 mark_grows desk attempts (Ok (Collect policy)) taken p q told (inl collection) = collection.grows
 mark_grows desk attempts (Ok (Read ask)) taken p q told (inl reading) = reading.grows
+mark_grows desk attempts (Ok Checkpoint) taken p q told (inl checkpoint) = checkpoint.grows
 mark_grows desk attempts (Err why) taken p q told (inl call) = absurd call
 mark_grows desk attempts wants taken p q told (inr refusal) = subst (λ (x : Pass). Grows (mark_of p) (mark_of x)) (sym refusal.stays) (grows_self (mark_of p))

@@ -1,10 +1,10 @@
 -- What a session answers on any pass of its desk, whatever other callers do.
-use Rattle.std.specs.Prelude.{ℕ, ◌+◌, ◌==◌, ◌<◌, ◌≤◌, ◌≡◌, ◌⊎◌, List, [], ◌∷◌, length, take, Option, Some, IfSome, true, false, ◌||◌, Result, Ok, Err}
+use Rattle.std.specs.Prelude.{ℕ, ◌+◌, ◌==◌, ◌<◌, ◌≤◌, ◌≡◌, ◌⊎◌, List, [], ◌∷◌, take, Option, Some, IfSome, true, false, ◌||◌, Result, Ok, Err}
 use Rattle.std.specs.Io.KnownBytes.{Appends}
 use Rattle.sha2.specs.Sha256.{sha256}
 use Rattle.cat_desk.specs.Log.{Follows}
 use Rattle.cat_desk.specs.Marks.{Linked}
-use Rattle.cat_desk.specs.Pass.{DeskId, known, mark_of, number_of, seen, turn_of}
+use Rattle.cat_desk.specs.Pass.{DeskId, all_left_by, known, mark_of, number_of, seen, turn_of}
 use Rattle.cat_desk.specs.declared.pass.Pass.{Pass}
 use Rattle.cat_http.specs.Message.{Message}
 use Rattle.cat_http.specs.Next.{IsRequest, IsEnd, IsMalformed, IsTooLarge}
@@ -17,16 +17,19 @@ use Rattle.cat_model.specs.declared.refusal.Refusal.TheVariants.{BadRequest, Too
 use Rattle.cat_model.specs.declared.refusal.Refused.{Refused}
 use Rattle.cat_model.specs.declared.reply.Told.{Told}
 use Rattle.cat_model.specs.Book.{Reads}
+use Rattle.cat_model.specs.Drafts.{nothing_open}
 use Rattle.cat_model.specs.Mark.{Grows}
 use Rattle.cat_model.specs.Step.{opens_draft}
+use Rattle.cat_model.specs.Turns.{place_after}
 use Rattle.cat_policy.specs.declared.policy.Policy.{Policy}
 use Rattle.cat_policy.specs.Policies.{resolved}
 use Rattle.cat_collect.specs.Answers.{Answers as CollectionAnswers}
 use Rattle.cat_rest.specs.declared.wanted.Wanted.{Wanted}
-use Rattle.cat_rest.specs.declared.wanted.Wanted.TheVariants.{Change, Collect, Read}
+use Rattle.cat_rest.specs.declared.wanted.Wanted.TheVariants.{Change, Checkpoint, Collect, Read}
 use Rattle.cat_rest.specs.Faults.{Answers as ByBytes}
 use Rattle.cat_rest.specs.Wanted.{wanted}
-use Rattle.cat_work.specs.Answers.{Answers, Knows, NoDraftIsNew, sweeps_in}
+use Rattle.cat_work.specs.Answers.{Answers, Knows, NoDraftIsNew, journal_in, rests_in, sweeps_in}
+use Rattle.cat_work.specs.Checkpoints.{ChecksTo}
 use Rattle.cat_work.specs.Passes.{IsAlone, book_of}
 use Rattle.cat_serve.specs.declared.ending.Session.{Session as End}
 use Rattle.cat_serve.specs.declared.ending.Session.TheVariants as ends
@@ -42,9 +45,9 @@ pub record IsChange (desk : DeskId) (attempts : ℕ) (command : Command) (taken 
   pub moment : ℕ
   pub one : taken ≡ moment ∷ []
   pub answers : Answers desk (number_of p) command moment attempts (known p) (mark_of p) (mark_of q) (seen p) (seen q) told
-  pub knows : Knows p q told
+  pub knows : Knows desk p q told
   pub undrafted : opens_draft command ≡ false → NoDraftIsNew (number_of p) (mark_of p) (mark_of q)
-  pub unswept : IsAlone p → sweeps_in (mark_of q) ≡ sweeps_in (mark_of p)
+  pub unswept : IsAlone p → rests_in (mark_of q) ≡ rests_in (mark_of p)
   pub grows : Grows (mark_of p) (mark_of q)
 
 -- a collection is made once, by its policy at the moment of one reading of the clock
@@ -52,8 +55,18 @@ pub record IsCollection (desk : DeskId) (policy : Policy) (taken : List ℕ) (p 
   pub moment : ℕ
   pub one : taken ≡ moment ∷ []
   pub answers : CollectionAnswers desk (number_of p) (resolved moment policy) moment (known p) (mark_of p) (mark_of q) (seen p) (seen q) told
-  pub knows : Knows p q told
+  pub knows : Knows desk p q told
   pub undrafted : NoDraftIsNew (number_of p) (mark_of p) (mark_of q)
+  pub unbased : IsAlone p → all_left_by p ≡ nothing_open → journal_in (mark_of q) ≡ journal_in (mark_of p)
+  pub grows : Grows (mark_of p) (mark_of q)
+
+-- a checkpoint is made in a turn of this call, or refused there: no moment is taken, no draft is opened, and no sweep
+pub record IsCheckpoint (desk : DeskId) (taken : List ℕ) (p q : Pass) (told : Result Told Refused) : Type 0 where
+  pub none : taken ≡ []
+  pub checks : ChecksTo desk p q told
+  pub knows : Knows desk p q told
+  pub undrafted : NoDraftIsNew (number_of p) (mark_of p) (mark_of q)
+  pub unswept : IsAlone p → sweeps_in (mark_of q) ≡ sweeps_in (mark_of p)
   pub grows : Grows (mark_of p) (mark_of q)
 
 -- what is asked is read in a turn of this call, from all that the pass knows of: what it had seen, and then entries of others
@@ -61,8 +74,8 @@ pub record IsReading (desk : DeskId) (ask : Ask) (taken : List ℕ) (p q : Pass)
   pub none : taken ≡ []
   pub reads : Reads sha256 (book_of desk q) ask told
   pub follows : Follows (number_of p) (seen p) (seen q)
-  pub knew : known p ≤ length (seen q)
-  pub knows : known q ≡ length (seen q)
+  pub knew : known p ≤ place_after desk.opened (seen q)
+  pub knows : known q ≡ place_after desk.opened (seen q)
   pub turn : turn_of p < turn_of q
   pub linked : Linked (number_of p) (mark_of p) (mark_of q)
   pub still : IsAlone p → mark_of q ≡ mark_of p
@@ -80,6 +93,7 @@ pub record IsRefusal (wants : Result Wanted Refusal) (taken : List ℕ) (p q : P
 abbrev pub IsCall : DeskId → ℕ → Result Wanted Refusal → List ℕ → Pass → Pass → Result Told Refused → Type 0
 IsCall desk attempts (Ok (Change command)) taken p q told = IsChange desk attempts command taken p q told
 IsCall desk attempts (Ok (Collect policy)) taken p q told = IsCollection desk policy taken p q told
+IsCall desk attempts (Ok Checkpoint) taken p q told = IsCheckpoint desk taken p q told
 IsCall desk attempts (Ok (Read ask)) taken p q told = IsReading desk ask taken p q told
 IsCall desk attempts (Err why) taken p q told = ⊥
 

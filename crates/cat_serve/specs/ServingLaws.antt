@@ -2,7 +2,7 @@
 use Rattle.std.proofs.Common.{◌≡◌, ℕ, List, [], ◌∷◌, ◌++◌, Option, Some, None, Result, Ok, Err, refl, sym, ◌∙◌, subst, inl, inr}
 use Rattle.cat_collect.specs.Answers.{Causes as CollectionCauses}
 use Rattle.cat_desk.specs.LogLaws.{begins_itself, begins_on}
-use Rattle.cat_desk.specs.Pass.{DeskId, known, mark_of, number_of, seen}
+use Rattle.cat_desk.specs.Pass.{DeskId, all_left_by, known, mark_of, number_of, seen}
 use Rattle.cat_desk.specs.declared.pass.Pass.{Pass}
 use Rattle.cat_model.specs.declared.command.Command.{Command}
 use Rattle.cat_model.specs.declared.cutoff.Resolved.{Resolved}
@@ -18,10 +18,11 @@ use Rattle.cat_policy.specs.Policies.{resolved}
 use Rattle.cat_rest.specs.Faults.{Refuses}
 use Rattle.cat_rest.specs.Wanted.{wanted}
 use Rattle.cat_rest.specs.declared.wanted.Wanted.{Wanted}
-use Rattle.cat_rest.specs.declared.wanted.Wanted.TheVariants.{Change, Collect, Read}
+use Rattle.cat_rest.specs.declared.wanted.Wanted.TheVariants.{Change, Checkpoint, Collect, Read}
 use Rattle.cat_work.specs.Answers.{Causes}
+use Rattle.cat_work.specs.Checkpoints.{Causes as CheckpointCauses, base_after}
 use Rattle.cat_serve.specs.declared.ending.Session.{Session as End}
-use Rattle.cat_serve.specs.Passes.{Comes, IsChange, IsCollection, Place, Visit}
+use Rattle.cat_serve.specs.Passes.{Comes, IsChange, IsCheckpoint, IsCollection, Place, Visit}
 use Rattle.cat_serve.specs.Serving.{AreAnswered, GrowsTo, Rises, Serves}
 use Rattle.cat_serve.specs.Sessions.{Readings}
 
@@ -42,10 +43,11 @@ abbrev pub TellsUp : Result Told Refused → Type 0
 TellsUp (Ok told) = Unit {0}
 TellsUp (Err refused) = IsUp refused.why
 
--- where a change or a collection is wanted; what is told of anything else is by definitions that know of no append
+-- where a change, a collection or a checkpoint is wanted; what is told of anything else is by definitions that know of no append
 abbrev pub CallsUp : Result Wanted Refusal → Result Told Refused → Type 0
 CallsUp (Ok (Change command)) told = TellsUp told
 CallsUp (Ok (Collect policy)) told = TellsUp told
+CallsUp (Ok Checkpoint) told = TellsUp told
 CallsUp (Ok (Read ask)) told = Unit {0}
 CallsUp (Err why) told = Unit {0}
 
@@ -75,6 +77,11 @@ by_collection desk n policy moment k before after m place (refusals.Down count) 
 by_collection desk n policy moment k before after m place refusals.Fault up h = none_fell after h.1.fault h.1.is up
 by_collection desk n policy moment k before after m place why up h = tt
 
+by_checkpoint : (desk : DeskId) (n : ℕ) (before after : Mark) (m : List LogEntry) (bytes : List ℕ) (place : Option ℕ) (why : Refusal) → after.fault ≡ None → CheckpointCauses desk n before after m bytes place why → IsUp why
+by_checkpoint desk n before after m bytes place (refusals.Down count) up h = none_fell after h.1.fault h.1.is up
+by_checkpoint desk n before after m bytes place refusals.Fault up h = none_fell after h.1.fault h.1.is up
+by_checkpoint desk n before after m bytes place why up h = tt
+
 not_both : (w : Wanted) (why : Refusal) → ◌≡◌ {A = Result Wanted Refusal} (Ok w) (Err why) → ⊥
 not_both w why e = cc
 
@@ -86,6 +93,7 @@ by_bytes w why h = tt
 refused_up : (wants : Result Wanted Refusal) (refused : Refused) → Refuses refused.why wants → CallsUp wants (Err refused)
 refused_up (Ok (Change command)) refused h = by_bytes (Change command) refused.why h
 refused_up (Ok (Collect policy)) refused h = by_bytes (Collect policy) refused.why h
+refused_up (Ok Checkpoint) refused h = by_bytes Checkpoint refused.why h
 refused_up (Ok (Read ask)) refused h = tt
 refused_up (Err why) refused h = tt
 
@@ -99,9 +107,15 @@ collection_up desk policy taken p q (Ok told) up collection = tt
 collection_up desk policy taken p q (Err refused) up collection =
     by_collection desk (number_of p) (resolved collection.moment policy) collection.moment (known p) (mark_of p) (mark_of q) (seen q) refused.place refused.why up collection.answers.1
 
+checkpoint_up : (desk : DeskId) (taken : List ℕ) (p q : Pass) (told : Result Told Refused) → (mark_of q).fault ≡ None → IsCheckpoint desk taken p q told → TellsUp told
+checkpoint_up desk taken p q (Ok told) up checkpoint = tt
+checkpoint_up desk taken p q (Err refused) up checkpoint =
+    by_checkpoint desk (number_of p) (mark_of p) (mark_of q) (seen q) (base_after desk (seen q) (all_left_by q).drafts) refused.place refused.why up checkpoint.checks.answers
+
 told_up : (desk : DeskId) (attempts : ℕ) (wants : Result Wanted Refusal) (taken : List ℕ) (p q : Pass) (told : Result Told Refused) → (mark_of q).fault ≡ None → Comes desk attempts wants taken p q told → CallsUp wants told
 told_up desk attempts (Ok (Change command)) taken p q told up (inl change) = change_up desk attempts command taken p q told up change
 told_up desk attempts (Ok (Collect policy)) taken p q told up (inl collection) = collection_up desk policy taken p q told up collection
+told_up desk attempts (Ok Checkpoint) taken p q told up (inl checkpoint) = checkpoint_up desk taken p q told up checkpoint
 told_up desk attempts (Ok (Read ask)) taken p q told up (inl reading) = tt
 told_up desk attempts (Err why) taken p q told up (inl call) = absurd call
 told_up desk attempts wants taken p q told up (inr refusal) = subst (λ (x : Result Told Refused). CallsUp wants x) (sym refusal.told_is) (refused_up wants refusal.refused refusal.by_bytes.1)

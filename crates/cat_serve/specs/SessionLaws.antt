@@ -5,10 +5,11 @@ use Rattle.std.proofs.lemmas.List.{append_assoc}
 use Rattle.sha2.specs.Sha256.{sha256}
 use Rattle.cat_model.specs.declared.log_entry.LogEntry.{LogEntry}
 use Rattle.cat_model.specs.declared.refusal.Refusal.{Refusal}
-use Rattle.cat_model.specs.Requests.{Brought, IsGivenUp, Session, Wants, request}
+use Rattle.cat_model.specs.declared.reply.Reply.{Reply}
+use Rattle.cat_model.specs.Requests.{Brought, IsGivenUp, Session, Wants, checkpoint_answer, checkpointed, request}
 use Rattle.cat_model.specs.Requests as wants
 use Rattle.cat_rest.specs.declared.wanted.Wanted.{Wanted}
-use Rattle.cat_rest.specs.declared.wanted.Wanted.TheVariants.{Change, Collect, Read}
+use Rattle.cat_rest.specs.declared.wanted.Wanted.TheVariants.{Change, Checkpoint, Collect, Read}
 use Rattle.cat_serve.specs.declared.ending.Session.{Session as End}
 use Rattle.cat_serve.specs.declared.ending.Session.TheVariants as ends
 use Rattle.cat_serve.specs.Sessions.{Readings, Fallen, Falls, Standing, MayComeTo, Point, Turn, Answered, GoesOn, EndsAt, Ends, down_request, wants_in}
@@ -22,17 +23,23 @@ Grows s b = b.after.book.log ≡ b.logged ++ s.book.log
 grows_as : (s : Session) (a b : Brought) → b ≡ a → Grows s a → Grows s b
 grows_as s a b same grows = subst (Grows s) (sym same) grows
 
+checkpoint_grows : (s : Session) (answer : Result Reply Refusal) → Grows s (checkpointed s answer)
+checkpoint_grows s (Ok reply) = refl
+checkpoint_grows s (Err why) = refl
+
 request_grows : (k : Readings) (s : Session) (w : Result Wants Refusal) → Grows s (request sha256 1 k s w)
 request_grows k s (Err why) = refl
 request_grows k s (Ok (wants.Read ask)) = refl
 request_grows k s (Ok (wants.Change command)) = refl
 request_grows k s (Ok (wants.Collect policy)) = refl
+request_grows k s (Ok wants.Checkpoint) = checkpoint_grows s (checkpoint_answer s)
 
 down_grows : (k : Readings) (s : Session) (count : ℕ) (w : Result Wanted Refusal) → Grows s (down_request k s count w)
 down_grows k s count (Err why) = refl
 down_grows k s count (Ok (Read ask)) = refl
 down_grows k s count (Ok (Change command)) = refl
 down_grows k s count (Ok (Collect policy)) = refl
+down_grows k s count (Ok Checkpoint) = refl
 
 given_up_grows : (s : Session) (b : Brought) → IsGivenUp s b → Grows s b
 given_up_grows s b p = p.log ∙ sym (ap (λ (l : List LogEntry). l ++ s.book.log) p.logged)

@@ -1,21 +1,25 @@
 -- A session over one stream of bytes: the requests in turn, the replies to them, and how it ends.
-use Rattle.std.specs.Prelude.{ℕ, ◌+◌, ◌<◌, ◌==◌, ◌≡◌, ◌⊎◌, List, [], ◌∷◌, ◌++◌, length, take, Option, Some, None, Bool, true, false, ◌||◌, Result, Ok, Err}
+use Rattle.std.specs.Prelude.{ℕ, ◌+◌, ◌<◌, ◌==◌, ◌≡◌, ◌⊎◌, List, [], ◌∷◌, ◌++◌, length, reverse, take, Option, Some, None, Bool, true, false, ◌||◌, Result, Ok, Err}
 use Rattle.sha2.specs.Sha256.{sha256}
 use Rattle.cat_io.specs.Clocks.{Ticks, from}
 use Rattle.cat_model.specs.declared.log_entry.LogEntry.{LogEntry}
 use Rattle.cat_model.specs.declared.refusal.Refusal.{Refusal}
 use Rattle.cat_model.specs.declared.refusal.Refusal.TheVariants.{BadRequest, Down, Fault, TooLarge}
 use Rattle.cat_model.specs.declared.refusal.Reason.TheVariants.{BadHead}
+use Rattle.cat_model.specs.declared.reply.Reply.TheVariants as replies
+use Rattle.cat_model.specs.declared.reply.Told.{Told}
 use Rattle.cat_model.specs.Drafts.{nothing_open}
-use Rattle.cat_model.specs.Requests.{Session, Brought, IsGivenUp, MayBring, Wants, request}
+use Rattle.cat_model.specs.Requests.{Brought, IsGivenUp, Journal, MayBring, Session, Wants, request, said_only}
+use Rattle.cat_model.specs.Turns.{Opened}
+use Rattle.cat_frames.specs.Bases.{checkpoint_at, checkpoint_spelling}
 use Rattle.cat_http.specs.Message.{Message}
 use Rattle.cat_http.specs.Fields.{closes}
 use Rattle.cat_http.specs.Next.{IsRequest, IsEnd, IsMalformed, IsTooLarge, IsCut}
 use Rattle.cat_rest.specs.declared.wanted.Wanted.{Wanted}
-use Rattle.cat_rest.specs.declared.wanted.Wanted.TheVariants.{Change, Collect}
+use Rattle.cat_rest.specs.declared.wanted.Wanted.TheVariants.{Change, Collect, Checkpoint}
 use Rattle.cat_rest.specs.Wanted.{wanted, wants}
 use Rattle.cat_state.specs.Kept.{spelling}
-use Rattle.cat_model.specs.Mark.{FailedAppend}
+use Rattle.cat_model.specs.Mark.{FailedAppend, Mark}
 use Rattle.cat_desk.specs.Pass.{DeskId, all_left_by, mark_of, number_of}
 use Rattle.cat_desk.specs.declared.pass.Pass.{Pass}
 use Rattle.cat_work.specs.Passes.{IsAlone, IsReady, book_of}
@@ -49,12 +53,12 @@ ReadsOn ahead now count = (told : Readings) → ahead ≡ Some told → now ≡ 
 
 -- ---- one request on a store
 
--- an append that failed: the count of faults then, and the entry that was to be kept
+-- an append that failed, of an entry or of a checkpoint: the count of faults then, and the payload that was to be kept
 pub record Fallen : Type 0 where
   pub count : ℕ
-  pub entry : LogEntry
+  pub payload : List ℕ
 
--- how a store stands in a session: the session, and the append that failed, if one did
+-- how a store stands in a session: the session, and the append or the checkpoint that failed, if one did
 pub record Standing : Type 0 where
   pub session : Session
   pub fallen : Option Fallen
@@ -68,19 +72,37 @@ wants_in (Err why) = Err why
 abbrev pub down_call : Session → ℕ → Brought
 down_call s count = record { said = Err (record { place = Some s.book.state.place; why = Down count }); logged = []; after = record s { readings = s.readings + 1 } }
 
+-- a checkpoint while the store is down is told so too, and takes no moment
+abbrev pub down_checkpoint : Session → ℕ → Brought
+down_checkpoint s count = said_only s (Err (record { place = Some s.book.state.place; why = Down count }))
+
 -- a request while the store is down: all others are answered as ever
 abbrev pub down_request : Readings → Session → ℕ → Result Wanted Refusal → Brought
 down_request clock s count (Ok (Change command)) = down_call s count
 down_request clock s count (Ok (Collect policy)) = down_call s count
+down_request clock s count (Ok Checkpoint) = down_checkpoint s count
 down_request clock s count wanted = request sha256 1 clock s (wants_in wanted)
 
--- the call would make an entry, which wasn't kept, and that is told as a fault: its moment and its draft number are taken, nothing else is changed, and the store is down
+-- what an accepted checkpoint of a session's state is told
+abbrev pub checkpoint_told : Session → Told
+checkpoint_told s = record { place = s.book.state.place; reply = replies.Checkpoint s.book.state.place }
+
+-- what a request brings is to be kept as this payload: that of its entry, or of its checkpoint
+abbrev pub IsToKeep : Session → Brought → List ℕ → Type 0
+IsToKeep s b payload =
+    ((entry : LogEntry) × (b.logged ≡ entry ∷ []) × (payload ≡ spelling entry))
+    ⊎ ((b.said ≡ Ok (checkpoint_told s)) × (payload ≡ s.journal.payload s.book))
+
+-- the request would make an entry or a checkpoint, which wasn't kept, and that is told as a fault: the moment and the draft number that it takes are taken, nothing else is changed, and the store is down
 pub record Falls (clock : Readings) (before after : Standing) (wanted : Result Wanted Refusal) (b : Brought) : Type 0 where
   pub fallen : Fallen
-  pub accepted : (request sha256 1 clock before.session (wants_in wanted)).logged ≡ fallen.entry ∷ []
+  pub accepted : IsToKeep before.session (request sha256 1 clock before.session (wants_in wanted)) fallen.payload
   pub said : b.said ≡ Err (record { place = Some before.session.book.state.place; why = Fault })
   pub logged : b.logged ≡ []
-  pub after_is : b.after ≡ record { book = record before.session.book { draft = (request sha256 1 clock before.session (wants_in wanted)).after.book.draft }; readings = before.session.readings + 1 }
+  pub after_is : b.after ≡ record before.session {
+    book = record before.session.book { draft = (request sha256 1 clock before.session (wants_in wanted)).after.book.draft };
+    readings = (request sha256 1 clock before.session (wants_in wanted)).after.readings;
+  }
   pub leaves : after.session ≡ b.after
   pub down : after.fallen ≡ Some fallen
 
@@ -195,7 +217,15 @@ seen_failed (Some x) = Some (x.count, x.payload)
 
 abbrev pub seen_fallen : Option Fallen → Option (ℕ × List ℕ)
 seen_fallen None = None
-seen_fallen (Some x) = Some (x.count, spelling x.entry)
+seen_fallen (Some x) = Some (x.count, x.payload)
+
+-- the journal of a log that starts so, in a format, whose last checkpoint is of a place, and which has so many
+abbrev pub journal_from : Opened → ℕ → ℕ → Option ℕ → Journal
+journal_from o format base bases = record { format = format; base = base; bases = bases; payload = λ book. checkpoint_spelling (checkpoint_at o (reverse book.log) book.state []) }
+
+-- the same, as a mark tells it
+abbrev pub journal_by : Opened → Mark → Journal
+journal_by o mark = journal_from o mark.format mark.base mark.bases
 
 -- nothing is open on a desk, and its only pass stands so
 pub record IsAt (desk : DeskId) (s : Standing) (pass : Pass) : Type 0 where
@@ -204,6 +234,7 @@ pub record IsAt (desk : DeskId) (s : Standing) (pass : Pass) : Type 0 where
   pub number : number_of pass ≡ 1
   pub book_is : book_of desk pass ≡ s.session.book
   pub fault_is : seen_failed (mark_of pass).fault ≡ seen_fallen s.fallen
+  pub journal_is : journal_by desk.opened (mark_of pass) ≡ s.session.journal
   pub rests : all_left_by pass ≡ nothing_open
 
 -- the pass, the source and the sink stand at a point

@@ -23,7 +23,7 @@ use cat_keeper::Keeper;
 use cat_model::refusal::{Refusal, Refused};
 use cat_model::reply::Told;
 use cat_rest::{Routes, Wanted, to_command};
-use cat_work::{call, read};
+use cat_work::{call, checkpoint, read};
 use std::alloc::Global;
 use std::sync::Wait;
 use std::thread::Threads;
@@ -62,6 +62,7 @@ fn said_to<R: Wait + Threads + Sync, K0: Keeper, C: Clock, G: Gate>(
         Ok(Wanted::Collect(policy)) => {
             collect(rt, alloc, desk, pass, gate, clock, &policy, markers)
         }
+        Ok(Wanted::Checkpoint) => checkpoint(rt, alloc, desk, pass),
         Err(refused) => Err(refused),
     }
 }

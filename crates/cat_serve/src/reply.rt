@@ -63,7 +63,7 @@ fn tells_change(reply: &Reply) -> bool
     ensures { result ≡ tells_change reply.now }
 {
     match reply {
-        Reply::Reference(_) | Reply::Committed(_) | Reply::Swept(_) => true,
+        Reply::Reference(_) | Reply::Committed(_) | Reply::Swept(_) | Reply::Checkpoint(_) => true,
         Reply::Merged(merged) => merged.was_applied,
         _ => false,
     }

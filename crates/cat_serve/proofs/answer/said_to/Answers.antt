@@ -1,4 +1,5 @@
 use Rattle.std.proofs.Common.{[], ◌∷◌, refl, inl, inr}
+use Rattle.cat_serve.proofs.Checkpointing.{from_checkpoint}
 use Rattle.cat_serve.proofs.Standing.{from_change, from_collection, from_reading, from_refusal, keeps_self}
 use Rattle.cat_serve.proofs.Visiting.{called_for}
 use Rattle.cat_serve.proofs.answer.said_to.Goals as goal
@@ -9,7 +10,7 @@ returns-in-Ok-Read-clause-says g c =
       [],
       refl,
       λ k s at begins.
-          from_reading c.args.desk.now k s c.args.request.now c.args.pass.now _ c.in-Ok-Read.ask c.read.result at wants c.read.ensures.kept c.read.ensures.ready c.read.ensures.reads c.read.ensures.alone,
+          from_reading c.args.desk.now k s c.args.request.now c.args.pass.now _ c.in-Ok-Read.ask c.read.result at wants c.read.ensures.kept c.read.ensures.ready c.read.ensures.reads c.read.ensures.alone c.read.ensures.still,
     )
 
 pub returns-in-Ok-Change-clause-says : goal.returns-in-Ok-Change-clause-says
@@ -19,7 +20,7 @@ returns-in-Ok-Change-clause-says g c =
       answers.0 ∷ [],
       (_, answers.1, refl),
       λ k s at begins.
-          from_change c.args.desk.now k s c.args.request.now c.in-Ok-Change.command c.args.pass.now _ answers.0 c.call.result at wants c.call.ensures.kept c.call.ensures.ready begins.0 answers.3 answers.4,
+          from_change c.args.desk.now k s c.args.request.now c.in-Ok-Change.command c.args.pass.now _ answers.0 c.call.result at wants c.call.ensures.kept c.call.ensures.ready begins.0 answers.3 answers.4 answers.6,
     )
 
 pub returns-in-Ok-Collect-clause-says : goal.returns-in-Ok-Collect-clause-says
@@ -29,7 +30,15 @@ returns-in-Ok-Collect-clause-says g c =
       collects.0 ∷ [],
       (_, collects.1, refl),
       λ k s at begins.
-          from_collection c.args.desk.now k s c.args.request.now c.in-Ok-Collect.policy c.args.pass.now _ collects.0 c.collect.result at wants c.collect.ensures.kept c.collect.ensures.ready begins.0 collects.3 collects.4,
+          from_collection c.args.desk.now k s c.args.request.now c.in-Ok-Collect.policy c.args.pass.now _ collects.0 c.collect.result at wants c.collect.ensures.kept c.collect.ensures.ready begins.0 collects.3 collects.4 collects.6,
+    )
+
+pub returns-in-Ok-Checkpoint-clause-says : goal.returns-in-Ok-Checkpoint-clause-says
+returns-in-Ok-Checkpoint-clause-says g c =
+    let wants = rw c.in-Ok-Checkpoint.field-0-is at c.in-Ok-Checkpoint.ensures.wanted in (
+      [],
+      refl,
+      λ k s at begins. from_checkpoint c.args.desk.now s c.args.pass.now _ c.checkpoint.result at c.checkpoint.ensures.checks k c.args.request.now wants c.checkpoint.ensures.kept c.checkpoint.ensures.ready c.checkpoint.ensures.grows,
     )
 
 pub returns-in-Err-clause-says : goal.returns-in-Err-clause-says
@@ -84,7 +93,23 @@ returns-in-Ok-Collect-clause-comes g c =
         answers = collects.2;
         knows = c.collect.ensures.known;
         undrafted = collects.5;
+        unbased = collects.6;
         grows = c.collect.ensures.grows;
+      })),
+    )
+
+pub returns-in-Ok-Checkpoint-clause-comes : goal.returns-in-Ok-Checkpoint-clause-comes
+returns-in-Ok-Checkpoint-clause-comes g c =
+    let wants = rw c.in-Ok-Checkpoint.field-0-is at c.in-Ok-Checkpoint.ensures.wanted in (
+      [],
+      refl,
+      inl (called_for c.args.desk.now c.args.attempts _ _ [] c.args.pass.now _ c.checkpoint.result wants (record {
+        none = refl;
+        checks = c.checkpoint.ensures.checks;
+        knows = c.checkpoint.ensures.known;
+        undrafted = c.checkpoint.ensures.undrafted;
+        unswept = c.checkpoint.ensures.unswept;
+        grows = c.checkpoint.ensures.grows;
       })),
     )
 
