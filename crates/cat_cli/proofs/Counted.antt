@@ -1,20 +1,21 @@
 -- A journal that was opened, counted and given back.
-use Rattle.std.proofs.Common.{◌≡◌, ℕ, List, [], ◌++◌, reverse, Option, Some, None, IfSome, Ok, sym, ◌∙◌, ap, subst, inl}
-use Rattle.std.proofs.lemmas.List.{append-nil}
+use Rattle.std.proofs.Common.{◌≡◌, ℕ, List, ◌++◌, reverse, Option, Some, None, IfSome, Ok, sym, ◌∙◌, ap, subst, inl}
+use Rattle.cat_io.specs.Crashes.{Told}
 use Rattle.cat_io.specs.Places.{stood, taken}
 use Rattle.cat_core.specs.Stored.{Stored}
 use Rattle.cat_journal.specs.Frames.{recovered}
-use Rattle.cat_state.specs.Kept.{spellings}
+use Rattle.cat_model.specs.declared.log_entry.LogEntry.{LogEntry}
 use Rattle.cat_model.specs.Book.{Book}
+use Rattle.cat_model.specs.Turns.{Opened}
 use Rattle.cat_cli.specs.declared.status.Status.{Status}
 use Rattle.cat_cli.specs.declared.status.Status.TheVariants as statuses
-use Rattle.cat_cli.specs.Journals.{Holds, IsJournalOf, StandsFor, told_at}
+use Rattle.cat_cli.specs.Journals.{Begins, IsJournalOf, StandsFor, told_at}
 use Rattle.cat_cli.specs.Lines.{check_line}
-use Rattle.cat_cli.specs.Opening.{Counted, CountedKnown, HoldsLog, IsStored}
+use Rattle.cat_cli.specs.Opening.{Counted, CountedKnown, IsStored}
 use Rattle.cat_cli.specs.Runs.{Checks, ChecksKnown, Opens, Seen}
 use Rattle.cat_cli.specs.Surviving.{IsBegun, KeepsThrough, LeavesLog, Spared, StandsAs, images_at, images_of}
 use Rattle.cat_cli.proofs.Opened.{begins_at, left_at}
-use Rattle.cat_cli.proofs.Surviving.{spared_surviving, survives, survives_at, tells_of}
+use Rattle.cat_cli.proofs.Surviving.{ended_at, spared_at, spared_counting, tells_of}
 use Rattle.cat_serve.proofs.Told.{some_is, not_none}
 
 stands_both : (told after : Option (List ℕ)) (payloads : List (List ℕ)) → IfSome told (λ bytes. recovered bytes ≡ Ok payloads) → IfSome after (IsJournalOf payloads) → StandsFor told after
@@ -22,31 +23,61 @@ stands_both None after payloads a b before now e f = absurd (not_none before e)
 stands_both (Some x) None payloads a b before now e f = absurd (not_none now f)
 stands_both (Some x) (Some y) payloads a b before now e f = inl (ap recovered (sym (some_is y now f)) ∙ b.0 ∙ sym a ∙ ap recovered (some_is x before e))
 
-module _ {D K : Type 0} (told : D → Option (List ℕ)) (may_leave : D → List ℕ → Type 0) (moment : D → ℕ) (left_since : D → ℕ → List ℕ → Type 0) (down : K → Option ℕ) (in_flight : K → Option (List ℕ))
-    (since least : ℕ) (early : List ℕ → Type 0) (disk again : D) (store : Stored K)
-    (stored : IsStored (told disk) store.book (down store.keeper)) (idle : in_flight store.keeper ≡ None)
-    (begun : IsBegun since least early (told disk) (moment disk) (may_leave disk))
-    (holds : HoldsLog in_flight store.keeper store.book (told again))
-    (leaves : KeepsThrough since least early (may_leave again) (left_since again) in_flight store.keeper store.book (told again)) where
-  pub opens : Opens (told disk) (told again) (images_of may_leave moment left_since disk again) store.book
-  opens = record {
-    payloads = stored.payloads;
-    begins = stored.begins;
-    keeps =
-        subst (λ (l : List (List ℕ)). IfSome (told again) (IsJournalOf l)) (sym stored.spelled)
-        (subst (λ (f : Option (List ℕ)). IfSome (told again) (Holds (spellings (reverse store.book.log)) f)) idle holds);
-    crash =
-        survives since least early (told disk) (told again) (moment disk) (may_leave disk) (may_leave again) (left_since again) stored.payloads [] (spellings (reverse store.book.log)) None
-        begun stored.begins.recovers (sym stored.spelled ∙ sym (append-nil stored.payloads)) (subst (λ (f : Option (List ℕ)). IfSome (told again) (LeavesLog since least early (may_leave again) (left_since again) (spellings (reverse store.book.log)) f)) idle leaves);
+-- the disk was given back with the payloads that it had
+module _ {D : Type 0} (told : D → Option (List ℕ)) (may_leave : D → List ℕ → Type 0) (moment : D → ℕ) (left_since : D → ℕ → List ℕ → Type 0) (since : ℕ) (had : List (List ℕ)) (early : List ℕ → Type 0) (disk again : D)
+    (o : Opened) (log : List LogEntry) (kept : Option (List (List ℕ))) (payloads : List (List ℕ)) (book : Book) (begins : Begins (told disk) payloads o book) (begun : IsBegun since had early (told disk) (moment disk) (may_leave disk)) where
+  abbrev pub LeftAt : Option (List ℕ) → Type 0
+  LeftAt t = IfSome t (LeavesLog since had early (may_leave again) (left_since again) o log kept None)
+
+  abbrev pub AreAt : Option (List ℕ) → Type 0
+  AreAt t = IfSome t (λ bytes. IfSome kept (λ l. l ≡ payloads))
+
+  is_journal : (t : Option (List ℕ)) → LeftAt t → AreAt t → IfSome t (IsJournalOf payloads)
+  is_journal None left are = tt
+  is_journal (Some bytes) left are =
+      let same : left.payloads ≡ payloads = subst (λ (k : Option (List (List ℕ))). IfSome k (λ l. l ≡ payloads)) left.are are in
+      subst (λ (l : List (List ℕ)). IsJournalOf l bytes) same left.holds
+
+  ends : (t : Option (List ℕ)) → LeftAt t → IfSome t (λ bytes. (c : List ℕ) → may_leave again c → c ≡ bytes)
+  ends None left = tt
+  ends (Some bytes) left = left.last
+
+  pub opens_so : LeftAt (told again) → AreAt (told again) → Opens (told disk) (told again) (images_of may_leave moment left_since disk again) book
+  opens_so left are = record {
+    payloads = payloads;
+    opened = o;
+    begins = begins;
+    keeps = is_journal (told again) left are;
+    ends = ends (told again) left;
+    crash = spared_counting since had early (moment disk) (may_leave disk) (may_leave again) (left_since again) o log kept (told disk) (told again) payloads begun begins.recovers are left;
   }
 
+are_kept : (journal left : Option (List ℕ)) (kept : Option (List (List ℕ))) (payloads : List (List ℕ)) → Told journal kept (λ bytes l. l ≡ payloads) → IfSome left (λ bytes. IfSome kept (λ l. l ≡ payloads))
+are_kept journal None kept payloads are = tt
+are_kept journal (Some now) None payloads are = tt
+are_kept None (Some now) (Some l) payloads are = absurd are
+are_kept (Some bytes) (Some now) (Some l) payloads are = are
+
+module _ {D K : Type 0} (told : D → Option (List ℕ)) (may_leave : D → List ℕ → Type 0) (moment : D → ℕ) (left_since : D → ℕ → List ℕ → Type 0) (down : K → Option ℕ) (in_flight : K → Option (List ℕ))
+    (kept : K → Option (List (List ℕ))) (since : ℕ) (had : List (List ℕ)) (early : List ℕ → Type 0) (disk again : D) (store : Stored K)
+    (stored : IsStored (told disk) store.opened store.book (kept store.keeper) (down store.keeper)) (idle : in_flight store.keeper ≡ None)
+    (begun : IsBegun since had early (told disk) (moment disk) (may_leave disk))
+    (leaves : KeepsThrough since had early (may_leave again) (left_since again) kept in_flight store.keeper store.opened store.book (told again)) where
+  abbrev Left : Option (List ℕ) → Type 0
+  Left flying = IfSome (told again) (LeavesLog since had early (may_leave again) (left_since again) store.opened (reverse store.book.log) (kept store.keeper) flying)
+
+  pub opens : Opens (told disk) (told again) (images_of may_leave moment left_since disk again) store.book
+  opens =
+      opens_so told may_leave moment left_since since had early disk again store.opened (reverse store.book.log) (kept store.keeper) stored.payloads store.book stored.begins begun (subst Left idle leaves)
+      (are_kept (told disk) (told again) (kept store.keeper) stored.payloads stored.are)
+
   pub stands : StandsFor (told disk) (told again)
-  unfolding opens
+  unfolding opens opens_so
   stands = stands_both (told disk) (told again) stored.payloads stored.begins.recovers opens.keeps
 
   pub spared : Spared (told disk) (told again) (images_of may_leave moment left_since disk again)
-  unfolding opens
-  spared = spared_surviving (told disk) (told again) (images_of may_leave moment left_since disk again) stored.payloads stored.begins.recovers opens.crash
+  unfolding opens opens_so
+  spared = opens.crash
 
 -- by the status; the disks' count of faults is as it was
 counts : (fell level : Type 0) (s : Seen) (book : Book) (line : List ℕ) (status : Status) → level → Opens s.journal s.left s.images book → line ≡ check_line book → Counted line s.written status s.held s.before s.now → Checks fell level s status
@@ -72,9 +103,11 @@ module _ {D : Type 0} (told : D → Option (List ℕ)) (may_leave : D → List �
   pub opens_there : (book : Book) → Opens (told disk) (told again) (images_of may_leave moment left_since disk again) book → Opens (told_at told place) (told_at told place') (images_at may_leave moment left_since place place') book
   opens_there book o = subst (λ (q : Option (Option D)). Opens (told_at told place) (told_at told q) (images_at may_leave moment left_since place q) book) (sym there) (record {
     payloads = o.payloads;
-    begins = begins_at told place disk o.payloads book (tells_of told may_leave moment left_since place disk is) o.begins;
+    opened = o.opened;
+    begins = begins_at told place disk o.payloads o.opened book (tells_of told may_leave moment left_since place disk is) o.begins;
     keeps = left_at told place again (IsJournalOf o.payloads) o.keeps;
-    crash = survives_at told may_leave moment left_since place disk again o.payloads [] None is o.crash;
+    ends = ended_at told may_leave moment left_since place disk again is o.ends;
+    crash = spared_at told may_leave moment left_since place disk again is o.crash;
   })
 
   pub checks : (fell level : Type 0) (same : level) (line : List ℕ) (book : Book) (status : Status) (held after : Option (List ℕ)) (before now : ℕ) → Opens (told disk) (told again) (images_of may_leave moment left_since disk again) book

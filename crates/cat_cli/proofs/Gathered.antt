@@ -2,10 +2,11 @@
 use Rattle.std.proofs.Common.{◌≡◌, ◌≢◌, ◌⊎◌, ℕ, ◌<◌, List, [], ◌∷◌, ◌++◌, reverse, length, Option, Some, None, IfSome, Bool, true, false, Result, Ok, Err, ◌+◌, refl, sym, ◌∙◌, ap, subst, inl, inr}
 use Rattle.std.specs.Prelude.{nat_lt, nat_le}
 use Rattle.std.specs.Option.{option_map}
-use Rattle.std.proofs.lemmas.List.{reverse-append, reverse-reverse}
+use Rattle.std.proofs.lemmas.List.{reverse-reverse}
 use Rattle.sha2.specs.Sha256.{sha256}
 use Rattle.cat_checks.specs.Histories.{IsLegalFrom}
 use Rattle.cat_core.specs.Stored.{Stored, opened_of}
+use Rattle.cat_keeper.specs.Bases.{bases_in}
 use Rattle.cat_io.specs.Clocks.{Ticks}
 use Rattle.cat_io.specs.Places.{stood, taken}
 use Rattle.cat_names.specs.declared.hash.Hash.{Hash}
@@ -20,36 +21,35 @@ use Rattle.cat_model.specs.declared.reply.Reply.TheVariants as replies
 use Rattle.cat_model.specs.declared.reply.Swept.{Swept}
 use Rattle.cat_model.specs.declared.reply.Told.{Told}
 use Rattle.cat_model.specs.declared.sweep.Sweep.{Sweep}
-use Rattle.cat_model.specs.Book.{Book, first_book}
+use Rattle.cat_model.specs.Book.{Book}
 use Rattle.cat_model.specs.Calls.{Called}
 use Rattle.cat_model.specs.Drafts.{no_names}
 use Rattle.cat_model.specs.Mark.{FailedAppend}
 use Rattle.cat_model.specs.Moves.{needs_log}
 use Rattle.cat_model.specs.Past.{past_of, swept_on}
 use Rattle.cat_model.specs.Refusing.{◌>>=◌, Tested, needs, needs_at_most}
-use Rattle.cat_model.specs.Limits.{program_limits}
-use Rattle.cat_model.specs.State.{State, first_state}
+use Rattle.cat_model.specs.State.{State}
 use Rattle.cat_model.specs.Sweeps.{kept_contents, names_in, needs_sweep_room, removed_contents, saved, since, step_sweep, sweep_call, sweep_entry, sweep_of, swept, swept_by}
 use Rattle.cat_model.specs.Turns.{Opened}
 use Rattle.cat_policy.specs.declared.policy.Policy.{Policy}
 use Rattle.cat_policy.specs.Policies.{resolved}
-use Rattle.cat_state.specs.Kept.{spelling, spellings}
-use Rattle.cat_work.specs.Answers.{AnswersAlone, RefusesAlone}
+use Rattle.cat_state.specs.Kept.{spelling}
+use Rattle.cat_work.specs.Answers.{AnswersAlone, RefusesAlone, journal_in}
 use Rattle.cat_cli.specs.declared.collecting.Collected.{Collected}
 use Rattle.cat_cli.specs.declared.collecting.Collected.TheVariants as comes
 use Rattle.cat_cli.specs.declared.status.Status.{Status}
 use Rattle.cat_cli.specs.declared.status.Status.TheVariants as statuses
 use Rattle.cat_cli.specs.Collecting.{Collects, CollectsKnown, ComesTo, EndsIn, EndsWith, Gathers, IsAnswer, IsDue, IsGathered, IsOwn, IsUnsaid, Means, MeansBy, collection}
-use Rattle.cat_cli.specs.Journals.{Holds, told_at}
-use Rattle.cat_cli.specs.Opening.{HoldsLog, IsStored}
+use Rattle.cat_cli.specs.Journals.{told_at}
+use Rattle.cat_cli.specs.Opening.{IsStored}
 use Rattle.cat_cli.specs.Lines.{disk_fault_line, limit_line, no_memory_line, swept_line}
-use Rattle.cat_cli.specs.Runs.{TellsKnown, spares_disks}
-use Rattle.cat_cli.specs.Serving.{IsWritten, Sunk, opened_by_program}
-use Rattle.cat_cli.specs.Surviving.{Images, IsBegun, KeepsThrough, StandsAs, Survives, images_at, images_of}
-use Rattle.cat_cli.proofs.HostedStores.{limits_of}
-use Rattle.cat_cli.proofs.Opened.{begins_at, left_at}
+use Rattle.cat_cli.specs.Runs.{TellsKnown, grown, spares_disks}
+use Rattle.cat_cli.specs.Serving.{IsWritten, Sunk}
+use Rattle.cat_cli.specs.Surviving.{Images, IsBegun, KeepsThrough, LeavesLog, StandsAs, Survives, images_at, images_of}
+use Rattle.cat_cli.proofs.Opened.{begins_at}
 use Rattle.cat_cli.proofs.Ran.{log_of}
 use Rattle.cat_cli.proofs.Surviving.{survives, survives_at, tells_of}
+use Rattle.cat_cli.proofs.Unbased.{counts_none}
 
 -- ---- what the model's sweep brings
 
@@ -172,6 +172,7 @@ module _ (n : ℕ) (called : Called) (b b' : Book) (f' : Option FailedAppend) (b
   own refused (refusals.WrongMethod x) is p = unlimited called refused (refusals.WrongMethod x) refl is brings p.0.said
   own refused refusals.TooLarge is p = unlimited called refused refusals.TooLarge refl is brings p.0.said
   own refused refusals.Encoding is p = unlimited called refused refusals.Encoding refl is brings p.0.said
+  own refused refusals.OldFormat is p = unlimited called refused refusals.OldFormat refl is brings p.0.said
 
   -- the reply is a sweep's
   swept_of : (told : Told) → called.said ≡ Ok told → (x : Accepts called) × (told.reply ≡ replies.Swept x.swept)
@@ -235,6 +236,7 @@ module _ (n : ℕ) (called : Called) (b b' : Book) (f' : Option FailedAppend) (b
   refused_so refused (refusals.WrongMethod x) what is p means = absurd means
   refused_so refused refusals.TooLarge what is p means = absurd means
   refused_so refused refusals.Encoding what is p means = absurd means
+  refused_so refused refusals.OldFormat what is p means = absurd means
 
   accepted_so : (told : Told) (swept : Swept) → told.reply ≡ replies.Swept swept → AnswersAlone n called b b' None f' (Ok told) → Leaves (comes.Swept swept.kept swept.removed told.place)
   accepted_so told swept is p =
@@ -269,9 +271,9 @@ module _ {K : Type 0} (in_flight : K → Option (List ℕ)) (policy : Policy) (m
   may_be_told = is_answer 1 (collection old.book policy moment) old.book b' f' (brings old.book policy moment) answer first_alone
 
   pub gathered : (ahead to_come : Option (ℕ → ℕ)) (what : Collected) → Ticks ahead to_come moment → Means answer what → new.book ≡ b' → new.mark.fault ≡ f' → in_flight new.keeper ≡ option_map (λ (x : FailedAppend). x.payload) new.mark.fault
-      → (opened : Opened) (log : List LogEntry) → opened ≡ opened_of old → b'.log ≡ reverse log → IsLegalFrom opened log
+      → (opened : Opened) (log : List LogEntry) → opened ≡ opened_of old → opened_of new ≡ opened_of old → b'.log ≡ reverse log → IsLegalFrom opened log → journal_in new.mark ≡ journal_in old.mark
       → IsGathered in_flight policy ahead to_come old new what
-  gathered ahead to_come what ticks means book_is fault_is flies opened log from_here seen_is legal =
+  gathered ahead to_come what ticks means book_is fault_is flies opened log from_here stays seen_is legal unbased =
       let x = leaves 1 (collection old.book policy moment) old.book b' f' (brings old.book policy moment) answer what first_alone means in
       record {
         moment = moment;
@@ -279,6 +281,8 @@ module _ {K : Type 0} (in_flight : K → Option (List ℕ)) (policy : Policy) (m
         added = x.0;
         comes_to = subst (λ (p : Option (List ℕ)). ComesTo (collection old.book policy moment) what x.0 p) (sym (flies ∙ ap (option_map (λ (x : FailedAppend). x.payload)) fault_is)) x.1;
         log_is = ap (λ (x : Book). x.log) book_is ∙ x.2;
+        opened = stays;
+        unbased = unbased;
         legal =
             let is : log ≡ reverse new.book.log = sym (reverse-reverse log) ∙ ap (λ (l : List LogEntry). reverse l) (sym (ap (λ (x : Book). x.log) book_is ∙ seen_is)) in
             subst (λ (z : Opened × List LogEntry). IsLegalFrom z.0 z.1) (λ i. (from_here i, is i)) legal;
@@ -298,18 +302,19 @@ has_failed in_flight policy ahead to_come old new what g is flies =
 -- ---- on the journal that the store was opened from
 
 module _ {D K : Type 0} (told : D → Option (List ℕ)) (may_leave : D → List ℕ → Type 0) (moment : D → ℕ) (left_since : D → ℕ → List ℕ → Type 0) (in_flight : K → Option (List ℕ))
-    (since least : ℕ) (early : List ℕ → Type 0) (disk again : D) (old new : Stored K) (down : Option ℕ) (policy : Policy) (ahead to_come : Option (ℕ → ℕ)) (what : Collected)
-    (stored : IsStored (told disk) old.book down) (began : old.began ≡ 0)
+    (kept : K → Option (List (List ℕ))) (since : ℕ) (had : List (List ℕ)) (early : List ℕ → Type 0) (disk again : D) (old new : Stored K) (down : Option ℕ) (policy : Policy) (ahead to_come : Option (ℕ → ℕ)) (what : Collected)
+    (stored : IsStored (told disk) old.opened old.book (kept old.keeper) down)
     (g : IsGathered in_flight policy ahead to_come old new what)
-    (begun : IsBegun since least early (told disk) (moment disk) (may_leave disk))
-    (holds : HoldsLog in_flight new.keeper new.book (told again))
-    (leaves : KeepsThrough since least early (may_leave again) (left_since again) in_flight new.keeper new.book (told again)) where
+    (begun : IsBegun since had early (told disk) (moment disk) (may_leave disk))
+    (bases : (old.mark.bases ≡ bases_in (kept old.keeper)) × (new.mark.bases ≡ bases_in (kept new.keeper)))
+    (leaves : KeepsThrough since had early (may_leave again) (left_since again) kept in_flight new.keeper new.opened new.book (told again)) where
   pub collects : Collects policy ahead to_come (told disk) (told again) (images_of may_leave moment left_since disk again) what
   collects =
-      let log : spellings (reverse new.book.log) ≡ stored.payloads ++ spellings g.added =
-      log_of stored.payloads old.book.log new.book.log (reverse g.added) stored.spelled g.log_is ∙ ap (λ (l : List LogEntry). stored.payloads ++ spellings l) (reverse-reverse g.added) in
+      let log : reverse new.book.log ≡ reverse old.book.log ++ g.added =
+      log_of old.book.log new.book.log (reverse g.added) g.log_is ∙ ap (λ (l : List LogEntry). reverse old.book.log ++ l) (reverse-reverse g.added) in
       record {
         payloads = stored.payloads;
+        opened = old.opened;
         book = old.book;
         begins = stored.begins;
         moment = g.moment;
@@ -317,16 +322,12 @@ module _ {D K : Type 0} (told : D → Option (List ℕ)) (may_leave : D → List
         added = g.added;
         flying = in_flight new.keeper;
         comes_to = g.comes_to;
-        legal =
-            let limits : old.book.state.limits ≡ program_limits = limits_of (first_book sha256 program_limits) old.book 0 stored.payloads stored.begins.led in
-            let from_here : opened_of old ≡ opened_by_program = λ i. record { state = first_state sha256 (limits i); draft = 0; faults = began i } in
-            let grown : reverse new.book.log ≡ reverse old.book.log ++ g.added =
-            ap (λ (l : List LogEntry). reverse l) g.log_is ∙ reverse-append (reverse g.added) old.book.log ∙ ap (λ (l : List LogEntry). reverse old.book.log ++ l) (reverse-reverse g.added) in
-            subst (λ (z : Opened × List LogEntry). IsLegalFrom z.0 z.1) (λ i. (from_here i, grown i)) g.legal;
-        keeps = subst (λ (l : List (List ℕ)). IfSome (told again) (Holds l (in_flight new.keeper))) log holds;
+        legal = subst (IsLegalFrom old.opened) log g.legal;
         crash =
-            survives since least early (told disk) (told again) (moment disk) (may_leave disk) (may_leave again) (left_since again) stored.payloads (spellings g.added) (spellings (reverse new.book.log)) (in_flight new.keeper)
-            begun stored.begins.recovers log leaves;
+            survives since had early (moment disk) (may_leave disk) (may_leave again) (left_since again) old.opened (reverse old.book.log) g.added (reverse new.book.log) (kept new.keeper) (in_flight new.keeper) 0 log
+            (told disk) (told again) stored.payloads begun stored.begins.recovers stored.begins.total stored.spelled stored.begins.opened
+            (counts_none (told disk) (kept old.keeper) (kept new.keeper) stored.payloads stored.are (sym bases.1 ∙ ap (λ (x : ℕ × ℕ × Option ℕ). x.2) g.unbased ∙ bases.0))
+            (subst (λ (o : Opened). IfSome (told again) (LeavesLog since had early (may_leave again) (left_since again) o (reverse new.book.log) (kept new.keeper) (in_flight new.keeper))) g.opened leaves);
       }
 
 -- ---- by the status
@@ -460,20 +461,18 @@ module _ {D : Type 0} (told : D → Option (List ℕ)) (may_leave : D → List �
       → Collects policy ahead to_come (told_at told place) (told_at told place') (images_at may_leave moment left_since place place') what
   collects_there policy ahead to_come what g = record {
     payloads = g.payloads;
+    opened = g.opened;
     book = g.book;
-    begins = begins_at told place disk g.payloads g.book (tells_of told may_leave moment left_since place disk is) g.begins;
+    begins = begins_at told place disk g.payloads g.opened g.book (tells_of told may_leave moment left_since place disk is) g.begins;
     moment = g.moment;
     ticks = g.ticks;
     added = g.added;
     flying = g.flying;
     comes_to = g.comes_to;
     legal = g.legal;
-    keeps =
-        subst (λ (q : Option (Option D)). IfSome (told_at told q) (Holds (g.payloads ++ spellings g.added) g.flying)) (sym there)
-        (left_at told place again (Holds (g.payloads ++ spellings g.added) g.flying) g.keeps);
     crash =
-        subst (λ (q : Option (Option D)). Survives (told_at told place) (told_at told q) (images_at may_leave moment left_since place q) g.payloads (spellings g.added) g.flying) (sym there)
-        (survives_at told may_leave moment left_since place disk again g.payloads (spellings g.added) g.flying is g.crash);
+        subst (λ (q : Option (Option D)). Survives (told_at told place) (told_at told q) (images_at may_leave moment left_since place q) (grown g.payloads g.opened g.book g.added 0 g.flying)) (sym there)
+        (survives_at told may_leave moment left_since place disk again (grown g.payloads g.opened g.book g.added 0 g.flying) is g.crash);
   }
 
   -- by the status; level is so where the disk didn't fail

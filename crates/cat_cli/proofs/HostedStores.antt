@@ -1,26 +1,20 @@
 -- Workers on a desk: from what its passes have seen to the store, and to the journal that the store was opened from.
-use Rattle.std.proofs.Common.{◌≡◌, ◌≢◌, ℕ, ◌+◌, ◌-◌, ◌<◌, ◌≤◌, ◌^◌, List, [], ◌∷◌, ◌++◌, reverse, Option, Some, None, IfSome, Result, Ok, Err, Bool, true, false, if◌then◌else◌, refl, sym, ◌∙◌, ap, subst, inl, inr, arith}
+use Rattle.std.proofs.Common.{◌≡◌, ◌≢◌, ℕ, ◌+◌, ◌-◌, ◌<◌, ◌≤◌, ◌^◌, Bool, List, [], ◌++◌, reverse, Option, Some, None, IfSome, refl, sym, ◌∙◌, ap, subst, inl, inr, arith}
 use Rattle.std.specs.Prelude.{◌⊎◌, IsTrue}
 use Rattle.std.specs.Option.{option_map}
-use Rattle.std.proofs.lemmas.List.{reverse-reverse, map-append}
-use Rattle.sha2.specs.Sha256.{sha256}
+use Rattle.std.proofs.lemmas.List.{reverse-reverse}
 use Rattle.cat_io.specs.Causes.{Rose}
-use Rattle.cat_checks.specs.LeadingLaws.{replayed_limits}
-use Rattle.cat_checks.specs.Legal.{is_legal, next_book, or_at, read_next, replayed, replayed_call}
-use Rattle.cat_codes.specs.declared.fault.FieldFault.{FieldFault}
+use Rattle.cat_core.specs.RecordLaws.{stands_now}
 use Rattle.cat_core.specs.Stored.{Stored, opened_of}
 use Rattle.cat_desk.specs.Log.{Since, WasGiven}
 use Rattle.cat_desk.specs.Marks.{IsGiven}
 use Rattle.cat_desk.specs.Pass.{DeskId, Remembers, mark_of, number_of, seen, spare_of}
 use Rattle.cat_desk.specs.declared.pass.Pass.{Pass}
-use Rattle.cat_model.specs.declared.limits.Limits.{Limits}
+use Rattle.cat_keeper.specs.Bases.{bases_in}
 use Rattle.cat_model.specs.declared.log_entry.LogEntry.{LogEntry}
-use Rattle.cat_model.specs.Book.{Book, after_call, first_book}
-use Rattle.cat_model.specs.Limits.{program_limits}
+use Rattle.cat_model.specs.Book.{Book}
 use Rattle.cat_model.specs.Mark.{FailedAppend, Mark}
-use Rattle.cat_model.specs.Refusing.{◌>>=◌}
-use Rattle.cat_model.specs.State.{first_state}
-use Rattle.cat_state.specs.Kept.{spelling, spellings}
+use Rattle.cat_model.specs.Turns.{Opened}
 use Rattle.cat_work.specs.Passes.{IsReady, book_of, state_of}
 use Rattle.cat_serve.specs.declared.serving.Served.{Served}
 use Rattle.cat_serve.specs.declared.serving.Served.TheVariants as serveds
@@ -28,14 +22,14 @@ use Rattle.cat_serve.specs.Sessions.{Readings}
 use Rattle.cat_serve.specs.Workers.{Ends as BothEnds, ServesAll}
 use Rattle.cat_cli.specs.Hosting.{Comes, CountStays, Heard, Hosts, IsAsBefore, IsListening, Service, WorksOn}
 use Rattle.cat_cli.specs.HostingLaws.{all_begin}
-use Rattle.cat_cli.specs.Journals.{Begins, Holds}
-use Rattle.cat_cli.specs.Opening.{HoldsLog, IsStored}
-use Rattle.cat_cli.specs.Serving.{Hosted, OpenedOnly, flying_at}
+use Rattle.cat_cli.specs.Opening.{IsStored}
+use Rattle.cat_cli.specs.Serving.{Hosted, OpenedOnly, bases_made, flying_at}
 use Rattle.cat_cli.specs.Surviving.{IsBegun, KeepsThrough, LeavesLog, images_of}
-use Rattle.cat_cli.proofs.Counted.{opens}
 use Rattle.cat_cli.specs.Shares.{CallerWasTold, all_shares}
 use Rattle.cat_cli.proofs.Shares.{all_among, all_made, all_of}
+use Rattle.cat_cli.proofs.Counted.{opens_so}
 use Rattle.cat_cli.proofs.Surviving.{survives}
+use Rattle.cat_cli.proofs.Unbased.{counts_between, had_are, unbased}
 use Rattle.cat_cli.proofs.ToldFaults.{all_told}
 
 -- ---- by how serving ended
@@ -112,10 +106,10 @@ same_standing : (desk : DeskId) (p q : Pass) → Remembers p q → book_of desk 
 same_standing desk p q r = λ i. record { state = state_of desk (r.seen i); draft = (r.mark i).draft; log = reverse (r.seen i); base = desk.opened.state }
 
 pub hosts : {In Out K : Type 0} (ends : BothEnds In Out) (service : Service) (a b : Heard (In × Out)) (desk : DeskId) (p : Pass) (ahead : Option Readings) (q : Pass) (now : Option Readings) (old new : Stored K) (paused : Type 0) (end : Served)
-    → service.workers ≤ 64 → number_of p ≡ 1 → spare_of p ≡ 4294967294 → desk.opened ≡ opened_of old → desk.marked ≡ old.mark → (desk.begun ≡ reverse old.book.log) × (seen p ≡ desk.begun) → book_of desk p ≡ old.book → mark_of p ≡ old.mark → IsReady desk q → new.book ≡ book_of desk q → new.mark ≡ mark_of q
+    → service.workers ≤ 64 → number_of p ≡ 1 → spare_of p ≡ 4294967294 → desk.opened ≡ opened_of old → desk.marked ≡ old.mark → (desk.begun ≡ reverse old.book.log) × (seen p ≡ desk.begun) → book_of desk p ≡ old.book → mark_of p ≡ old.mark → IsReady desk q → new.book ≡ book_of desk q → new.mark ≡ mark_of q → opened_of new ≡ desk.opened
     → (0 < spare_of q → Since (4294967296 - spare_of q) desk.begun (seen q) × IsGiven (4294967296 - spare_of q) desk.marked (mark_of q))
     → Comes (WorksOn ends service a b desk p ahead q now) (Remembers p q × paused) service a b end → Comes (Hosts ends service a b ahead now old new) (IsAsBefore old new × paused) service a b end
-hosts {In} {Out} {K} ends service a b desk p ahead q now old new paused end few number spare opened marked begun book mark ready left_book left_mark given c =
+hosts {In} {Out} {K} ends service a b desk p ahead q now old new paused end few number spare opened marked begun book mark ready left_book left_mark left_opened given c =
     comes_on (WorksOn ends service a b desk p ahead q now) (Hosts ends service a b ahead now old new) (Remembers p q × paused) (IsAsBefore old new × paused) service a b end served spared c
   where
     some_left : WorksOn ends service a b desk p ahead q now → 0 < spare_of q
@@ -142,34 +136,15 @@ hosts {In} {Out} {K} ends service a b desk p ahead q now old new paused end few 
       given = subst (λ (n : ℕ). Since n desk.begun (seen q)) (next works) (given (some_left works)).0;
       marked = subst (λ (z : ℕ × Mark). IsGiven z.0 z.1 (mark_of q)) (λ i. (next works i, marked i)) (given (some_left works)).1;
       log_is = ap (λ (x : Book). x.log) left_book;
+      opened_is = left_opened;
       fault_is = ap (λ (x : Mark). x.fault) left_mark;
+      bases_is = ap (λ (x : Mark). x.bases) left_mark;
     }
 
     spared : Remembers p q × paused → IsAsBefore old new × paused
-    spared r = (record { book = left_book ∙ same_standing desk p q r.0 ∙ book; mark = left_mark ∙ r.0.mark ∙ mark }, r.1)
+    spared r = (record { book = left_book ∙ same_standing desk p q r.0 ∙ book; opened = left_opened ∙ opened; mark = left_mark ∙ r.0.mark ∙ mark }, r.1)
 
 -- ---- on the disk of the journal
-
--- a book that payloads lead to has the limits of the one from which they start
-book_by : (b : Bool) (x next : Book) → (if b then Some x else None) ≡ Some next → x ≡ next
-book_by true x next is = let same : x ≡ next = cc in same
-book_by false x next is = absurd cc
-
-next_limits : (book next : Book) (reading : Result LogEntry FieldFault) → read_next sha256 book reading ≡ Some next → next.state.limits ≡ book.state.limits
-unfolding next_book
-next_limits book next (Err fault) is = absurd cc
-next_limits book next (Ok e) is =
-    ap (λ (b : Book). b.state.limits) (sym (book_by (is_legal sha256 book e) (after_call book (replayed_call sha256 book e)) next is)) ∙ replayed_limits sha256 book e
-
-limits_by : (o : Option Book) (place : ℕ) (rest : Book → Result Book ℕ) (end : Book) (limits : Limits) → ((b : Book) → o ≡ Some b → b.state.limits ≡ limits) → ((b : Book) → rest b ≡ Ok end → end.state.limits ≡ b.state.limits)
-    → (or_at place o >>= rest) ≡ Ok end → end.state.limits ≡ limits
-limits_by None place rest end limits first more e = absurd cc
-limits_by (Some b) place rest end limits first more e = more b e ∙ first b refl
-
-pub limits_of : (book end : Book) (place : ℕ) (ps : List (List ℕ)) → replayed sha256 book place ps ≡ Ok end → end.state.limits ≡ book.state.limits
-limits_of book end place [] e = let same : book ≡ end = cc in ap (λ (b : Book). b.state.limits) (sym same)
-limits_of book end place (p ∷ ps) e =
-    limits_by _ (place + 1) (λ next. replayed sha256 next (place + 1) ps) end book.state.limits (λ b is. next_limits book b _ is) (λ b is. limits_of b end (place + 1) ps is) e
 
 if_fault : (fault : Option FailedAppend) (P : FailedAppend → Type 0) → ((x : FailedAppend) → fault ≡ Some x → P x) → IfSome fault P
 if_fault None P so = tt
@@ -177,13 +152,16 @@ if_fault (Some x) P so = so x refl
 
 -- the store of a journal's catalogue came back, and its disk was given back
 module _ {In Out D K : Type 0} (ends : BothEnds In Out) (service : Service) (a b : Heard (In × Out)) (ahead now : Option Readings) (told : D → Option (List ℕ)) (may_leave : D → List ℕ → Type 0) (moment : D → ℕ) (left_since : D → ℕ → List ℕ → Type 0)
-    (down : K → Option ℕ) (in_flight : K → Option (List ℕ)) (since least : ℕ) (early : List ℕ → Type 0) (disk again : D) (old new : Stored K)
-    (stored : IsStored (told disk) old.book (down old.keeper)) (began : old.began ≡ 0) (up : old.mark.fault ≡ None)
-    (begun : IsBegun since least early (told disk) (moment disk) (may_leave disk))
+    (down : K → Option ℕ) (in_flight : K → Option (List ℕ)) (kept : K → Option (List (List ℕ))) (since : ℕ) (had : List (List ℕ)) (early : List ℕ → Type 0) (disk again : D) (old new : Stored K)
+    (stored : IsStored (told disk) old.opened old.book (kept old.keeper) (down old.keeper)) (up : old.mark.fault ≡ None) (fresh : old.opened.faults ≡ 0)
+    (begun : IsBegun since had early (told disk) (moment disk) (may_leave disk))
     (fallen : down new.keeper ≡ option_map (λ (x : FailedAppend). x.count) new.mark.fault)
     (flies : in_flight new.keeper ≡ option_map (λ (x : FailedAppend). x.payload) new.mark.fault)
-    (holds : HoldsLog in_flight new.keeper new.book (told again))
-    (leaves : KeepsThrough since least early (may_leave again) (left_since again) in_flight new.keeper new.book (told again)) where
+    (bases : (old.mark.bases ≡ bases_in (kept old.keeper)) × (new.mark.bases ≡ bases_in (kept new.keeper)))
+    (leaves : KeepsThrough since had early (may_leave again) (left_since again) kept in_flight new.keeper new.opened new.book (told again)) where
+  abbrev Left : Opened → Option (List ℕ) → Type 0
+  Left o flying = IfSome (told again) (LeavesLog since had early (may_leave again) (left_since again) o (reverse new.book.log) (kept new.keeper) flying)
+
   -- a fault is new
   is_new : (x : FailedAppend) → WasGiven (service.workers + 1) x.caller ⊎ (old.mark.fault ≡ Some x) → WasGiven (service.workers + 1) x.caller
   is_new x (inl was) = was
@@ -193,22 +171,19 @@ module _ {In Out D K : Type 0} (ends : BothEnds In Out) (service : Service) (a b
   hosted to counted h =
       let added = h.given.0 in
       let grows : seen h.last ≡ reverse old.book.log ++ added = h.given.1 ∙ ap (λ (l : List LogEntry). l ++ added) h.begun in
-      let log : spellings (reverse new.book.log) ≡ stored.payloads ++ spellings added =
-      ap (λ (l : List LogEntry). spellings (reverse l)) h.log_is
-      ∙ ap spellings (reverse-reverse (seen h.last) ∙ grows)
-      ∙ map-append spelling (reverse old.book.log) added
-      ∙ ap (λ (l : List (List ℕ)). l ++ spellings added) (sym stored.spelled) in
+      let log : reverse new.book.log ≡ reverse old.book.log ++ added = ap (λ (l : List LogEntry). reverse l) h.log_is ∙ reverse-reverse (seen h.last) ∙ grows in
       let flying : in_flight new.keeper ≡ flying_at h.last = flies ∙ ap (option_map (λ (x : FailedAppend). x.payload)) h.fault_is in
       let clean : (mark_of h.first).fault ≡ None = ap (λ (m : Mark). m.fault) h.mark_is ∙ up in
-      let limits : old.book.state.limits ≡ program_limits = limits_of (first_book sha256 program_limits) old.book 0 stored.payloads stored.begins.led in
       record {
         payloads = stored.payloads;
+        started = old.opened;
         book = old.book;
         begins = stored.begins;
+        fresh = fresh;
         desk = h.desk;
         first = h.first;
         last = h.last;
-        opened = h.opened ∙ (λ i. record { state = first_state sha256 (limits i); draft = 0; faults = began i });
+        opened = h.opened;
         begun = h.begun;
         saw = h.saw;
         clean = clean;
@@ -221,28 +196,33 @@ module _ {In Out D K : Type 0} (ends : BothEnds In Out) (service : Service) (a b
         grows = grows;
         theirs = all_of ends h.desk service.attempts h.works.serves h.number_is h.splits added h.given.2;
         made = all_made ends h.desk service.attempts h.works.serves added (h.given.1 ∙ ap (λ (l : List LogEntry). l ++ added) (sym h.saw));
-        keeps =
-            subst (λ (l : List (List ℕ)). IfSome (told again) (Holds l (flying_at h.last))) log
-            (subst (λ (f : Option (List ℕ)). IfSome (told again) (Holds (spellings (reverse new.book.log)) f)) flying holds);
         crash =
-            survives since least early (told disk) (told again) (moment disk) (may_leave disk) (may_leave again) (left_since again) stored.payloads (spellings added) (spellings (reverse new.book.log)) (flying_at h.last)
-            begun stored.begins.recovers log (subst (λ (f : Option (List ℕ)). IfSome (told again) (LeavesLog since least early (may_leave again) (left_since again) (spellings (reverse new.book.log)) f)) flying leaves);
+            survives since had early (moment disk) (may_leave disk) (may_leave again) (left_since again) old.opened (reverse old.book.log) added (reverse new.book.log) (kept new.keeper) (flying_at h.last) (bases_made h.first h.last) log
+            (told disk) (told again) stored.payloads begun stored.begins.recovers stored.begins.total stored.spelled stored.begins.opened
+            (counts_between (told disk) (kept old.keeper) (kept new.keeper) stored.payloads (mark_of h.first).bases (mark_of h.last).bases stored.are (ap (λ (m : Mark). m.bases) h.mark_is ∙ bases.0) (sym h.bases_is ∙ bases.1))
+            (subst (λ (o : Opened). Left o (flying_at h.last)) (h.opened_is ∙ h.opened) (subst (Left new.opened) flying leaves));
         cause = if_fault (mark_of h.last).fault (λ f. to f.count) (λ x is. counted x (h.fault_is ∙ is));
         told = if_fault (mark_of h.last).fault (λ f. CallerWasTold f (all_shares ends h.desk service.attempts h.works.serves)) (λ x is.
             all_told ends h.desk service.attempts h.works.serves x clean is (all_among ends h.desk service.attempts h.works.serves h.number_is h.splits x.caller (is_new x (h.marked.fault x is))));
       }
 
+  -- no checkpoint was made, and no entry
+  still_are : (t : Option (List ℕ)) → IfSome t (LeavesLog since had early (may_leave again) (left_since again) old.opened (reverse old.book.log) (kept new.keeper) None) → new.mark.bases ≡ old.mark.bases → IfSome t (λ bytes. IfSome (kept new.keeper) (λ l. l ≡ stored.payloads))
+  still_are None left same = tt
+  still_are (Some bytes) left same =
+      subst (λ (k : Option (List (List ℕ))). IfSome k (λ l. l ≡ stored.payloads)) (sym left.are)
+      (unbased (told disk) (kept old.keeper) (kept new.keeper) had stored.payloads left.payloads old.opened (reverse old.book.log) stored.are
+      (had_are since had early (told disk) (moment disk) (may_leave disk) stored.payloads begun stored.begins.recovers) stored.spelled (sym bases.1 ∙ same ∙ bases.0) left.are left.goes_on (stands_now old.opened (reverse old.book.log) left.payloads left.stand))
+
   opened_only : (paused : Type 0) → IsAsBefore old new × paused → OpenedOnly paused (told disk) (told again) (images_of may_leave moment left_since disk again)
   opened_only paused s =
       let none : new.mark.fault ≡ None = ap (λ (m : Mark). m.fault) s.0.mark ∙ up in
-      let stands : IsStored (told disk) new.book (down new.keeper) = record {
-        payloads = stored.payloads;
-        begins = subst (Begins (told disk) stored.payloads) (sym s.0.book) stored.begins;
-        spelled = stored.spelled ∙ ap (λ (x : Book). spellings (reverse x.log)) (sym s.0.book);
-        up = fallen ∙ ap (option_map (λ (x : FailedAppend). x.count)) none;
-      } in (
-        new.book,
-        opens told may_leave moment left_since down in_flight since least early disk again new stands (flies ∙ ap (option_map (λ (x : FailedAppend). x.payload)) none) begun holds leaves,
+      let idle : in_flight new.keeper ≡ None = flies ∙ ap (option_map (λ (x : FailedAppend). x.payload)) none in
+      let left : IfSome (told again) (LeavesLog since had early (may_leave again) (left_since again) old.opened (reverse old.book.log) (kept new.keeper) None) =
+      subst (λ (x : Book). IfSome (told again) (LeavesLog since had early (may_leave again) (left_since again) old.opened (reverse x.log) (kept new.keeper) None)) s.0.book
+      (subst (λ (o : Opened). Left o None) s.0.opened (subst (Left new.opened) idle leaves)) in (
+        old.book,
+        opens_so told may_leave moment left_since since had early disk again old.opened (reverse old.book.log) (kept new.keeper) stored.payloads old.book stored.begins begun left (still_are (told again) left (ap (λ (m : Mark). m.bases) s.0.mark)),
         s.1,
       )
 

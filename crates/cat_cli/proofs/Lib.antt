@@ -6,6 +6,7 @@ pub mod Surviving
 pub mod Refused
 pub mod Ran
 pub mod Counted
+pub mod Unbased
 pub mod Renewed
 pub mod Migrated
 pub mod Shares

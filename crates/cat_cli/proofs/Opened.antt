@@ -1,29 +1,27 @@
 -- What a journal that was opened, or wasn't, says of its disk.
-use Rattle.std.proofs.Common.{◌≡◌, ◌⊎◌, ℕ, ◌<◌, ◌≤◌, List, [], ◌∷◌, ◌++◌, length, reverse, Option, Some, None, IfSome, true, false, Result, Ok, Err, refl, sym, ◌∙◌, ap, subst, inl, inr, ⊎_elim, arith}
+use Rattle.std.proofs.Common.{◌≡◌, ◌⊎◌, ℕ, ◌<◌, ◌≤◌, List, [], ◌∷◌, length, Option, Some, None, IfSome, true, false, Ok, Err, refl, sym, ◌∙◌, ap, subst, inl, inr, ⊎_elim, arith}
 use Rattle.std.specs.Option.{option_map}
-use Rattle.sha2.specs.Sha256.{sha256}
 use Rattle.cat_io.specs.Causes.{Rose, raised_by}
 use Rattle.cat_io.specs.Crashes.{Told}
 use Rattle.cat_io.specs.Places.{IsHanded, stood, taken}
-use Rattle.cat_checks.specs.Legal.{replayed}
+use Rattle.cat_frames.specs.Bases.{opened_by}
+use Rattle.cat_keeper.specs.Bases.{base_of}
 use Rattle.cat_core.specs.declared.opening.StoreFault.{StoreFault}
 use Rattle.cat_core.specs.declared.opening.StoreFault.TheVariants as store_faults
-use Rattle.cat_state.specs.Kept.{spellings}
 use Rattle.cat_core.specs.Opening.{IsIllegalAt, IsLedTo, led_by}
 use Rattle.cat_journal.specs.declared.fault.OpenFault.{OpenFault}
 use Rattle.cat_journal.specs.declared.fault.OpenFault.TheVariants as faults
 use Rattle.cat_journal.specs.Frames.{new_journal, recovered}
-use Rattle.cat_journal.specs.Held.{outcome, outcome_of}
 use Rattle.cat_journal.specs.Reading.{IsFaultOf}
-use Rattle.cat_keeper.specs.Keeping.{WithOrWithout}
 use Rattle.cat_model.specs.declared.limits.Limits.{Limits}
-use Rattle.cat_model.specs.Book.{Book, first_book}
+use Rattle.cat_model.specs.Book.{Book}
 use Rattle.cat_model.specs.Limits.{program_limits}
+use Rattle.cat_model.specs.Turns.{Opened}
 use Rattle.cat_cli.specs.declared.status.Status.{Status}
 use Rattle.cat_cli.specs.declared.status.Status.TheVariants as statuses
 use Rattle.cat_cli.specs.declared.unopened.Unopened.{Unopened}
 use Rattle.cat_cli.specs.declared.unopened.Unopened.TheVariants as whys
-use Rattle.cat_cli.specs.Journals.{Begins, DisksFell, Holds, IsBack, IsJournalOf, RoseBy, StandsFor, TellsAs, told_at}
+use Rattle.cat_cli.specs.Journals.{Begins, DisksFell, IsBack, RoseBy, StandsFor, TellsAs, told_at}
 use Rattle.cat_cli.specs.Opening.{FaultKnown, FaultTold, IsReason, IsStored, Refused, RefusedKnown, by_journal, by_store, is_unreadable}
 use Rattle.cat_cli.specs.Runs.{CountedBy, Refuses, RefusesSo, Seen, spares_disks}
 use Rattle.cat_cli.specs.Surviving.{Images, Spared}
@@ -58,13 +56,6 @@ pub recovers : (told : Option (List ℕ)) (ps : Option (List (List ℕ))) (paylo
 recovers None ps payloads t are = tt
 recovers (Some bytes) None payloads t are = absurd t
 recovers (Some bytes) (Some l) payloads t are = t ∙ ap (λ (x : List (List ℕ)). Ok x) are
-
--- and once more, at the disk that comes back
-pub recovers_back : (ps : Option (List (List ℕ))) (told : Option (List ℕ)) (payloads : List (List ℕ)) → Told ps told (λ l bytes. recovered bytes ≡ Ok l) → IfSome ps (λ l. l ≡ payloads)
-    → IfSome told (λ bytes. recovered bytes ≡ Ok payloads)
-recovers_back ps None payloads t are = tt
-recovers_back None (Some bytes) payloads t are = absurd t
-recovers_back (Some l) (Some bytes) payloads t are = t ∙ ap (λ (x : List (List ℕ)). Ok x) are
 
 -- what was opened and given back stands for what it did
 pub stands_through : (told : Option (List ℕ)) (ps : Option (List (List ℕ))) (after : Option (List ℕ)) → Told told ps (λ bytes l. recovered bytes ≡ Ok l) → Told ps after (λ l bytes. recovered bytes ≡ Ok l)
@@ -207,54 +198,41 @@ spares why status ends is fault = ⊎_elim (spares_fault status is) (spares_writ
 
 -- ---- the store that is opened
 
-pub stored : (told : Option (List ℕ)) (ps : Option (List (List ℕ))) (kept : ℕ) (limits : Limits) (book : Book) (down : Option ℕ)
-    → limits ≡ program_limits → Told told ps (λ bytes l. recovered bytes ≡ Ok l) → IsLedTo ps kept limits book → down ≡ None → IsStored told book down
-stored told ps kept limits book down program t led up = record {
+-- the payloads that there were, where they are told
+had_by : (told : Option (List ℕ)) (ps : Option (List (List ℕ))) (payloads : List (List ℕ)) → Told told ps (λ bytes l. recovered bytes ≡ Ok l) → IfSome ps (λ l. l ≡ payloads) → Told told ps (λ bytes l. l ≡ payloads)
+had_by None None payloads t are = tt
+had_by None (Some l) payloads t are = absurd t
+had_by (Some bytes) None payloads t are = absurd t
+had_by (Some bytes) (Some l) payloads t are = are
+
+-- as many as there were
+total_of : (told : Option (List ℕ)) (ps : Option (List (List ℕ))) (n : ℕ) (payloads : List (List ℕ)) → Told told ps (λ bytes l. recovered bytes ≡ Ok l) → IfSome ps (λ l. n ≡ length l) → IfSome ps (λ l. l ≡ payloads) → IfSome told (λ bytes. n ≡ length payloads)
+total_of None ps n payloads t total are = tt
+total_of (Some bytes) None n payloads t total are = absurd t
+total_of (Some bytes) (Some l) n payloads t total are = total ∙ ap length are
+
+pub stored : (told : Option (List ℕ)) (ps now : Option (List (List ℕ))) (kept : ℕ) (limits : Limits) (o : Opened) (book : Book) (down : Option ℕ)
+    → limits ≡ program_limits → Told told ps (λ bytes l. recovered bytes ≡ Ok l) → IsLedTo ps kept limits o book → now ≡ ps → down ≡ None → IsStored told o book now down
+stored told ps now kept limits o book down program t led same up = record {
   payloads = led.payloads;
   begins = record {
     recovers = recovers told ps led.payloads t led.are;
-    led = subst (λ (l : Limits). replayed sha256 (first_book sha256 l) 0 led.payloads ≡ Ok book) program led.led;
+    total = total_of told ps o.payloads led.payloads t led.total led.are;
+    opened = subst (λ (l : Limits). opened_by l o.payloads o.faults (base_of led.payloads) ≡ Some o) program led.begins;
+    starts = led.starts;
+    led = led.led;
   };
   spelled = led.spelled;
+  are = subst (λ (k : Option (List (List ℕ))). Told told k (λ bytes l. l ≡ led.payloads)) (sym same) (had_by told ps led.payloads t led.are);
   up = up;
 }
 
 -- ---- its disk
 
-outcome_ok : (r : Result (List (List ℕ)) OpenFault) (ps : List (List ℕ)) → outcome_of r ≡ Some ps → r ≡ Ok ps
-outcome_ok (Ok l) ps e = ap (λ (x : List (List ℕ)). Ok x) (same l ps e)
-  where
-    same : (l ps : List (List ℕ)) → ◌≡◌ {A = Option (List (List ℕ))} (Some l) (Some ps) → l ≡ ps
-    same l ps e = cc
-outcome_ok (Err f) ps e = cc
-
--- a torn append
-torn : (ps : Option (List (List ℕ))) (told : Option (List ℕ)) (payloads : List (List ℕ)) (p : List ℕ) → IfSome told (λ bytes. 16 < length bytes) → Told ps told (λ l bytes. WithOrWithout l p (outcome bytes))
-    → IfSome ps (λ l. l ≡ payloads) → IfSome told (λ bytes. IsJournalOf payloads bytes ⊎ IsJournalOf (payloads ++ p ∷ []) bytes)
-torn ps None payloads p headed t are = tt
-torn None (Some bytes) payloads p headed t are = absurd t
-torn (Some l) (Some bytes) payloads p headed t are =
-    ⊎_elim (λ (e : outcome bytes ≡ Some l). inl (outcome_ok (recovered bytes) l e ∙ ap (λ (x : List (List ℕ)). Ok x) are, headed))
-    (λ (e : outcome bytes ≡ Some (l ++ p ∷ [])). inr (outcome_ok (recovered bytes) (l ++ p ∷ []) e ∙ ap (λ (x : List (List ℕ)). Ok (x ++ p ∷ [])) are, headed)) t
-
-is_journal : (told : Option (List ℕ)) (payloads : List (List ℕ)) → IfSome told (λ bytes. 16 < length bytes) → IfSome told (λ bytes. recovered bytes ≡ Ok payloads) → IfSome told (IsJournalOf payloads)
-is_journal None payloads headed is = tt
-is_journal (Some bytes) payloads headed is = (is, headed)
-
 -- no append failed where nothing is in flight
 pub none_down : {A B : Type 0} (p : B) (down : Option A) → option_map (λ (c : A). p) down ≡ None → down ≡ None
 none_down p None idle = refl
 none_down {A} {B} p (Some c) idle = let no : ◌≡◌ {A = Option B} (Some p) None = idle in cc
-
-pub holds_log : (ps : Option (List (List ℕ))) (told : Option (List ℕ)) (book : Book) (down : Option ℕ) (in_flight : Option (List ℕ))
-    → IfSome told (λ bytes. 16 < length bytes)
-    → IfSome ps (λ l. l ≡ spellings (reverse book.log))
-    → (down ≡ None → Told ps told (λ l bytes. recovered bytes ≡ Ok l))
-    → ((p : List ℕ) → in_flight ≡ Some p → Told ps told (λ l bytes. WithOrWithout l p (outcome bytes)))
-    → (in_flight ≡ None → down ≡ None)
-    → IfSome told (Holds (spellings (reverse book.log)) in_flight)
-holds_log ps told book down None headed are at_rest flies up = is_journal told (spellings (reverse book.log)) headed (recovers_back ps told (spellings (reverse book.log)) (at_rest (up refl)) are)
-holds_log ps told book down (Some p) headed are at_rest flies up = torn ps told (spellings (reverse book.log)) p headed (flies p refl) are
 
 -- ---- the place of the disk
 
@@ -282,10 +260,10 @@ module _ {D : Type 0} (told : D → Option (List ℕ)) where
   stands_at (Some None) disk again is s before now e f = absurd is
   stands_at (Some (Some d)) disk again is s before now e f = subst (λ (t : Option (List ℕ)). StandsFor t (told again)) (sym is) s before now e f
 
-  pub begins_at : (place : Option (Option D)) (disk : D) (payloads : List (List ℕ)) (book : Book) → TellsAs told place disk → Begins (told disk) payloads book → Begins (told_at told place) payloads book
-  begins_at None disk payloads book is b = record { recovers = tt; led = b.led }
-  begins_at (Some None) disk payloads book is b = absurd is
-  begins_at (Some (Some d)) disk payloads book is b = subst (λ (t : Option (List ℕ)). Begins t payloads book) (sym is) b
+  pub begins_at : (place : Option (Option D)) (disk : D) (payloads : List (List ℕ)) (o : Opened) (book : Book) → TellsAs told place disk → Begins (told disk) payloads o book → Begins (told_at told place) payloads o book
+  begins_at None disk payloads o book is b = record { recovers = tt; total = tt; opened = b.opened; starts = b.starts; led = b.led }
+  begins_at (Some None) disk payloads o book is b = absurd is
+  begins_at (Some (Some d)) disk payloads o book is b = subst (λ (t : Option (List ℕ)). Begins t payloads o book) (sym is) b
 
   -- and what stands there once a disk was given back
   pub left_at : (place : Option (Option D)) (again : D) (P : List ℕ → Type 0) → IfSome (told again) P → IfSome (told_at told (stood again (taken place))) P

@@ -1,32 +1,30 @@
 -- A session on the catalogue of a journal that was opened, and is given back.
 use Rattle.std.proofs.Common.{◌≡◌, ℕ, ◌<◌, List, ◌++◌, reverse, Option, Some, None, IfSome, Bool, true, false, refl, sym, ◌∙◌, ap, subst, inl, inr, arith}
 use Rattle.std.specs.Option.{option_map}
-use Rattle.std.proofs.lemmas.List.{reverse-append, reverse-reverse, map-append}
+use Rattle.std.proofs.lemmas.List.{reverse-append, reverse-reverse}
 use Rattle.cat_io.specs.Places.{stood, taken}
-use Rattle.cat_state.specs.Kept.{spelling, spellings}
-use Rattle.cat_core.specs.Stored.{Stored}
+use Rattle.cat_core.specs.Stored.{Stored, opened_of}
+use Rattle.cat_keeper.specs.Bases.{base_count, bases_in, first_of}
 use Rattle.cat_model.specs.declared.log_entry.LogEntry.{LogEntry}
 use Rattle.cat_serve.specs.declared.ending.Session.{Session as End}
 use Rattle.cat_serve.specs.declared.ending.Session.TheVariants as ends
+use Rattle.cat_model.specs.Turns.{Opened}
 use Rattle.cat_cli.specs.declared.status.Status.{Status}
 use Rattle.cat_cli.specs.declared.status.Status.TheVariants as statuses
-use Rattle.cat_cli.specs.Journals.{Holds, told_at}
-use Rattle.cat_cli.specs.Opening.{HoldsLog, IsStored, status_of}
-use Rattle.cat_cli.specs.Runs.{Answers, CountedBy, Ran, RanKnown, RanWell, SaysKnown, Seen, spares_disks, start, tells_all}
-use Rattle.cat_serve.specs.Sessions.{Readings, ReadsOn, Fallen}
+use Rattle.cat_cli.specs.Journals.{Holds, IsBasedAt, IsJournalOf, TellsAs, opened_format, told_at}
+use Rattle.cat_cli.specs.Opening.{IsStored, status_of}
+use Rattle.cat_cli.specs.Runs.{Answers, CountedBy, Ran, RanKnown, RanWell, SaysKnown, Seen, grown, spares_disks, start, tells_all}
+use Rattle.cat_serve.specs.Sessions.{Readings, ReadsOn, Fallen, Ends, journal_by, journal_from}
 use Rattle.cat_serve.specs.SessionLaws.{log_grows}
 use Rattle.cat_cli.specs.Stores.{RunsKnown}
-use Rattle.cat_cli.specs.Surviving.{IsBegun, KeepsThrough, LeavesLog, StandsAs, Survives, images_at, images_of}
+use Rattle.cat_cli.specs.Surviving.{IsBegun, KeepsThrough, LeavesLog, StandsAs, Survives, bases_between, images_at, images_of}
 use Rattle.cat_cli.proofs.Opened.{begins_at, left_at}
-use Rattle.cat_cli.proofs.Surviving.{survives, survives_at, tells_of}
+use Rattle.cat_cli.proofs.Surviving.{payloads_are, survives, survives_at, tells_of}
+use Rattle.cat_cli.proofs.Unbased.{counts_between, told_bases}
 
 -- the entries of a log that grew
-pub log_of : (payloads : List (List ℕ)) (before after news : List LogEntry) → payloads ≡ spellings (reverse before) → after ≡ news ++ before → spellings (reverse after) ≡ payloads ++ spellings (reverse news)
-log_of payloads before after news is grew =
-    ap (λ (l : List LogEntry). spellings (reverse l)) grew
-    ∙ ap spellings (reverse-append news before)
-    ∙ map-append spelling (reverse before) (reverse news)
-    ∙ ap (λ (l : List (List ℕ)). l ++ spellings (reverse news)) (sym is)
+pub log_of : (before after news : List LogEntry) → after ≡ news ++ before → reverse after ≡ reverse before ++ reverse news
+log_of before after news grew = ap (λ (l : List LogEntry). reverse l) grew ∙ reverse-append news before
 
 -- by how it ended, and whether the disk failed
 module _ (to : ℕ → Type 0) (stays : Type 0) (clock : Readings) (to_come : ℕ → Type 0) (bytes : List ℕ) (unread : Option (List ℕ)) (s : Seen) where
@@ -150,41 +148,64 @@ caused : (to to' : ℕ → Type 0) (fallen : Option Fallen) → ((c : ℕ) → t
 caused to to' None on cause = tt
 caused to to' (Some f) on cause = on f.count cause
 
+-- what is so of a disk's bytes is so of what its place tells
+told_there : {D : Type 0} (told : D → Option (List ℕ)) (place : Option (Option D)) (disk : D) (P : List ℕ → Type 0) → TellsAs told place disk → IfSome (told disk) P → IfSome (told_at told place) P
+told_there told None disk P is p = tt
+told_there told (Some None) disk P is p = absurd is
+told_there told (Some (Some d)) disk P is p = subst (λ (t : Option (List ℕ)). IfSome t P) (sym is) p
+
+-- the last base of a journal at rest is the keeper's
+based_now : (since : ℕ) (had : List (List ℕ)) (early may_leave : List ℕ → Type 0) (left_since : ℕ → List ℕ → Type 0) (o : Opened) (log : List LogEntry) (left : Option (List ℕ)) (kept : Option (List (List ℕ))) (flying : Option (List ℕ)) (place : ℕ)
+    → flying ≡ None → ((ps : List (List ℕ)) → kept ≡ Some ps → first_of ps ≡ place) → IfSome left (LeavesLog since had early may_leave left_since o log kept flying) → IfSome left (IsBasedAt place)
+based_now since had early may_leave left_since o log None kept flying place none based leaves = tt
+based_now since had early may_leave left_since o log (Some bytes) kept flying place none based leaves =
+    let rests : IsJournalOf leaves.payloads bytes = subst (λ (f : Option (List ℕ)). Holds leaves.payloads f bytes) none leaves.holds in
+    ap first_of (payloads_are bytes leaves.payloads rests.0) ∙ based leaves.payloads leaves.are
+
 -- a session on the journal of a disk
 module _ {D K : Type 0} (told : D → Option (List ℕ)) (may_leave : D → List ℕ → Type 0) (moment : D → ℕ) (left_since : D → ℕ → List ℕ → Type 0) (down : K → Option ℕ) (in_flight : K → Option (List ℕ))
-    (since least : ℕ) (early : List ℕ → Type 0) (disk again : D) (old new : Stored K) (ahead ahead' : Option Readings) (bytes unread held after : Option (List ℕ)) (before now : ℕ) (end : End)
-    (stored : IsStored (told disk) old.book (down old.keeper))
+    (kept : K → Option (List (List ℕ))) (since : ℕ) (had : List (List ℕ)) (early : List ℕ → Type 0) (disk again : D) (old new : Stored K) (ahead ahead' : Option Readings) (bytes unread held after : Option (List ℕ)) (before now : ℕ) (end : End)
+    (stored : IsStored (told disk) old.opened old.book (kept old.keeper) (down old.keeper))
     (session : RunsKnown down in_flight old ahead bytes unread held end new ahead' after)
-    (begun : IsBegun since least early (told disk) (moment disk) (may_leave disk))
-    (holds : HoldsLog in_flight new.keeper new.book (told again))
-    (leaves : KeepsThrough since least early (may_leave again) (left_since again) in_flight new.keeper new.book (told again)) where
+    (begun : IsBegun since had early (told disk) (moment disk) (may_leave disk))
+    (formed : IfSome (told disk) (λ bytes. old.mark.format ≡ opened_format bytes)) (place_is : old.mark.base ≡ old.opened.state.place)
+    (bases : (old.mark.bases ≡ bases_in (kept old.keeper)) × (new.mark.bases ≡ bases_in (kept new.keeper))) (based : (ps : List (List ℕ)) → kept new.keeper ≡ Some ps → first_of ps ≡ new.mark.base)
+    (leaves : KeepsThrough since had early (may_leave again) (left_since again) kept in_flight new.keeper new.opened new.book (told again)) where
+  abbrev Left : Opened → Option (List ℕ) → Type 0
+  Left o flying = IfSome (told again) (LeavesLog since had early (may_leave again) (left_since again) o (reverse new.book.log) (kept new.keeper) flying)
+
   -- how it went, where to is so of the count at which an append failed
   pub ran : (to : ℕ → Type 0) → ((c : ℕ) → down new.keeper ≡ Some c → to c) → RanKnown to ahead ahead' bytes unread held after before now (told disk) (told again) (images_of may_leave moment left_since disk again) end
   ran to raised b w e f =
       let x = session b w e f in
       let last = x.4 in
       let left = x.6 in
-      let grew = log_grows x.0 (start old.book b w) end x.2 last unread x.5 in
-      let log : spellings (reverse new.book.log) ≡ stored.payloads ++ spellings (reverse grew.0) =
-      log_of stored.payloads old.book.log new.book.log grew.0 stored.spelled (left.log_is ∙ grew.1) in (
+      let grew = log_grows x.0 (start (journal_by (opened_of old) old.mark) old.book b w) end x.2 last unread x.5 in
+      let log : reverse new.book.log ≡ reverse old.book.log ++ reverse grew.0 = log_of old.book.log new.book.log grew.0 (left.log_is ∙ grew.1) in (
         x.0,
         x.1,
         x.2,
         x.3,
         record {
           payloads = stored.payloads;
+          opened = old.opened;
           book = old.book;
           begins = stored.begins;
+          format = old.mark.format;
+          formed = formed;
+          bases = old.mark.bases;
+          counted = told_bases (told disk) (kept old.keeper) stored.payloads old.mark.bases stored.are bases.0;
           last = last;
-          ends = x.5;
+          ends = subst (λ (n : ℕ). Ends x.0 (start (journal_from old.opened old.mark.format n old.mark.bases) old.book b w) end x.2 last unread) place_is x.5;
           added = reverse grew.0;
           grows = grew.1 ∙ ap (λ (l : List LogEntry). l ++ old.book.log) (sym (reverse-reverse grew.0));
-          keeps =
-              subst (λ (l : List (List ℕ)). IfSome (told again) (Holds l (option_map (λ (f : Fallen). spelling f.entry) last.fallen))) log
-              (subst (λ (f : Option (List ℕ)). IfSome (told again) (Holds (spellings (reverse new.book.log)) f)) left.flies holds);
           crash =
-              survives since least early (told disk) (told again) (moment disk) (may_leave disk) (may_leave again) (left_since again) stored.payloads (spellings (reverse grew.0)) (spellings (reverse new.book.log)) (option_map (λ (f : Fallen). spelling f.entry) last.fallen)
-              begun stored.begins.recovers log (subst (λ (f : Option (List ℕ)). IfSome (told again) (LeavesLog since least early (may_leave again) (left_since again) (spellings (reverse new.book.log)) f)) left.flies leaves);
+              survives since had early (moment disk) (may_leave disk) (may_leave again) (left_since again) old.opened (reverse old.book.log) (reverse grew.0) (reverse new.book.log) (kept new.keeper) (option_map (λ (f : Fallen). f.payload) last.fallen) (bases_between old.mark.bases last.session.journal.bases) log
+              (told disk) (told again) stored.payloads begun stored.begins.recovers stored.begins.total stored.spelled stored.begins.opened
+              (counts_between (told disk) (kept old.keeper) (kept new.keeper) stored.payloads old.mark.bases last.session.journal.bases stored.are bases.0 (sym left.bases_is ∙ bases.1))
+              (subst (λ (o : Opened). Left o (option_map (λ (f : Fallen). f.payload) last.fallen)) left.opened_is (subst (Left new.opened) left.flies leaves));
+          based = λ none. subst (λ (n : ℕ). IfSome (told again) (IsBasedAt n)) left.base_is (based_now since had early (may_leave again) (left_since again) new.opened (reverse new.book.log) (told again) (kept new.keeper) (in_flight new.keeper) new.mark.base
+              (left.flies ∙ ap (option_map (λ (f : Fallen). f.payload)) none) based leaves);
           cause = one_fell to (down new.keeper) last.fallen left.down_is raised;
           reads_on = x.7;
         },
@@ -206,18 +227,21 @@ module _ {D : Type 0} (told : D → Option (List ℕ)) (may_leave : D → List �
       → Ran to clock to_come b unread (Here w h before now) end → Ran to' clock to_come b unread (There w h before now) end
   ran_there to to' clock to_come b unread w h before now end on r = record {
     payloads = r.payloads;
+    opened = r.opened;
     book = r.book;
-    begins = begins_at told place disk r.payloads r.book (tells_of told may_leave moment left_since place disk is) r.begins;
+    begins = begins_at told place disk r.payloads r.opened r.book (tells_of told may_leave moment left_since place disk is) r.begins;
+    format = r.format;
+    formed = told_there told place disk (λ bytes. r.format ≡ opened_format bytes) (tells_of told may_leave moment left_since place disk is) r.formed;
+    bases = r.bases;
+    counted = told_there told place disk (λ bytes. r.bases ≡ Some (base_count r.payloads)) (tells_of told may_leave moment left_since place disk is) r.counted;
     last = r.last;
     ends = r.ends;
     added = r.added;
     grows = r.grows;
-    keeps =
-        subst (λ (q : Option (Option D)). IfSome (told_at told q) (Holds (r.payloads ++ spellings r.added) (option_map (λ (f : Fallen). spelling f.entry) r.last.fallen))) (sym there)
-        (left_at told place again (Holds (r.payloads ++ spellings r.added) (option_map (λ (f : Fallen). spelling f.entry) r.last.fallen)) r.keeps);
     crash =
-        subst (λ (q : Option (Option D)). Survives (told_at told place) (told_at told q) (images_at may_leave moment left_since place q) r.payloads (spellings r.added) (option_map (λ (f : Fallen). spelling f.entry) r.last.fallen)) (sym there)
-        (survives_at told may_leave moment left_since place disk again r.payloads (spellings r.added) (option_map (λ (f : Fallen). spelling f.entry) r.last.fallen) is r.crash);
+        subst (λ (q : Option (Option D)). Survives (told_at told place) (told_at told q) (images_at may_leave moment left_since place q) (grown r.payloads r.opened r.book r.added (bases_between r.bases r.last.session.journal.bases) (option_map (λ (f : Fallen). f.payload) r.last.fallen))) (sym there)
+        (survives_at told may_leave moment left_since place disk again (grown r.payloads r.opened r.book r.added (bases_between r.bases r.last.session.journal.bases) (option_map (λ (f : Fallen). f.payload) r.last.fallen)) is r.crash);
+    based = λ up. subst (λ (q : Option (Option D)). IfSome (told_at told q) (IsBasedAt r.last.session.journal.base)) (sym there) (left_at told place again (IsBasedAt r.last.session.journal.base) (r.based up));
     cause = caused to to' r.last.fallen on r.cause;
     reads_on = r.reads_on;
   }

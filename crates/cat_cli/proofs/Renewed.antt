@@ -8,6 +8,7 @@ use Rattle.cat_journal.specs.Held.{outcome_of}
 use Rattle.cat_journal.specs.Reading.{IsMigrated, MigratesOnly, OnlyReads, OpensOnly}
 use Rattle.cat_keeper.specs.Moments.{followed, weaker}
 use Rattle.cat_model.specs.Book.{Book}
+use Rattle.cat_model.specs.Turns.{Opened}
 use Rattle.cat_cli.specs.Journals.{Begins, IsJournalOf, StandsFor}
 use Rattle.cat_cli.specs.Migrating.{IsOpenedAs, SparesOnly}
 use Rattle.cat_cli.specs.Runs.{Migrates}
@@ -99,20 +100,12 @@ module _ {D : Type 0} (told : D → Option (List ℕ)) (may_leave : D → List �
   spared_of disk again (Some bytes) None run = tt
   spared_of disk again (Some bytes) (Some now) run = run.each
 
-  -- what a crash leaves at any moment has the payloads
-  on_the_way : (disk again : D) (t left : Option (List ℕ)) (payloads : List (List ℕ)) → IfSome t (λ bytes. recovered bytes ≡ Ok payloads) → IfSome t (SparesOnly may_leave moment left_since disk again)
-      → IfSome t (λ bytes. IfSome left (λ now. (c : List ℕ) → left_since again (moment disk) c → IsEarlier (may_leave disk) t c ⊎ IsOnTheWay payloads [] c))
-  on_the_way disk again None left payloads recovers run = tt
-  on_the_way disk again (Some bytes) None payloads recovers run = tt
-  on_the_way disk again (Some bytes) (Some now) payloads recovers run =
-      λ c left. ⊎_elim (λ was. inl was) (λ same. inr (0, omega arith, ap outcome_of (same ∙ recovers) ∙ ap (λ (l : List (List ℕ)). Some l) (sym (append-nil payloads)))) (run.each c left)
-
   is_migrated : (b m a : List ℕ) → IsOpenedAs b m → 16 < length m → IsMigrated m a → IsMigrated b a
   is_migrated b m a opens headed is =
       let some : 0 < length m = omega (arith, headed) in
       (λ none. is.1 some ∙ ap (λ (l : List ℕ). put 15 (1 ∷ []) l) (opens.0 none), λ more. is.1 some ∙ ap (λ (l : List ℕ). put 15 (1 ∷ []) l) (opens.1 more))
 
-  module _ (disk mid again : D) (payloads : List (List ℕ)) (book : Book) (begins : Begins (told disk) payloads book) (opens : Told (told disk) (told mid) IsOpenedAs) (is : IfSome (told mid) (IsJournalOf payloads)) where
+  module _ (disk mid again : D) (payloads : List (List ℕ)) (o : Opened) (book : Book) (begins : Begins (told disk) payloads o book) (opens : Told (told disk) (told mid) IsOpenedAs) (is : IfSome (told mid) (IsJournalOf payloads)) where
     bytes_at : (t t' t'' : Option (List ℕ)) → Told t t' IsOpenedAs → IfSome t' (IsJournalOf payloads) → Told t' t'' IsMigrated → IfSome t (λ before. IfSome t'' (λ after. IsMigrated before after))
     bytes_at None t' t'' opens is put = tt
     bytes_at (Some b) None t'' opens is put = absurd opens
@@ -129,12 +122,11 @@ module _ {D : Type 0} (told : D → Option (List ℕ)) (may_leave : D → List �
     migrates newer put same headed only run = record {
       opens = record {
         payloads = payloads;
+        opened = o;
         begins = begins;
         keeps = journal_at (told mid) (told again) is same headed;
-        crash = record {
-          at_the_end = at_the_end (told again) only;
-          at_any_moment = on_the_way disk again (told disk) (told again) payloads begins.recovers run;
-        };
+        ends = at_the_end (told again) only;
+        crash = spared_of disk again (told disk) (told again) run;
       };
       newer = newer;
       bytes = bytes_at (told disk) (told mid) (told again) opens is put;

@@ -1,10 +1,9 @@
 -- What a run of `serve` says, once the journal's disk is back at its path.
-use Rattle.std.proofs.Common.{◌≡◌, ◌≢◌, ℕ, ◌<◌, ◌≤◌, List, ◌++◌, Option, Some, None, IfSome, Bool, true, false, refl, sym, ◌∙◌, ap, subst, inl, inr, arith}
+use Rattle.std.proofs.Common.{◌≡◌, ◌≢◌, ℕ, ◌<◌, ◌≤◌, List, Option, Some, None, IfSome, Bool, true, false, refl, sym, ◌∙◌, ap, subst, inl, inr, arith}
 use Rattle.std.specs.Prelude.{◌⊎◌}
 use Rattle.cat_desk.specs.Pass.{mark_of}
 use Rattle.cat_io.specs.Places.{stood, taken}
 use Rattle.cat_model.specs.Mark.{FailedAppend}
-use Rattle.cat_state.specs.Kept.{spellings}
 use Rattle.cat_serve.specs.declared.serving.Served.{Served}
 use Rattle.cat_serve.specs.declared.serving.Served.TheVariants as serveds
 use Rattle.cat_serve.specs.Sessions.{Readings}
@@ -14,15 +13,15 @@ use Rattle.cat_cli.specs.declared.status.Status.TheVariants as statuses
 use Rattle.cat_cli.specs.declared.unopened.Unopened.{Unopened}
 use Rattle.cat_cli.specs.declared.unopened.Unopened.TheVariants as whys
 use Rattle.cat_cli.specs.Hosting.{Comes, Heard, Service}
-use Rattle.cat_cli.specs.Journals.{Holds, StandsFor, told_at}
+use Rattle.cat_cli.specs.Journals.{StandsFor, told_at}
 use Rattle.cat_cli.specs.Opening.{EndsFor, IsReason, RefusedKnown}
 use Rattle.cat_cli.specs.Lines.{no_memory_line}
-use Rattle.cat_cli.specs.Runs.{CountedBy, TellsKnown, spares_disks, spares_listener}
-use Rattle.cat_cli.specs.Serving.{Ended, Hosted, HostedWell, IsToldOf, OpenedOnly, RefusedFor, RefusesKnown, ServesKnown, Sunk, flying_at, status_after}
+use Rattle.cat_cli.specs.Runs.{CountedBy, TellsKnown, grown, spares_disks, spares_listener}
+use Rattle.cat_cli.specs.Serving.{Ended, Hosted, HostedWell, IsToldOf, OpenedOnly, RefusedFor, RefusesKnown, ServesKnown, Sunk, bases_made, flying_at, status_after}
 use Rattle.cat_cli.specs.Surviving.{Spared, StandsAs, Survives, images_at, images_of}
 use Rattle.cat_cli.proofs.Counted.{opens_there}
 use Rattle.cat_cli.proofs.HostedStores.{comes_on}
-use Rattle.cat_cli.proofs.Opened.{EndsAtFault, begins_at, left_at, no_fault, reason_at, stands_back, stands_untouched}
+use Rattle.cat_cli.proofs.Opened.{EndsAtFault, begins_at, no_fault, reason_at, stands_back, stands_untouched}
 use Rattle.cat_cli.proofs.Refused.{never_opened, refused_there}
 use Rattle.cat_cli.proofs.Surviving.{spared_at, spared_untouched, survives_at, tells_of}
 
@@ -163,8 +162,10 @@ module _ {D : Type 0} (told : D → Option (List ℕ)) (may_leave : D → List �
         → Hosted ends to' service a b ahead now (told_at told place) (told_at told place') (images_at may_leave moment left_since place place')
     hosted_there to to' on h = record {
       payloads = h.payloads;
+      started = h.started;
       book = h.book;
-      begins = begins_at told place disk h.payloads h.book (tells_of told may_leave moment left_since place disk is) h.begins;
+      begins = begins_at told place disk h.payloads h.started h.book (tells_of told may_leave moment left_since place disk is) h.begins;
+      fresh = h.fresh;
       desk = h.desk;
       first = h.first;
       last = h.last;
@@ -181,12 +182,9 @@ module _ {D : Type 0} (told : D → Option (List ℕ)) (may_leave : D → List �
       grows = h.grows;
       theirs = h.theirs;
       made = h.made;
-      keeps =
-          subst (λ (q : Option (Option D)). IfSome (told_at told q) (Holds (h.payloads ++ spellings h.added) (flying_at h.last))) (sym there)
-          (left_at told place again (Holds (h.payloads ++ spellings h.added) (flying_at h.last)) h.keeps);
       crash =
-          subst (λ (q : Option (Option D)). Survives (told_at told place) (told_at told q) (images_at may_leave moment left_since place q) h.payloads (spellings h.added) (flying_at h.last)) (sym there)
-          (survives_at told may_leave moment left_since place disk again h.payloads (spellings h.added) (flying_at h.last) is h.crash);
+          subst (λ (q : Option (Option D)). Survives (told_at told place) (told_at told q) (images_at may_leave moment left_since place q) (grown h.payloads h.started h.book h.added (bases_made h.first h.last) (flying_at h.last))) (sym there)
+          (survives_at told may_leave moment left_since place disk again (grown h.payloads h.started h.book h.added (bases_made h.first h.last) (flying_at h.last)) is h.crash);
       cause = caused to to' (mark_of h.last).fault on h.cause;
       told = h.told;
     }

@@ -3,7 +3,7 @@ use Rattle.std.proofs.Common.{◌≡◌, ℕ, ◌+◌, List, [], ◌∷◌, ◌+
 use Rattle.cat_collect.specs.Answers.{Answers as CollectionAnswers, Causes as CollectionCauses}
 use Rattle.cat_io.specs.Causes.{Rose}
 use Rattle.cat_desk.specs.Log.{IsAmong}
-use Rattle.cat_desk.specs.Pass.{DeskId, known, mark_of, number_of, seen}
+use Rattle.cat_desk.specs.Pass.{DeskId, all_left_by, known, mark_of, number_of, seen}
 use Rattle.cat_desk.specs.declared.pass.Pass.{Pass}
 use Rattle.cat_model.specs.declared.command.Command.{Command}
 use Rattle.cat_model.specs.declared.cutoff.Resolved.{Resolved}
@@ -14,13 +14,15 @@ use Rattle.cat_model.specs.declared.refusal.Refusal.{Refusal}
 use Rattle.cat_model.specs.declared.refusal.Refusal.TheVariants as refusals
 use Rattle.cat_model.specs.declared.refusal.Refused.{Refused}
 use Rattle.cat_model.specs.declared.reply.Told.{Told}
+use Rattle.cat_model.specs.Drafts.{OpenDraft}
 use Rattle.cat_model.specs.Mark.{FailedAppend, Grows, Mark}
 use Rattle.cat_model.specs.TurnLaws.{grows_on, grows_self}
 use Rattle.cat_policy.specs.Policies.{resolved}
 use Rattle.cat_rest.specs.Wanted.{wanted}
 use Rattle.cat_rest.specs.declared.wanted.Wanted.{Wanted}
-use Rattle.cat_rest.specs.declared.wanted.Wanted.TheVariants.{Change, Collect, Read}
+use Rattle.cat_rest.specs.declared.wanted.Wanted.TheVariants.{Change, Checkpoint, Collect, Read}
 use Rattle.cat_work.specs.Answers.{Answers, Causes, CausesLimit}
+use Rattle.cat_work.specs.Checkpoints.{Answers as CheckpointAnswers, Causes as CheckpointCauses, base_after}
 use Rattle.cat_serve.specs.declared.ending.Session.{Session as End}
 use Rattle.cat_serve.specs.Passes.{Comes, EndsBy, GoesBy, Place, Visit, Visits, place}
 use Rattle.cat_serve.specs.Serving.{Rises, Serves}
@@ -83,6 +85,24 @@ module _ (x : FailedAppend) where
   collection_told desk n policy moment k before after l m (Ok answer) collects up fell own = none_and_some after.fault x collects.up fell
   collection_told desk n policy moment k before after l m (Err refused) answers up fell own = (refused, refl, by_collection desk n policy moment k before after m refused.place refused.why answers.1 up fell own)
 
+  by_checkpoint : (desk : DeskId) (n : ℕ) (before after : Mark) (m : List LogEntry) (bytes : List ℕ) (place : Option ℕ) (why : Refusal) → CheckpointCauses desk n before after m bytes place why
+      → before.fault ≡ None → after.fault ≡ Some x → x.caller ≡ n → why ≡ refusals.Fault
+  by_checkpoint desk n before after m bytes place refusals.NoMemory h up fell own = none_and_some before.fault x up (h.1 x fell own)
+  by_checkpoint desk n before after m bytes place (refusals.Down count) h up fell own =
+      let d = h.1 in none_and_some before.fault d.fault up (d.known (ap (λ (f : FailedAppend). f.caller) (one_fault after.fault d.fault x d.is fell) ∙ own))
+  by_checkpoint desk n before after m bytes place refusals.OldFormat h up fell own = none_and_some after.fault x h.1.up fell
+  by_checkpoint desk n before after m bytes place (refusals.SweepOpen opened) h up fell own = none_and_some after.fault x h.1.up fell
+  by_checkpoint desk n before after m bytes place (refusals.Limit which number) h up fell own = none_and_some after.fault x h.1.up fell
+  by_checkpoint desk n before after m bytes place refusals.Fault h up fell own = refl
+  by_checkpoint desk n before after m bytes place why h up fell own = absurd h
+
+  checkpoint_told : (desk : DeskId) (n : ℕ) (before after : Mark) (m : List LogEntry) (drafts : List OpenDraft) (told : Result Told Refused) → CheckpointAnswers desk n before after m drafts told
+      → before.fault ≡ None → after.fault ≡ Some x → x.caller ≡ n → TellsFault told
+  unfolding TellsFault
+  checkpoint_told desk n before after m drafts (Ok answer) based up fell own = none_and_some after.fault x based.up fell
+  checkpoint_told desk n before after m drafts (Err refused) causes up fell own =
+      (refused, refl, by_checkpoint desk n before after m (base_after desk m drafts) refused.place refused.why causes up fell own)
+
   comes_told : (desk : DeskId) (attempts : ℕ) (wants : Result Wanted Refusal) (taken : List ℕ) (p q : Pass) (told : Result Told Refused) → Comes desk attempts wants taken p q told
       → (mark_of p).fault ≡ None → (mark_of q).fault ≡ Some x → x.caller ≡ number_of p → TellsFault told
   comes_told desk attempts (Ok (Change command)) taken p q told (inl change) up fell own =
@@ -90,6 +110,8 @@ module _ (x : FailedAppend) where
   comes_told desk attempts (Ok (Collect policy)) taken p q told (inl collection) up fell own =
       collection_told desk (number_of p) (resolved collection.moment policy) collection.moment (known p) (mark_of p) (mark_of q) (seen p) (seen q) told collection.answers up fell own
   comes_told desk attempts (Ok (Read ask)) taken p q told (inl reading) up fell own = none_and_some (mark_of p).fault x up (reading.linked.own_fault x fell own)
+  comes_told desk attempts (Ok Checkpoint) taken p q told (inl checkpoint) up fell own =
+      checkpoint_told desk (number_of p) (mark_of p) (mark_of q) (seen q) (all_left_by q).drafts told checkpoint.checks.answers up fell own
   comes_told desk attempts (Err why) taken p q told (inl call) up fell own = absurd call
   comes_told desk attempts wants taken p q told (inr refusal) up fell own = none_and_some (mark_of p).fault x up (ap (λ (z : Pass). (mark_of z).fault) (sym refusal.stays) ∙ fell)
 

@@ -1,5 +1,5 @@
 -- What a run of `gc` does, by its status.
-use Rattle.std.specs.Prelude.{ℕ, ◌≡◌, ◌≢◌, ◌⊎◌, List, [], ◌∷◌, ◌++◌, reverse, Option, Some, None, IfSome, Result, Ok, Err, true, false}
+use Rattle.std.specs.Prelude.{ℕ, ◌≡◌, ◌≢◌, ◌⊎◌, List, [], ◌∷◌, ◌++◌, reverse, Option, Some, None, Result, Ok, Err, true, false}
 use Rattle.sha2.specs.Sha256.{sha256}
 use Rattle.cat_checks.specs.Histories.{IsLegalFrom}
 use Rattle.cat_core.specs.Stored.{Stored, opened_of}
@@ -16,17 +16,19 @@ use Rattle.cat_model.specs.Book.{Book}
 use Rattle.cat_model.specs.Calls.{Called}
 use Rattle.cat_model.specs.Drafts.{no_names}
 use Rattle.cat_model.specs.Past.{swept_on}
+use Rattle.cat_model.specs.Turns.{Opened}
 use Rattle.cat_policy.specs.declared.policy.Policy.{Policy}
 use Rattle.cat_policy.specs.Policies.{resolved}
-use Rattle.cat_state.specs.Kept.{spelling, spellings}
+use Rattle.cat_state.specs.Kept.{spelling}
+use Rattle.cat_work.specs.Answers.{journal_in}
 use Rattle.cat_cli.specs.declared.collecting.Collected.{Collected}
 use Rattle.cat_cli.specs.declared.collecting.Collected.TheVariants as comes
 use Rattle.cat_cli.specs.declared.status.Status.{Status}
 use Rattle.cat_cli.specs.declared.status.Status.TheVariants as statuses
-use Rattle.cat_cli.specs.Journals.{Begins, Holds}
+use Rattle.cat_cli.specs.Journals.{Begins}
 use Rattle.cat_cli.specs.Lines.{disk_fault_line, limit_line, no_memory_line, swept_line}
-use Rattle.cat_cli.specs.Runs.{TellsKnown}
-use Rattle.cat_cli.specs.Serving.{IsWritten, RefusesKnown, Sunk, opened_by_program}
+use Rattle.cat_cli.specs.Runs.{TellsKnown, grown}
+use Rattle.cat_cli.specs.Serving.{IsWritten, RefusesKnown, Sunk}
 use Rattle.cat_cli.specs.Surviving.{Images, Survives}
 
 -- ---- what a collection comes to
@@ -91,30 +93,32 @@ abbrev pub Means : Result Told Refused → Collected → Type 0
 Means (Ok told) what = (swept : Swept) × (told.reply ≡ replies.Swept swept) × (what ≡ comes.Swept swept.kept swept.removed told.place)
 Means (Err refused) what = MeansBy refused.why what
 
--- a collection was made on a store, which has its entry then, if that was kept
+-- a collection was made on a store, which has its entry then, if that was kept, and no checkpoint more
 pub record IsGathered {K : Type 0} (in_flight : K → Option (List ℕ)) (policy : Policy) (ahead to_come : Option (ℕ → ℕ)) (old new : Stored K) (what : Collected) : Type 0 where
   pub moment : ℕ
   pub ticks : Ticks ahead to_come moment
   pub added : List LogEntry
   pub comes_to : ComesTo (collection old.book policy moment) what added (in_flight new.keeper)
   pub log_is : new.book.log ≡ reverse added ++ old.book.log
+  pub opened : opened_of new ≡ opened_of old
+  pub unbased : journal_in new.mark ≡ journal_in old.mark
   pub legal : IsLegalFrom (opened_of old) (reverse new.book.log)
 
 -- ---- on the journal
 
--- A collection was made on the catalogue of the journal, as it was opened, at the moment of one reading of the clock, and the journal has its entry: where the append failed, maybe. The log is legal, and begins with the one that was opened.
+-- A collection was made on the catalogue of the journal, as it was opened, at the moment of one reading of the clock, and the journal keeps its entry, and has no base more: where the append failed, maybe. The log is legal, and begins with the one that was opened. Where no append failed, just the entry stands behind all that the journal had.
 pub record Collects (policy : Policy) (ahead to_come : Option (ℕ → ℕ)) (journal left : Option (List ℕ)) (images : Images) (what : Collected) : Type 0 where
   pub payloads : List (List ℕ)
+  pub opened : Opened
   pub book : Book
-  pub begins : Begins journal payloads book
+  pub begins : Begins journal payloads opened book
   pub moment : ℕ
   pub ticks : Ticks ahead to_come moment
   pub added : List LogEntry
   pub flying : Option (List ℕ)
   pub comes_to : ComesTo (collection book policy moment) what added flying
-  pub legal : IsLegalFrom opened_by_program (reverse book.log ++ added)
-  pub keeps : IfSome left (Holds (payloads ++ spellings added) flying)
-  pub crash : Survives journal left images payloads (spellings added) flying
+  pub legal : IsLegalFrom opened (reverse book.log ++ added)
+  pub crash : Survives journal left images (grown payloads opened book added 0 flying)
 
 -- ---- a run
 

@@ -106,9 +106,12 @@ pub record Hosts {In Out K : Type 0} (ends : BothEnds In Out) (service : Service
   pub given : Since (service.workers + 1) desk.begun (seen last)
   pub marked : IsGiven (service.workers + 1) old.mark (mark_of last)
   pub log_is : new.book.log ≡ reverse (seen last)
+  pub opened_is : opened_of new ≡ desk.opened
   pub fault_is : new.mark.fault ≡ (mark_of last).fault
+  pub bases_is : new.mark.bases ≡ (mark_of last).bases
 
--- a store came back with the book and the mark that it had
+-- a store came back with the book and the mark that it had, and what its log started from
 pub record IsAsBefore {K : Type 0} (old new : Stored K) : Type 0 where
   pub book : new.book ≡ old.book
+  pub opened : opened_of new ≡ opened_of old
   pub mark : new.mark ≡ old.mark

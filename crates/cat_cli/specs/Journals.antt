@@ -1,13 +1,15 @@
 -- The journal that a run opens: what its disk tells, and what that stands for.
 use Rattle.std.specs.Prelude.{ℕ, ◌<◌, ◌≤◌, ◌≡◌, ◌⊎◌, List, [], ◌∷◌, ◌++◌, length, Option, Some, None, IfSome, Ok, Err}
-use Rattle.sha2.specs.Sha256.{sha256}
 use Rattle.cat_io.specs.Causes.{Rose, raised_by}
-use Rattle.cat_checks.specs.Legal.{replayed}
-use Rattle.cat_core.specs.Opening.{led_by}
+use Rattle.cat_checks.specs.Histories.{led_on}
+use Rattle.cat_core.specs.Opening.{MayStart, led_by}
+use Rattle.cat_frames.specs.Bases.{opened_by}
 use Rattle.cat_journal.specs.declared.fault.OpenFault.TheVariants as faults
-use Rattle.cat_journal.specs.Frames.{new_journal, recovered}
-use Rattle.cat_model.specs.Book.{Book, first_book}
+use Rattle.cat_journal.specs.Frames.{form_gate, format_by, new_journal, payloads, recovered}
+use Rattle.cat_keeper.specs.Bases.{base_of, entries_of, first_of}
+use Rattle.cat_model.specs.Book.{Book}
 use Rattle.cat_model.specs.Limits.{program_limits}
+use Rattle.cat_model.specs.Turns.{Opened}
 use Rattle.cat_cli.specs.declared.unopened.Unopened.{Unopened}
 use Rattle.cat_cli.specs.declared.unopened.Unopened.TheVariants as whys
 
@@ -51,12 +53,24 @@ pub record RoseBy (before now count : ℕ) : Type 0 where
 
 -- ---- what a journal stands for
 
--- the book that a journal's payloads lead to
-pub record Begins (told : Option (List ℕ)) (payloads : List (List ℕ)) (book : Book) : Type 0 where
+-- what the log starts from that a journal's payloads stand for, which is their last base, or nothing; and the book that those behind it lead to
+pub record Begins (told : Option (List ℕ)) (payloads : List (List ℕ)) (o : Opened) (book : Book) : Type 0 where
   pub recovers : IfSome told (λ bytes. recovered bytes ≡ Ok payloads)
-  pub led : replayed sha256 (first_book sha256 program_limits) 0 payloads ≡ Ok book
+  pub total : IfSome told (λ bytes. o.payloads ≡ length payloads)
+  pub opened : opened_by program_limits o.payloads o.faults (base_of payloads) ≡ Some o
+  pub starts : MayStart o (base_of payloads)
+  pub led : led_on o (entries_of payloads) ≡ Ok book
 
--- the payload at this place is the first that is no entry or isn't legal, or the base is of this place
+-- the format of a journal once it is opened: an empty file becomes a new one
+abbrev pub opened_format : List ℕ → ℕ
+opened_format [] = 2
+opened_format (byte ∷ bytes) = format_by (form_gate (byte ∷ bytes))
+
+-- the last base of a journal of these bytes is of this place, which is 0 where there is none
+abbrev pub IsBasedAt : ℕ → List ℕ → Type 0
+IsBasedAt place bytes = first_of (payloads bytes) ≡ place
+
+-- the payload at this place is the first behind the last base that is no entry or isn't legal; or the base is of this place, and no log may start from it
 pub record IsIllegal (told : Option (List ℕ)) (place : ℕ) : Type 0 where
   pub payloads : List (List ℕ)
   pub recovers : IfSome told (λ bytes. recovered bytes ≡ Ok payloads)

@@ -1,18 +1,21 @@
 -- What opening a store over a journal does, and what is told where none is opened.
-use Rattle.std.specs.Prelude.{ℕ, ◌≡◌, ◌≢◌, List, ◌++◌, Option, Some, None, IfSome, Bool, true, false, reverse, if◌then◌else◌}
+use Rattle.std.specs.Prelude.{ℕ, ◌≡◌, ◌≢◌, List, ◌++◌, Option, Some, None, Bool, true, false, reverse, if◌then◌else◌}
+use Rattle.cat_io.specs.Crashes.{Told}
 use Rattle.cat_core.specs.declared.opening.StoreFault.{StoreFault}
 use Rattle.cat_core.specs.declared.opening.StoreFault.TheVariants as store_faults
 use Rattle.cat_state.specs.Kept.{spellings}
 use Rattle.cat_journal.specs.declared.fault.OpenFault.{OpenFault}
 use Rattle.cat_journal.specs.declared.fault.OpenFault.TheVariants as faults
+use Rattle.cat_keeper.specs.Bases.{entries_of}
 use Rattle.cat_model.specs.Book.{Book}
+use Rattle.cat_model.specs.Turns.{Opened}
 use Rattle.cat_serve.specs.declared.ending.Session.{Session as End}
 use Rattle.cat_serve.specs.declared.ending.Session.TheVariants as ends
 use Rattle.cat_cli.specs.declared.status.Status.{Status}
 use Rattle.cat_cli.specs.declared.status.Status.TheVariants as statuses
 use Rattle.cat_cli.specs.declared.unopened.Unopened.{Unopened}
 use Rattle.cat_cli.specs.declared.unopened.Unopened.TheVariants as whys
-use Rattle.cat_cli.specs.Journals.{Begins, Holds, unopened_of}
+use Rattle.cat_cli.specs.Journals.{Begins, unopened_of}
 use Rattle.cat_cli.specs.Lines.{disk_fault_line, no_memory_line, unopened_line}
 use Rattle.cat_cli.specs.Runs.{IsFront, IsTold}
 
@@ -92,13 +95,10 @@ status_of _ failed = if failed then statuses.DiskFault else statuses.Cut
 
 -- ---- a store that is opened
 
--- the book is the one that the journal's payloads lead to, over a keeper of them that is up
-pub record IsStored (told : Option (List ℕ)) (book : Book) (down : Option ℕ) : Type 0 where
+-- the book is the one that the journal's payloads lead to, over a keeper that has them, where the journal tells, and is up; those behind the last base are its log
+pub record IsStored (told : Option (List ℕ)) (o : Opened) (book : Book) (kept : Option (List (List ℕ))) (down : Option ℕ) : Type 0 where
   pub payloads : List (List ℕ)
-  pub begins : Begins told payloads book
-  pub spelled : payloads ≡ spellings (reverse book.log)
+  pub begins : Begins told payloads o book
+  pub spelled : entries_of payloads ≡ spellings (reverse book.log)
+  pub are : Told told kept (λ bytes ps. ps ≡ payloads)
   pub up : down ≡ None
-
--- what the disk of a store holds: the entries of the log, and where an append failed, maybe the one that it was to keep
-abbrev pub HoldsLog : {K : Type 0} → (K → Option (List ℕ)) → K → Book → Option (List ℕ) → Type 0
-HoldsLog in_flight keeper book told = IfSome told (Holds (spellings (reverse book.log)) (in_flight keeper))

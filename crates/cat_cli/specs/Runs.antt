@@ -1,12 +1,14 @@
 -- What a run's status says.
-use Rattle.std.specs.Prelude.{ℕ, ◌<◌, ◌≤◌, ◌≡◌, ◌⊎◌, List, [], ◌++◌, take, reverse, Option, Some, None, IfSome, Bool, true, false}
+use Rattle.std.specs.Prelude.{ℕ, ◌<◌, ◌≤◌, ◌≡◌, ◌⊎◌, List, ◌++◌, take, reverse, Option, Some, None, IfSome, Bool, true, false}
 use Rattle.cat_io.specs.Causes.{Rose}
 use Rattle.cat_model.specs.declared.log_entry.LogEntry.{LogEntry}
 use Rattle.cat_model.specs.Book.{Book}
+use Rattle.cat_model.specs.Turns.{Opened}
 use Rattle.std.specs.Option.{option_and_then, option_map}
-use Rattle.cat_state.specs.Kept.{spelling, spellings}
 use Rattle.cat_journal.specs.Frames.{form_gate, is_newer}
 use Rattle.cat_journal.specs.Reading.{IsMigrated}
+use Rattle.cat_keeper.specs.Bases.{base_count}
+use Rattle.cat_model.specs.Requests.{Journal}
 use Rattle.cat_policy.specs.Policies.{policy_of}
 use Rattle.cat_words.specs.Asked.{Task, asked, check, drill, gc, migrate, script, serve}
 use Rattle.cat_serve.specs.declared.ending.Session.{Session as End}
@@ -14,10 +16,10 @@ use Rattle.cat_serve.specs.declared.ending.Session.TheVariants as ends
 use Rattle.cat_cli.specs.declared.unopened.Unopened.{Unopened}
 use Rattle.cat_cli.specs.declared.status.Status.{Status}
 use Rattle.cat_cli.specs.declared.status.Status.TheVariants as statuses
-use Rattle.cat_cli.specs.Journals.{Begins, Holds, IsJournalOf, StandsFor, unopened_of}
+use Rattle.cat_cli.specs.Journals.{Begins, IsBasedAt, IsJournalOf, StandsFor, opened_format, unopened_of}
 use Rattle.cat_cli.specs.Lines.{check_line, disk_fault_line, migrated_line, no_memory_line, unopened_line}
-use Rattle.cat_serve.specs.Sessions.{AreAhead, Readings, ReadsOn, Fallen, Point, Standing, Ends}
-use Rattle.cat_cli.specs.Surviving.{Images, Spared, Survives}
+use Rattle.cat_serve.specs.Sessions.{AreAhead, Readings, ReadsOn, Fallen, Point, Standing, Ends, journal_from}
+use Rattle.cat_cli.specs.Surviving.{Grown, Images, Spared, Survives, bases_between}
 
 -- the process's status
 abbrev pub code_of : Status → ℕ
@@ -120,21 +122,30 @@ RefusesSo fell level s status = Refuses fell level s status × StandsFor s.journ
 
 -- ---- a script
 
--- a session on a catalogue, before its first request: it answers 1,000 at most
-abbrev pub start : Book → List ℕ → List ℕ → Point
-start book bytes written = record { left = 1000; standing = record { session = record { book = book; readings = 0 }; fallen = None }; bytes = bytes; written = written }
+-- a session on a catalogue and its journal, before its first request: it answers 1,000 at most
+abbrev pub start : Journal → Book → List ℕ → List ℕ → Point
+start journal book bytes written = record { left = 1000; standing = record { session = record { book = book; readings = 0; journal = journal }; fallen = None }; bytes = bytes; written = written }
 
--- a session on the journal's catalogue ended so, and the journal has its entries; where an append failed, to is so of the count of faults that is told of it; and to_come is so of how many readings were taken
+-- what a run that added these entries, and so many checkpoints, made of a journal that had these payloads
+abbrev pub grown : List (List ℕ) → Opened → Book → List LogEntry → ℕ → Option (List ℕ) → Grown
+grown payloads o book added bases flying = record { had = payloads; opened = o; begun = reverse book.log; added = added; bases = bases; flying = flying }
+
+-- a session on the journal's catalogue, in the format that the journal has once it is opened, ended so, and the journal keeps its entries, and has a base more for each checkpoint that was accepted, after a crash too; its base is then that of the session's last accepted checkpoint, or the one that it had, where no append failed; where an append failed, to is so of the count of faults that is told of it; and to_come is so of how many readings were taken
 pub record Ran (to : ℕ → Type 0) (clock : Readings) (to_come : ℕ → Type 0) (bytes : List ℕ) (unread : Option (List ℕ)) (s : Seen) (end : End) : Type 0 where
   pub payloads : List (List ℕ)
+  pub opened : Opened
   pub book : Book
-  pub begins : Begins s.journal payloads book
+  pub begins : Begins s.journal payloads opened book
+  pub format : ℕ
+  pub formed : IfSome s.journal (λ bytes. format ≡ opened_format bytes)
+  pub bases : Option ℕ
+  pub counted : IfSome s.journal (λ bytes. bases ≡ Some (base_count payloads))
   pub last : Standing
-  pub ends : Ends clock (start book bytes s.written) end s.held last unread
+  pub ends : Ends clock (start (journal_from opened format opened.state.place bases) book bytes s.written) end s.held last unread
   pub added : List LogEntry
   pub grows : last.session.book.log ≡ reverse added ++ book.log
-  pub keeps : IfSome s.left (Holds (payloads ++ spellings added) (option_map (λ (f : Fallen). spelling f.entry) last.fallen))
-  pub crash : Survives s.journal s.left s.images payloads (spellings added) (option_map (λ (f : Fallen). spelling f.entry) last.fallen)
+  pub crash : Survives s.journal s.left s.images (grown payloads opened book added (bases_between bases last.session.journal.bases) (option_map (λ (f : Fallen). f.payload) last.fallen))
+  pub based : last.fallen ≡ None → IfSome s.left (IsBasedAt last.session.journal.base)
   pub cause : IfSome last.fallen (λ f. to f.count)
   pub reads_on : to_come last.session.readings
 
@@ -179,12 +190,14 @@ SaysKnown fell to stays ahead to_come bytes unread held status after before now 
 
 -- ---- a check
 
--- the journal was opened, and stands for what it did
+-- the journal was opened, and stands for what it did, after a crash too
 pub record Opens (journal left : Option (List ℕ)) (images : Images) (book : Book) : Type 0 where
   pub payloads : List (List ℕ)
-  pub begins : Begins journal payloads book
+  pub opened : Opened
+  pub begins : Begins journal payloads opened book
   pub keeps : IfSome left (IsJournalOf payloads)
-  pub crash : Survives journal left images payloads [] None
+  pub ends : IfSome left (λ bytes. (c : List ℕ) → images.after c → c ≡ bytes)
+  pub crash : Spared journal left images
 
 -- its catalogue was counted, by the status; stays says that the disks' count of faults is as it was
 abbrev pub Counts : Type 0 → Seen → Status → Type 0

@@ -2,18 +2,14 @@
 use Rattle.std.specs.Prelude.{ℕ, ◌≡◌, ◌⊎◌, List, ◌++◌, reverse, take, Option, Some, None, IfSome, Bool, true, false, if◌then◌else◌}
 use Rattle.std.specs.Option.{option_map}
 use Rattle.std.specs.Io.KnownBytes.{Appends}
-use Rattle.sha2.specs.Sha256.{sha256}
 use Rattle.cat_io.specs.Causes.{Rose}
 use Rattle.cat_checks.specs.Histories.{IsLegalFrom}
 use Rattle.cat_desk.specs.Pass.{DeskId, mark_of, number_of, seen}
 use Rattle.cat_desk.specs.declared.pass.Pass.{Pass}
 use Rattle.cat_model.specs.declared.log_entry.LogEntry.{LogEntry}
 use Rattle.cat_model.specs.Book.{Book}
-use Rattle.cat_model.specs.Limits.{program_limits}
 use Rattle.cat_model.specs.Mark.{FailedAppend}
-use Rattle.cat_model.specs.State.{first_state}
 use Rattle.cat_model.specs.Turns.{Opened}
-use Rattle.cat_state.specs.Kept.{spellings}
 use Rattle.cat_serve.specs.declared.serving.Served.{Served}
 use Rattle.cat_serve.specs.declared.serving.Served.TheVariants as serveds
 use Rattle.cat_serve.specs.Sessions.{Readings}
@@ -23,31 +19,33 @@ use Rattle.cat_cli.specs.declared.status.Status.TheVariants as statuses
 use Rattle.cat_cli.specs.declared.unopened.Unopened.{Unopened}
 use Rattle.cat_cli.specs.Hosting.{Comes, Heard, Service, WorksOn}
 use Rattle.cat_cli.specs.HostingLaws.{AllBegin}
-use Rattle.cat_cli.specs.Journals.{Begins, Holds, StandsFor, unopened_of}
+use Rattle.cat_cli.specs.Journals.{Begins, StandsFor, unopened_of}
 use Rattle.cat_cli.specs.Lines.{listener_fault_line, no_memory_line}
+use Rattle.cat_cli.specs.Runs.{Opens, Refuses, TellsKnown, grown}
 use Rattle.cat_cli.specs.Shares.{AreMade, AreOf, CallerWasTold, all_shares}
-use Rattle.cat_cli.specs.Runs.{Opens, Refuses, TellsKnown}
-use Rattle.cat_cli.specs.Surviving.{Images, Spared, Survives}
+use Rattle.cat_cli.specs.Surviving.{Images, Spared, Survives, bases_between}
 
 -- ---- the journal
-
--- what the log of a store that the program opens starts from: the empty catalogue
-abbrev pub opened_by_program : Opened
-opened_by_program = record { state = first_state sha256 program_limits; draft = 0; faults = 0 }
 
 -- the payload of the append that failed, if one did, by the mark that a pass holds
 abbrev pub flying_at : Pass → Option (List ℕ)
 flying_at p = option_map (λ (f : FailedAppend). f.payload) (mark_of p).fault
 
--- A desk was made of the catalogue of the journal, workers served on its passes, whose numbers are 1 and those from 2 on, and the journal has the entries of all that they changed: the log at the end begins with the one that was opened, each of its entries is legal where it stands, and what each session's pass had seen is a beginning of it. What was added is of the workers, and of each of them just the entries that its requests made, in their order. No append had failed before, and the mark of each session's pass grew to that of the last one. Where an append failed, a request of the worker whose it was was told so, and to is so of the count of faults that is told of it.
+-- how many checkpoints were made from one pass to another, by their marks
+abbrev pub bases_made : Pass → Pass → ℕ
+bases_made first last = bases_between (mark_of first).bases (mark_of last).bases
+
+-- A desk was made of the catalogue of the journal, workers served on its passes, whose numbers are 1 and those from 2 on, and the journal keeps the entries of all that they changed, and has a base more for each checkpoint that the marks tell of: the log at the end begins with the one that was opened, each of its entries is legal where it stands, and what each session's pass had seen is a beginning of it. What was added is of the workers, and of each of them just the entries that its requests made, in their order. No append had failed before, and no call of the keeper, and the mark of each session's pass grew to that of the last one. Where an append failed, a request of the worker whose it was was told so, and to is so of the count of faults that is told of it.
 pub record Hosted {In Out : Type 0} (ends : BothEnds In Out) (to : ℕ → Type 0) (service : Service) (a b : Heard (In × Out)) (ahead now : Option Readings) (journal left : Option (List ℕ)) (images : Images) : Type 0 where
   pub payloads : List (List ℕ)
+  pub started : Opened
   pub book : Book
-  pub begins : Begins journal payloads book
+  pub begins : Begins journal payloads started book
+  pub fresh : started.faults ≡ 0
   pub desk : DeskId
   pub first : Pass
   pub last : Pass
-  pub opened : desk.opened ≡ opened_by_program
+  pub opened : desk.opened ≡ started
   pub begun : desk.begun ≡ reverse book.log
   pub saw : seen first ≡ desk.begun
   pub clean : (mark_of first).fault ≡ None
@@ -60,8 +58,7 @@ pub record Hosted {In Out : Type 0} (ends : BothEnds In Out) (to : ℕ → Type 
   pub grows : seen last ≡ reverse book.log ++ added
   pub theirs : AreOf (all_shares ends desk service.attempts works.serves) added
   pub made : AreMade added (all_shares ends desk service.attempts works.serves)
-  pub keeps : IfSome left (Holds (payloads ++ spellings added) (flying_at last))
-  pub crash : Survives journal left images payloads (spellings added) (flying_at last)
+  pub crash : Survives journal left images (grown payloads started book added (bases_made first last) (flying_at last))
   pub cause : IfSome (mark_of last).fault (λ f. to f.count)
   pub told : IfSome (mark_of last).fault (λ f. CallerWasTold f (all_shares ends desk service.attempts works.serves))
 

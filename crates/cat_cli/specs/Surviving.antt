@@ -1,12 +1,18 @@
 -- What a crash leaves of the journal of a run.
-use Rattle.std.specs.Prelude.{◌≡◌, ◌⊎◌, ℕ, ◌≤◌, List, [], ◌++◌, length, take, reverse, Option, Some, None, IfSome}
+use Rattle.std.specs.Prelude.{◌≡◌, ◌⊎◌, ℕ, ◌+◌, ◌-◌, ◌≤◌, List, [], ◌∷◌, ◌++◌, length, take, reverse, Option, Some, None, IfSome}
 use Rattle.cat_io.specs.Crashes.{none_known}
+use Rattle.cat_checks.specs.Histories.{IsLegalFrom}
+use Rattle.cat_core.specs.Records.{StandFlown, StandFor, StandThrough}
 use Rattle.cat_journal.specs.Frames.{payloads, recovered}
 use Rattle.cat_journal.specs.Held.{outcome}
+use Rattle.cat_keeper.specs.Bases.{base_count}
 use Rattle.cat_keeper.specs.Keeping.{WithOrWithout}
-use Rattle.cat_keeper.specs.Watching.{IsFrontOf, with_flying}
-use Rattle.cat_state.specs.Kept.{spellings}
+use Rattle.cat_keeper.specs.Watching.{GoOn, IsFrontOf, with_flying}
+use Rattle.cat_model.specs.declared.log_entry.LogEntry.{LogEntry}
 use Rattle.cat_model.specs.Book.{Book}
+use Rattle.cat_model.specs.Turns.{Opened}
+use Rattle.cat_state.specs.Kept.{spellings}
+use Rattle.cat_cli.specs.Journals.{Holds}
 
 -- ---- what is known of the disk
 
@@ -47,19 +53,68 @@ StandsAs told may_leave moment (Some (Some there)) disk = IsAsStood told may_lea
 abbrev pub IsEarlier : (List ℕ → Type 0) → Option (List ℕ) → List ℕ → Type 0
 IsEarlier before journal c = before c ⊎ ((journal ≡ Some []) × (length c ≤ 17))
 
--- they recover to the payloads, and behind these to a front of what was added
-abbrev pub IsOnTheWay : List (List ℕ) → List (List ℕ) → List ℕ → Type 0
-IsOnTheWay payloads added c = (n : ℕ) × (n ≤ length added) × (outcome c ≡ Some (payloads ++ take n added))
+-- A log that was opened, what it started from, what a run added to it, and how many checkpoints it made, over a journal that had these payloads; and the payload that was in flight when an append or a checkpoint failed, if one did.
+pub record Grown : Type 0 where
+  pub had : List (List ℕ)
+  pub opened : Opened
+  pub begun : List LogEntry
+  pub added : List LogEntry
+  pub bases : ℕ
+  pub flying : Option (List ℕ)
+
+-- how many bases there are more, by how many there were and are, where that is told
+abbrev pub bases_between : Option ℕ → Option ℕ → ℕ
+bases_between (Some before) (Some now) = now - before
+bases_between (Some before) None = 0
+bases_between None now = 0
+
+-- payloads go on from those that there were, and stand for all that was there, and a front of what was added; they have no more bases than were made, and where they have none more, the front's entries are all that stands behind those that there were
+pub record AreOnTheWay (g : Grown) (ps : List (List ℕ)) : Type 0 where
+  pub goes_on : GoOn g.had ps
+  pub count : ℕ
+  pub within : count ≤ length g.added
+  pub stand : StandFor g.opened (g.begun ++ take count g.added) ps
+  pub few : base_count ps ≤ base_count g.had + g.bases
+  pub plain : base_count ps ≡ base_count g.had → ps ≡ g.had ++ spellings (take count g.added)
+
+-- payloads go on from those that there were, and stand for all that was there and all that was added; they have a base more for each checkpoint, and where none was made, what was added is all that stands behind those that there were
+pub record AreAll (g : Grown) (ps : List (List ℕ)) : Type 0 where
+  pub goes_on : GoOn g.had ps
+  pub stand : StandFor g.opened (g.begun ++ g.added) ps
+  pub count : base_count ps ≡ base_count g.had + g.bases
+  pub plain : g.bases ≡ 0 → ps ≡ g.had ++ spellings g.added
+
+-- behind such as stand for all stands the one in flight, and with it they do too, or stand for an entry more
+abbrev pub AreFlown : Grown → Option (List ℕ) → List (List ℕ) → Type 0
+AreFlown g None ps = ⊥
+AreFlown g (Some p) ps = (qs : List (List ℕ)) × (ps ≡ qs ++ p ∷ []) × AreAll g qs × StandFlown g.opened (g.begun ++ g.added) p ps
+
+-- they recover to these, or to those
+abbrev pub IsOnTheWay : Grown → List ℕ → Type 0
+IsOnTheWay g c = (ps : List (List ℕ)) × (outcome c ≡ Some ps) × (AreOnTheWay g ps ⊎ AreFlown g g.flying ps)
 
 -- they are what is read, or where an append failed, recover to the payloads, or to these and its own
 abbrev pub EndsAt : List (List ℕ) → Option (List ℕ) → List ℕ → List ℕ → Type 0
 EndsAt payloads None bytes c = c ≡ bytes
 EndsAt payloads (Some p) bytes c = WithOrWithout payloads p (outcome c)
 
--- What a crash leaves of a journal. At the end all that was there and all that was added; at each moment of the run all that was there and some front of what was added, or what one might have left before the run, or no more than a new journal has. Where an append failed its payload counts as the last, which a crash may leave or not.
-pub record Survives (journal left : Option (List ℕ)) (images : Images) (payloads added : List (List ℕ)) (flying : Option (List ℕ)) : Type 0 where
-  pub at_the_end : IfSome left (λ bytes. (c : List ℕ) → images.after c → EndsAt (payloads ++ added) flying bytes c)
-  pub at_any_moment : IfSome journal (λ bytes. IfSome left (λ now. (c : List ℕ) → images.since c → IsEarlier images.before journal c ⊎ IsOnTheWay payloads (with_flying added flying) c))
+-- payloads stand for all, and are so where the journal told what it had
+pub record AreKept (journal : Option (List ℕ)) (g : Grown) (payloads : List (List ℕ)) : Type 0 where
+  pub stand : StandFor g.opened (g.begun ++ g.added) payloads
+  pub all : IfSome journal (λ bytes. AreAll g payloads)
+
+-- at the end it leaves the payloads that the journal has, which are kept so; with the one in flight they stand for as much, or for an entry more
+pub record EndsSo (journal : Option (List ℕ)) (images : Images) (g : Grown) (bytes : List ℕ) : Type 0 where
+  pub payloads : List (List ℕ)
+  pub are : AreKept journal g payloads
+  pub flown : IfSome g.flying (λ p. StandFlown g.opened (g.begun ++ g.added) p (payloads ++ p ∷ []))
+  pub holds : Holds payloads g.flying bytes
+  pub ends : (c : List ℕ) → images.after c → EndsAt payloads g.flying bytes c
+
+-- What a crash leaves of a journal. At the end all that was there and all that was added; at each moment of the run all that was there and some front of what was added, or what one might have left before the run, or no more than a new journal has. Where an append or a checkpoint failed its payload counts as the last, which a crash may leave or not.
+pub record Survives (journal left : Option (List ℕ)) (images : Images) (g : Grown) : Type 0 where
+  pub at_the_end : IfSome left (EndsSo journal images g)
+  pub at_any_moment : IfSome journal (λ bytes. IfSome left (λ now. (c : List ℕ) → images.since c → IsEarlier images.before journal c ⊎ IsOnTheWay g c))
 
 -- A crash at any moment of a run that adds nothing leaves what one might have left before it, or bytes that stand for what the journal did.
 abbrev pub Spared : Option (List ℕ) → Option (List ℕ) → Images → Type 0
@@ -67,24 +122,31 @@ Spared journal left images = IfSome journal (λ bytes. IfSome left (λ now. (c :
 
 -- ---- on a store, while its keeper is watched
 
--- how many payloads the bytes have
-abbrev pub count_in : Option (List ℕ) → ℕ
-count_in None = 0
-count_in (Some bytes) = length (payloads bytes)
+-- the payloads that the bytes have
+abbrev pub had_in : Option (List ℕ) → List (List ℕ)
+had_in None = []
+had_in (Some bytes) = payloads bytes
 
 -- a disk is watched from here on
-pub record IsBegun (since least : ℕ) (early : List ℕ → Type 0) (told : Option (List ℕ)) (moment : ℕ) (may_leave : List ℕ → Type 0) : Type 0 where
+pub record IsBegun (since : ℕ) (had : List (List ℕ)) (early : List ℕ → Type 0) (told : Option (List ℕ)) (moment : ℕ) (may_leave : List ℕ → Type 0) : Type 0 where
   pub since_is : since ≡ moment
-  pub least_is : least ≡ count_in told
+  pub had_is : had ≡ had_in told
   pub early_from : (c : List ℕ) → IsEarlier may_leave told c → early c
   pub early_to : (c : List ℕ) → early c → IsEarlier may_leave told c
 
--- what a crash leaves, and might have left since a moment, of a log that is kept
-pub record LeavesLog (since least : ℕ) (early may_leave : List ℕ → Type 0) (left_since : ℕ → List ℕ → Type 0) (log : List (List ℕ)) (flying : Option (List ℕ)) (bytes : List ℕ) : Type 0 where
-  pub last : (c : List ℕ) → may_leave c → EndsAt log flying bytes c
-  pub each : (c : List ℕ) → left_since since c → early c ⊎ IsFrontOf least (with_flying log flying) (outcome c)
+-- the bytes hold a legal log that a keeper of these payloads keeps, which go on from those that there were; and what a crash leaves of it, and might have left since a moment
+pub record LeavesLog (since : ℕ) (had : List (List ℕ)) (early may_leave : List ℕ → Type 0) (left_since : ℕ → List ℕ → Type 0) (o : Opened) (log : List LogEntry) (kept : Option (List (List ℕ))) (flying : Option (List ℕ)) (bytes : List ℕ) : Type 0 where
+  pub payloads : List (List ℕ)
+  pub are : kept ≡ Some payloads
+  pub goes_on : GoOn had payloads
+  pub stand : StandThrough o log payloads
+  pub legal : IsLegalFrom o log
+  pub flown : IfSome flying (λ p. StandFlown o log p (payloads ++ p ∷ []))
+  pub holds : Holds payloads flying bytes
+  pub last : (c : List ℕ) → may_leave c → EndsAt payloads flying bytes c
+  pub each : (c : List ℕ) → left_since since c → early c ⊎ IsFrontOf (length had) (with_flying payloads flying) (outcome c)
 
 -- so it is of the disk of a store, by how its keeper stands
-abbrev pub KeepsThrough : {K : Type 0} → ℕ → ℕ → (List ℕ → Type 0) → (List ℕ → Type 0) → (ℕ → List ℕ → Type 0) → (K → Option (List ℕ)) → K → Book → Option (List ℕ) → Type 0
-KeepsThrough since least early may_leave left_since in_flight keeper book told =
-    IfSome told (LeavesLog since least early may_leave left_since (spellings (reverse book.log)) (in_flight keeper))
+abbrev pub KeepsThrough : {K : Type 0} → ℕ → List (List ℕ) → (List ℕ → Type 0) → (List ℕ → Type 0) → (ℕ → List ℕ → Type 0) → (K → Option (List (List ℕ))) → (K → Option (List ℕ)) → K → Opened → Book → Option (List ℕ) → Type 0
+KeepsThrough since had early may_leave left_since kept in_flight keeper o book told =
+    IfSome told (LeavesLog since had early may_leave left_since o (reverse book.log) (kept keeper) (in_flight keeper))

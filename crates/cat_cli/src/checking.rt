@@ -69,7 +69,7 @@ pub(crate) fn tell_line<K: Sink>(line: &str, sink: &mut K) -> Status
 // The line of the journal of a disk, or why there is none. The disk comes back. It is watched what
 // a crash might have left of it since it was given here.
 fn line_on<B: Since + Send, D: Disk + Send>(alloc: Global, disk: D) -> (D, Result<String, Unopened>)
-    requires begun { IsBegun B.since B.least B.before (D.told disk) (D.moment disk)
+    requires begun { IsBegun B.since B.had B.before (D.told disk) (D.moment disk)
         (D.may_leave disk) }
     requires fresh { D.faults disk ≡ 0 }
     ensures line { IfOk result.1

@@ -3,6 +3,7 @@
 ghost use Rattle.std.specs.Prelude.{◌≡◌, ◌≢◌, ◌⊎◌, IfErr, IfOk, IsTrue, List, None, Some, map, string_bytes, true, false, ℕ};
 ghost use Rattle.cat_io.specs.Causes.{Rose};
 ghost use Rattle.cat_io.specs.Places.{OthersStay};
+ghost use Rattle.cat_keeper.specs.Bases.{bases_in};
 ghost use Rattle.cat_model.specs.Drafts.{nothing_open};
 ghost use Rattle.cat_policy.specs.declared.policy.Policy.{Policy};
 ghost use Rattle.cat_policy.specs.Policies.{HasCounts, HasFew, policy_of};
@@ -87,8 +88,9 @@ fn hold_collection<R: Threads + Wait + Sync, K0: Keeper, C: Clock>(
     ensures gathered { IfOk result
         (λ t. IsGathered K0.in_flight policy.now (C.ahead clock.old) (C.ahead clock.new) store t.0
         t.1) }
+    ensures bases { IfOk result (λ t. t.0.mark.bases ≡ bases_in (K0.told t.0.keeper)) }
     ensures rose { IfOk result
-        (λ t. t.1 ≡ Collected.Fault → Rose store.began (K0.faults t.0.keeper)) }
+        (λ t. t.1 ≡ Collected.Fault → Rose store.opened.faults (K0.faults t.0.keeper)) }
     ensures back { IfErr result (λ e. e.0 ≡ store) }
     ensures paused { IfErr result (λ _. clock.new ≡ clock.old) }
 {
@@ -115,7 +117,7 @@ fn collection_on<B: Since + Send, R: Threads + Wait + Sync, D: Disk + Send, C: C
     policy: &Policy,
     clock: &mut C,
 ) -> (D, Result<Collected, Unopened>)
-    requires begun { IsBegun B.since B.least B.before (D.told disk) (D.moment disk)
+    requires begun { IsBegun B.since B.had B.before (D.told disk) (D.moment disk)
         (D.may_leave disk) }
     requires fresh { D.faults disk ≡ 0 }
     requires few { HasFew policy.now }

@@ -1,10 +1,12 @@
 //! The journal of a run: a store over it, which is watched while it is held, and its disk.
 
-ghost use Rattle.std.specs.Prelude.{◌≡◌, ◌≢◌, None, IfErr, IfOk, MatchResult};
+ghost use Rattle.std.specs.Prelude.{⊤, ◌≡◌, ◌≢◌, ◌≤◌, None, IfErr, IfOk, IfSome, MatchResult};
 ghost use Rattle.cat_model.specs.Drafts.{nothing_open};
 ghost use Rattle.cat_io.specs.Causes.{Rose};
-ghost use Rattle.cat_cli.specs.Journals.{StandsFor};
-ghost use Rattle.cat_cli.specs.Opening.{HoldsLog, IsReason, IsStored};
+ghost use Rattle.cat_io.specs.Crashes.{Told};
+ghost use Rattle.cat_keeper.specs.Bases.{bases_in};
+ghost use Rattle.cat_cli.specs.Journals.{StandsFor, opened_format};
+ghost use Rattle.cat_cli.specs.Opening.{IsReason, IsStored};
 ghost use Rattle.cat_cli.specs.Surviving.{IsBegun, KeepsThrough, Spared, images_of};
 
 use crate::unopened::Unopened;
@@ -22,14 +24,22 @@ pub(crate) fn store_on<B: Since + Send, D: Disk + Send>(
     alloc: Global,
     disk: D,
 ) -> Result<Store<Watched<B, Journal<D>>>, (D, Unopened)>
-    requires begun { IsBegun B.since B.least B.before (D.told disk) (D.moment disk)
+    requires begun { IsBegun B.since B.had B.before (D.told disk) (D.moment disk)
         (D.may_leave disk) }
     ensures stored { IfOk result
-        (λ store. IsStored (D.told disk) store.book (⟦<Journal<D> as Keeper>⟧.down store.keeper)) }
+        (λ store. IsStored (D.told disk) store.opened store.book
+        (⟦<Journal<D> as Keeper>⟧.told store.keeper)
+        (⟦<Journal<D> as Keeper>⟧.down store.keeper)) }
     ensures fresh { IfOk result
         (λ store. (store.left_open ≡ nothing_open)
         × (store.mark.fault ≡ None)
-        × (store.began ≡ ⟦<Journal<D> as Keeper>⟧.faults store.keeper)) }
+        × (store.opened.faults ≡ ⟦<Journal<D> as Keeper>⟧.faults store.keeper)) }
+    ensures bases { IfOk result
+        (λ store. store.mark.bases
+        ≡ bases_in (⟦<Journal<D> as Keeper>⟧.told store.keeper)) }
+    ensures formed { IfOk result
+        (λ store. IfSome (D.told disk) (λ bytes. store.mark.format ≡ opened_format bytes)) }
+    ensures based { IfOk result (λ store. store.mark.base ≡ store.opened.state.place) }
     ensures reason { IfErr result (λ e. IsReason (D.told disk) e.1) }
     ensures stands { IfErr result (λ e. StandsFor (D.told disk) (D.told e.0)) }
     ensures spared { IfErr result
@@ -54,15 +64,18 @@ pub(crate) fn store_on<B: Since + Send, D: Disk + Send>(
     }
 }
 
-/// The disk of a store. It has the log, and so has what a crash leaves of it.
+/// The disk of a store. It keeps the log, and so does what a crash leaves of it.
 pub(crate) fn disk_of<B: Since + Send, D: Disk + Send>(store: Store<Watched<B, Journal<D>>>) -> D
-    ensures holds { HoldsLog ⟦<Journal<D> as Keeper>⟧.in_flight store.keeper store.book
+    ensures kept { KeepsThrough B.since B.had B.before (D.may_leave result)
+        (D.left_since result) ⟦<Journal<D> as Keeper>⟧.told
+        ⟦<Journal<D> as Keeper>⟧.in_flight store.keeper store.opened store.book
         (D.told result) }
-    ensures leaves { KeepsThrough B.since B.least B.before (D.may_leave result)
-        (D.left_since result) ⟦<Journal<D> as Keeper>⟧.in_flight store.keeper store.book
-        (D.told result) }
+    ensures tells { Told (⟦<Journal<D> as Keeper>⟧.told store.keeper) (D.told result)
+        (λ payloads bytes. ⊤) }
+    ensures later { IfSome (D.told result) (λ _. B.since ≤ D.moment result) }
     ensures faults { D.faults result ≡ ⟦<Journal<D> as Keeper>⟧.faults store.keeper }
 {
+    store.history();
     store.log_is_kept();
     store.into_keeper().into_inner().into_disk()
 }

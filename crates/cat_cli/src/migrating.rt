@@ -9,6 +9,7 @@ ghost use Rattle.cat_journal.specs.Frames.{form_gate, is_newer, recovered};
 ghost use Rattle.cat_journal.specs.Reading.{IsMigrated, MigratesOnly};
 ghost use Rattle.cat_model.specs.Book.{Book};
 ghost use Rattle.cat_model.specs.Limits.{program_limits};
+ghost use Rattle.cat_model.specs.Turns.{Opened};
 ghost use Rattle.cat_cli.specs.Journals.{Begins, DisksFell, IsBack, IsJournalOf, StandsFor, told_at};
 ghost use Rattle.cat_cli.specs.Lines.{migrated_line};
 ghost use Rattle.cat_cli.specs.Migrating.{IsOpenedAs, SparesOnly};
@@ -74,9 +75,9 @@ fn count_on<B: Stood + Send, D: Disk + Send>(
         ⟦<Journal<D> as Keeper>⟧.moment ⟦<Journal<D> as Keeper>⟧.bytes_left
         ⟦<Journal<D> as Keeper>⟧.bytes_since B.since B.count B.past B.began journal }
     ensures counted { IfOk result.1
-        (λ place. (book : Book) × (place ≡ book.state.place)
+        (λ place. (o : Opened) × (book : Book) × (place ≡ book.state.place)
         × IsLedTo (⟦<Journal<D> as Keeper>⟧.told journal) (⟦<Journal<D> as Keeper>⟧.kept journal)
-        program_limits book) }
+        program_limits o book) }
     ensures told { ⟦<Journal<D> as Keeper>⟧.told result.0 ≡ ⟦<Journal<D> as Keeper>⟧.told journal }
     ensures up { ⟦<Journal<D> as Keeper>⟧.down result.0 ≡ None }
     ensures still { IsStill ⟦<Journal<D> as Keeper>⟧.told ⟦<Journal<D> as Keeper>⟧.in_flight
@@ -108,8 +109,8 @@ fn count_on<B: Stood + Send, D: Disk + Send>(
 // comes back with the bytes that it had; an empty one with those of a new journal.
 fn place_on<D: Disk + Send>(alloc: Global, disk: D) -> (D, Result<u32, Unopened>)
     ensures place { IfOk result.1
-        (λ place. (book : Book) × (place ≡ book.state.place)
-        × (payloads : List (List ℕ)) × Begins (D.told disk) payloads book
+        (λ place. (o : Opened) × (book : Book) × (place ≡ book.state.place)
+        × (payloads : List (List ℕ)) × Begins (D.told disk) payloads o book
         × IfSome (D.told result.0) (IsJournalOf payloads)) }
     ensures bytes { IfOk result.1 (λ _. Told (D.told disk) (D.told result.0) IsOpenedAs) }
     ensures durable { IfOk result.1 (λ _. Only (D.told result.0) (D.may_leave result.0)) }

@@ -35,14 +35,14 @@ use std::thread::Threads;
 /// answers the requests of the source, one after another, on the catalogue of the journal, which
 /// keeps each change before it is told: the replies alone go to the sink. `check` opens the journal
 /// and writes one line on what it holds. An empty file becomes a journal. `migrate` opens it, makes
-/// it one of format 2, and writes one line on that. `drill` makes commits from a seed in memory,
-/// without disks, source or clock, and writes one line. `serve` opens the journal, and then listens:
-/// so many workers answer the requests of so many connections at once, and nothing goes to the sink,
-/// unless the listener fails or memory runs out before. What goes wrong on a connection ends that
-/// one alone. `gc` opens the journal and removes the contents that nothing keeps under the policy of
-/// its words, as its cutoffs are at one reading of the clock: the journal has one entry more, and
-/// one line tells how many contents were kept and removed. No disk is opened for words that aren't a
-/// policy.
+/// it one of format 2, in which there are checkpoints, and writes one line on that. `drill` makes
+/// commits from a seed in memory, without disks, source or clock, and writes one line. `serve` opens
+/// the journal, and then listens: so many workers answer the requests of so many connections at
+/// once, and nothing goes to the sink, unless the listener fails or memory runs out before. What
+/// goes wrong on a connection ends that one alone. `gc` opens the journal and removes the contents
+/// that nothing keeps under the policy of its words, as its cutoffs are at one reading of the clock:
+/// the journal has one entry more, and one line tells how many contents were kept and removed. No
+/// disk is opened for words that aren't a policy.
 #[allow(clippy::too_many_arguments)]
 pub fn run<R: Threads + Wait + Sync, O: Disks, S: Source, K: Sink, C: Clock + Drop, L: Listener>(
     rt: &R,
@@ -67,6 +67,7 @@ pub fn run<R: Threads + Wait + Sync, O: Disks, S: Source, K: Sink, C: Clock + Dr
         (K.faults sink.new) }
     // What a script writes are the replies to the requests in the bytes of the source, the journal
     // has the entries of all that they changed, and the clock stands where their moments left it.
+    // Its base is that of the last checkpoint among them, or the one that it had.
     // Where a read failed, no whole request was read that isn't answered. A crash at any moment
     // leaves a journal with the old entries and a front of these, or what one might have left
     // before.
@@ -109,7 +110,8 @@ pub fn run<R: Threads + Wait + Sync, O: Disks, S: Source, K: Sink, C: Clock + Dr
         (O.at_path disks.new journal)) }
     // A collection adds the entry of one sweep to the journal, that of the catalogue as it was
     // opened, under the policy of the words at one reading of the clock, and what it writes is the
-    // line of its reply. It is refused for a limit exactly where the rules refuse that sweep so. A
+    // line of its reply: behind all that the journal had stands just this entry, where its append
+    // didn't fail. It is refused for a limit exactly where the rules refuse that sweep so. A
     // crash at any moment leaves a journal with the old entries, with or without this one, or what
     // one might have left before.
     ensures collected { (journal default : List ℕ) (rules : List (List ℕ)) (policy : Policy)

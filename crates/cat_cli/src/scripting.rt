@@ -1,8 +1,9 @@
 //! A session on the catalogue of a journal.
 
-ghost use Rattle.std.specs.Prelude.{ℕ, ◌≡◌, ◌≢◌, ◌≤◌, IfErr, IfOk, IsTrue, None, Some};
+ghost use Rattle.std.specs.Prelude.{ℕ, List, ◌≡◌, ◌≢◌, ◌≤◌, IfErr, IfOk, IsTrue, None, Some};
 ghost use Rattle.cat_io.specs.Causes.{Rose};
 ghost use Rattle.cat_io.specs.Places.{OthersStay};
+ghost use Rattle.cat_keeper.specs.Bases.{bases_in, first_of};
 ghost use Rattle.cat_cli.specs.Journals.{DisksFell, IsBack, RoseBy, StandsFor, told_at};
 ghost use Rattle.cat_cli.specs.Opening.{IsReason, status_of};
 ghost use Rattle.cat_cli.specs.Runs.{CountedBy, RanKnown, SaysKnown, spares_disks, tells_all};
@@ -60,10 +61,13 @@ fn hold_session<R: Threads + Wait + Sync, K0: Keeper, S: Source, K: Sink, C: Clo
     ensures ends { IfOk result
         (λ t. RunsKnown K0.down K0.in_flight store (C.ahead clock.old) (S.left source.old)
         (S.left source.new) (K.held sink.old) t.1 t.0 (C.ahead clock.new) (K.held sink.new)) }
-    ensures later { IfOk result (λ t. store.began ≤ K0.faults t.0.keeper) }
+    ensures bases { IfOk result (λ t. t.0.mark.bases ≡ bases_in (K0.told t.0.keeper)) }
+    ensures based { IfOk result
+        (λ t. (ps : List (List ℕ)) → K0.told t.0.keeper ≡ Some ps → first_of ps ≡ t.0.mark.base) }
+    ensures later { IfOk result (λ t. store.opened.faults ≤ K0.faults t.0.keeper) }
     ensures rose { IfOk result
         (λ t. (c : ℕ) → K0.down t.0.keeper ≡ Some c
-        → Rose store.began c × (c ≤ K0.faults t.0.keeper)) }
+        → Rose store.opened.faults c × (c ≤ K0.faults t.0.keeper)) }
     ensures read { IfOk result
         (λ t. t.1 ≡ Session.ReadFault → Rose (S.faults source.old) (S.faults source.new)) }
     ensures write { IfOk result
@@ -111,7 +115,7 @@ fn session_on<
     sink: &mut K,
     clock: &mut C,
 ) -> (D, Result<Session, Unopened>)
-    requires begun { IsBegun B.since B.least B.before (D.told disk) (D.moment disk)
+    requires begun { IsBegun B.since B.had B.before (D.told disk) (D.moment disk)
         (D.may_leave disk) }
     requires fresh { D.faults disk ≡ 0 }
     ensures ran { IfOk result.1

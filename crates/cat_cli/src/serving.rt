@@ -4,6 +4,7 @@ ghost use Rattle.std.specs.Prelude.{◌≡◌, ◌≢◌, ◌≤◌, Bool, IfErr
 ghost use Rattle.std.specs.Option.{option_map};
 ghost use Rattle.cat_io.specs.Causes.{Rose};
 ghost use Rattle.cat_io.specs.Places.{OthersStay};
+ghost use Rattle.cat_keeper.specs.Bases.{bases_in};
 ghost use Rattle.cat_desk.specs.Pass.{Remembers, spare_of};
 ghost use Rattle.cat_model.specs.Drafts.{nothing_open};
 ghost use Rattle.cat_model.specs.Mark.{FailedAppend};
@@ -129,9 +130,10 @@ fn hold_serving<R: Threads + Wait + Sync, K0: Keeper, L: Listener, C: Clock + Dr
     ensures flies { IfOk result
         (λ t. K0.in_flight t.0.keeper
         ≡ option_map (λ (x : FailedAppend). x.payload) t.0.mark.fault) }
+    ensures bases { IfOk result (λ t. t.0.mark.bases ≡ bases_in (K0.told t.0.keeper)) }
     ensures counted { IfOk result
         (λ t. (x : FailedAppend) → t.0.mark.fault ≡ Some x
-        → Rose store.began x.count × (x.count ≤ K0.faults t.0.keeper)) }
+        → Rose store.opened.faults x.count × (x.count ≤ K0.faults t.0.keeper)) }
     ensures cause { IfOk result
         (λ t. t.1 ≡ Served.ListenerFault → Rose (L.faults listener.old) (L.faults listener.new)) }
     ensures stays { IfOk result
@@ -168,7 +170,7 @@ fn serve_on<
     listener: &mut L,
     clock: &mut C,
 ) -> (D, Result<Served, Unopened>)
-    requires begun { IsBegun B.since B.least B.before (D.told disk) (D.moment disk)
+    requires begun { IsBegun B.since B.had B.before (D.told disk) (D.moment disk)
         (D.may_leave disk) }
     requires fresh { D.faults disk ≡ 0 }
     requires few { IsFew options.workers × IsFew options.attempts }

@@ -130,8 +130,14 @@ impl<B: Stood + Send, K: Keeper> Keeper for Still<B, K> {
 
     ghost begins = { λ k ps told. K.begins k ps told };
 
+    ghost formed = { λ k. K.formed k };
+
     fn count(&self) -> u32 {
         self.keeper.count()
+    }
+
+    fn total(&self) -> u64 {
+        self.keeper.total()
     }
 
     fn first(&self) -> u32 {

@@ -26,7 +26,7 @@ pub(crate) enum Unopened {
     /// The offset of the first damage.
     #[error("the journal is damaged at offset {0}")]
     Damaged(u64),
-    /// The place of the first entry that isn't legal.
+    /// The place of the first entry that isn't legal, or of a base that no log may start from.
     #[error("the entry at place {0} may not stand there")]
     Illegal(u64),
     #[error("memory ran out")]

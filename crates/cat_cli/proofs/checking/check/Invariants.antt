@@ -1,6 +1,6 @@
-use Rattle.cat_cli.specs.Surviving.{IsEarlier, count_in}
+use Rattle.cat_cli.specs.Surviving.{IsEarlier, had_in}
 use Rattle.cat_cli.proofs.checking.check.Given as goal
 
 -- what is watched begins with the disk that was opened
 abbrev pub ghosts-line_on : goal.ghosts-line_on
-ghosts-line_on g a = record { since = g.O.D.Disk.moment a.disk; least = count_in (g.O.D.Disk.told a.disk); before = λ c. IsEarlier (g.O.D.Disk.may_leave a.disk) (g.O.D.Disk.told a.disk) c }
+ghosts-line_on g a = record { since = g.O.D.Disk.moment a.disk; had = had_in (g.O.D.Disk.told a.disk); before = λ c. IsEarlier (g.O.D.Disk.may_leave a.disk) (g.O.D.Disk.told a.disk) c }

@@ -3,6 +3,7 @@ use Rattle.std.specs.Option.{option_map}
 use Rattle.cat_io.specs.Causes.{Rose}
 use Rattle.cat_journal.specs.declared.journal.Journal.{Journal}
 use Rattle.cat_journal.specs.Frames.{payload_of}
+use Rattle.cat_journal.specs.Held.{first_payloads, held_count}
 use Rattle.cat_keeper.specs.KeeperLaws.{none_flies}
 use Rattle.cat_cli.proofs.Counted.{spared, stands}
 use Rattle.cat_cli.proofs.Gathered.{collects}
@@ -11,8 +12,8 @@ use Rattle.cat_cli.proofs.collecting.collection_on.Goals as goal
 pub returns-in-Ok-hold_collection-clause-collects : goal.returns-in-Ok-hold_collection-clause-collects
 returns-in-Ok-hold_collection-clause-collects g c =
     collects {K = Journal g.row.D.Denot g.D.Disk} g.D.Disk.told g.D.Disk.may_leave g.D.Disk.moment g.D.Disk.left_since (λ j. option_map (λ _. payload_of j.frame.items) j.down)
-    g.B.Since.since g.B.Since.least g.B.Since.before c.args.disk c.disk_of.result c.in-Ok.store c.in-Ok-hold_collection.store _ c.args.policy.now _ _ c.in-Ok-hold_collection.what
-    c.in-Ok.ensures.stored (c.in-Ok.ensures.fresh.2 ∙ c.in-Ok.ensures.level ∙ c.requires.fresh) c.in-Ok-hold_collection.ensures.gathered c.requires.begun c.disk_of.ensures.holds c.disk_of.ensures.leaves
+    (λ j. option_map (first_payloads (held_count j.points)) (g.D.Disk.told j.disk)) g.B.Since.since g.B.Since.had g.B.Since.before c.args.disk c.disk_of.result c.in-Ok.store c.in-Ok-hold_collection.store _ c.args.policy.now _ _ c.in-Ok-hold_collection.what
+    c.in-Ok.ensures.stored c.in-Ok-hold_collection.ensures.gathered c.requires.begun (c.in-Ok.ensures.bases, c.in-Ok-hold_collection.ensures.bases) c.disk_of.ensures.kept
 
 pub returns-in-Ok-hold_collection-clause-rose : goal.returns-in-Ok-hold_collection-clause-rose
 returns-in-Ok-hold_collection-clause-rose g c failed =
@@ -25,10 +26,10 @@ pub returns-in-Err-hold_collection-clause-stands : goal.returns-in-Err-hold_coll
 returns-in-Err-hold_collection-clause-stands g c =
     let stored = rw (sym c.in-Err-hold_collection.ensures.back) at c.in-Ok.ensures.stored in
     stands {K = Journal g.row.D.Denot g.D.Disk} g.D.Disk.told g.D.Disk.may_leave g.D.Disk.moment g.D.Disk.left_since (λ j. j.down) (λ j. option_map (λ _. payload_of j.frame.items) j.down)
-    g.B.Since.since g.B.Since.least g.B.Since.before c.args.disk c.disk_of-in-Err-hold_collection.result c.in-Err-hold_collection.store stored (none_flies _ _ stored.up) c.requires.begun c.disk_of-in-Err-hold_collection.ensures.holds c.disk_of-in-Err-hold_collection.ensures.leaves
+    (λ j. option_map (first_payloads (held_count j.points)) (g.D.Disk.told j.disk)) g.B.Since.since g.B.Since.had g.B.Since.before c.args.disk c.disk_of-in-Err-hold_collection.result c.in-Err-hold_collection.store stored (none_flies _ _ stored.up) c.requires.begun c.disk_of-in-Err-hold_collection.ensures.kept
 
 pub returns-in-Err-hold_collection-clause-spared : goal.returns-in-Err-hold_collection-clause-spared
 returns-in-Err-hold_collection-clause-spared g c =
     let stored = rw (sym c.in-Err-hold_collection.ensures.back) at c.in-Ok.ensures.stored in
     spared {K = Journal g.row.D.Denot g.D.Disk} g.D.Disk.told g.D.Disk.may_leave g.D.Disk.moment g.D.Disk.left_since (λ j. j.down) (λ j. option_map (λ _. payload_of j.frame.items) j.down)
-    g.B.Since.since g.B.Since.least g.B.Since.before c.args.disk c.disk_of-in-Err-hold_collection.result c.in-Err-hold_collection.store stored (none_flies _ _ stored.up) c.requires.begun c.disk_of-in-Err-hold_collection.ensures.holds c.disk_of-in-Err-hold_collection.ensures.leaves
+    (λ j. option_map (first_payloads (held_count j.points)) (g.D.Disk.told j.disk)) g.B.Since.since g.B.Since.had g.B.Since.before c.args.disk c.disk_of-in-Err-hold_collection.result c.in-Err-hold_collection.store stored (none_flies _ _ stored.up) c.requires.begun c.disk_of-in-Err-hold_collection.ensures.kept

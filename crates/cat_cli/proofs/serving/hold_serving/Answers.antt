@@ -7,7 +7,7 @@ use Rattle.cat_cli.proofs.serving.hold_serving.Goals as goal
 pub returns-in-Ok-clause-comes : goal.returns-in-Ok-clause-comes
 returns-in-Ok-clause-comes g c =
     hosts _ _ _ _ c.in-Ok.desk c.in-Ok.pass _ c.serve_at-end.new.pass _ c.args.store c.release-store.result _ c.serve_at-end.result c.requires.few.0.1 c.in-Ok.ensures.ready.2 c.in-Ok.ensures.spare c.in-Ok.ensures.opened c.in-Ok.ensures.marked c.in-Ok.ensures.begun c.in-Ok.ensures.book c.in-Ok.ensures.mark.0
-    c.serve_at-end.ensures.ready c.release-store.ensures.book c.release-store.ensures.mark.0 c.release-store.ensures.given c.serve_at-end.ensures.comes
+    c.serve_at-end.ensures.ready c.release-store.ensures.book c.release-store.ensures.mark.0 c.release-store.ensures.opened c.release-store.ensures.given c.serve_at-end.ensures.comes
 
 pub returns-in-Ok-clause-counted : goal.returns-in-Ok-clause-counted
 returns-in-Ok-clause-counted g c x is =

@@ -2,6 +2,7 @@ use Rattle.std.proofs.Common.{◌∙◌, sym}
 use Rattle.std.specs.Option.{option_map}
 use Rattle.cat_journal.specs.declared.journal.Journal.{Journal}
 use Rattle.cat_journal.specs.Frames.{payload_of}
+use Rattle.cat_journal.specs.Held.{first_payloads, held_count}
 use Rattle.cat_keeper.specs.KeeperLaws.{none_flies}
 use Rattle.cat_cli.proofs.Counted.{spared, stands}
 use Rattle.cat_cli.proofs.HostedStores.{comes_down}
@@ -12,8 +13,8 @@ pub returns-in-Ok-hold_serving-clause-comes : goal.returns-in-Ok-hold_serving-cl
 returns-in-Ok-hold_serving-clause-comes g c =
     let began = c.in-Ok.ensures.fresh.2 ∙ c.in-Ok.ensures.level ∙ c.requires.fresh in
     comes_down {K = Journal g.row.D.Denot g.D.Disk} _ _ _ _ _ _ g.D.Disk.told g.D.Disk.may_leave g.D.Disk.moment g.D.Disk.left_since (λ j. j.down) (λ j. option_map (λ _. payload_of j.frame.items) j.down)
-    g.B.Since.since g.B.Since.least g.B.Since.before c.args.disk c.disk_of.result c.in-Ok.store c.in-Ok-hold_serving.store c.in-Ok.ensures.stored began c.in-Ok.ensures.fresh.1 c.requires.begun
-    c.in-Ok-hold_serving.ensures.fallen c.in-Ok-hold_serving.ensures.flies c.disk_of.ensures.holds c.disk_of.ensures.leaves _ _ c.in-Ok-hold_serving.end
+    (λ j. option_map (first_payloads (held_count j.points)) (g.D.Disk.told j.disk)) g.B.Since.since g.B.Since.had g.B.Since.before c.args.disk c.disk_of.result c.in-Ok.store c.in-Ok-hold_serving.store c.in-Ok.ensures.stored c.in-Ok.ensures.fresh.1 began c.requires.begun
+    c.in-Ok-hold_serving.ensures.fallen c.in-Ok-hold_serving.ensures.flies (c.in-Ok.ensures.bases, c.in-Ok-hold_serving.ensures.bases) c.disk_of.ensures.kept _ _ c.in-Ok-hold_serving.end
     (λ x is. counted_by _ _ _ x.count began c.disk_of.ensures.faults (c.in-Ok-hold_serving.ensures.counted x is)) c.in-Ok-hold_serving.ensures.comes
 
 -- memory ran out before the desk was made
@@ -21,10 +22,10 @@ pub returns-in-Err-hold_serving-clause-stands : goal.returns-in-Err-hold_serving
 returns-in-Err-hold_serving-clause-stands g c =
     let stored = rw (sym c.in-Err-hold_serving.ensures.back) at c.in-Ok.ensures.stored in
     stands {K = Journal g.row.D.Denot g.D.Disk} g.D.Disk.told g.D.Disk.may_leave g.D.Disk.moment g.D.Disk.left_since (λ j. j.down) (λ j. option_map (λ _. payload_of j.frame.items) j.down)
-    g.B.Since.since g.B.Since.least g.B.Since.before c.args.disk c.disk_of-in-Err-hold_serving.result c.in-Err-hold_serving.store stored (none_flies _ _ stored.up) c.requires.begun c.disk_of-in-Err-hold_serving.ensures.holds c.disk_of-in-Err-hold_serving.ensures.leaves
+    (λ j. option_map (first_payloads (held_count j.points)) (g.D.Disk.told j.disk)) g.B.Since.since g.B.Since.had g.B.Since.before c.args.disk c.disk_of-in-Err-hold_serving.result c.in-Err-hold_serving.store stored (none_flies _ _ stored.up) c.requires.begun c.disk_of-in-Err-hold_serving.ensures.kept
 
 pub returns-in-Err-hold_serving-clause-spared : goal.returns-in-Err-hold_serving-clause-spared
 returns-in-Err-hold_serving-clause-spared g c =
     let stored = rw (sym c.in-Err-hold_serving.ensures.back) at c.in-Ok.ensures.stored in
     spared {K = Journal g.row.D.Denot g.D.Disk} g.D.Disk.told g.D.Disk.may_leave g.D.Disk.moment g.D.Disk.left_since (λ j. j.down) (λ j. option_map (λ _. payload_of j.frame.items) j.down)
-    g.B.Since.since g.B.Since.least g.B.Since.before c.args.disk c.disk_of-in-Err-hold_serving.result c.in-Err-hold_serving.store stored (none_flies _ _ stored.up) c.requires.begun c.disk_of-in-Err-hold_serving.ensures.holds c.disk_of-in-Err-hold_serving.ensures.leaves
+    (λ j. option_map (first_payloads (held_count j.points)) (g.D.Disk.told j.disk)) g.B.Since.since g.B.Since.had g.B.Since.before c.args.disk c.disk_of-in-Err-hold_serving.result c.in-Err-hold_serving.store stored (none_flies _ _ stored.up) c.requires.begun c.disk_of-in-Err-hold_serving.ensures.kept
