@@ -98,6 +98,8 @@ pub(crate) fn second<R: Abort>(rt: &R, desk: &Desk<Store<MemKeeper>>, first: &mu
     ensures first { IsReady desk.now first.new }
     ensures second { IsReady desk.now result }
     ensures left { spare_of first.new + 1 ≡ spare_of first.old }
+    ensures alone { (stands_for result ≡ 1) × (spare_of result ≡ 0) }
+    ensures still { stands_for first.new ≡ stands_for first.old }
 {
     match desk.split(first) {
         Ok(second) => second,

@@ -9,13 +9,13 @@ pub(crate) const FOUR: &str =
 pub(crate) const FOUR_TOLD: &str =
     "HTTP/1.1 200 OK\r\nContent-Type: application/json\r\nCatalogue-Place: 1\r\nContent-Length: 219\r\n\r\n{\"addedContents\":[{\"contentId\":\"00000000-0000-0001-0000-000000000000\",\"key\":{\"elements\":[\"t1\"]}}],\"targetBranch\":{\"hash\":\"f92df14c291c55081a6374c5074b1394016591b1981cd32b3bddb20a3f86d5d4\",\"name\":\"main\",\"type\":\"BRANCH\"}}HTTP/1.1 200 OK\r\nContent-Type: application/json\r\nCatalogue-Place: 2\r\nContent-Length: 141\r\n\r\n{\"addedContents\":[],\"targetBranch\":{\"hash\":\"d64500950f8a2bc53b5a7924439a204aa18ad71808988331edcf91098cc306db\",\"name\":\"main\",\"type\":\"BRANCH\"}}HTTP/1.1 200 OK\r\nContent-Type: application/json\r\nCatalogue-Place: 3\r\nContent-Length: 141\r\n\r\n{\"addedContents\":[],\"targetBranch\":{\"hash\":\"b320e0c30db4780c430c204f90cdbfd17a94b7e9540248d697207ca3f30c6b03\",\"name\":\"main\",\"type\":\"BRANCH\"}}HTTP/1.1 200 OK\r\nContent-Type: application/json\r\nCatalogue-Place: 4\r\nContent-Length: 141\r\n\r\n{\"addedContents\":[],\"targetBranch\":{\"hash\":\"6a39e22989ecee71958c359faba605cde52c75a815754c4397a76bb3b6384fc4\",\"name\":\"main\",\"type\":\"BRANCH\"}}";
 
-/// A second collection, and a branch `keep` where `t1` was `m2`.
+/// A second collection, a checkpoint, and a branch `keep` where `t1` was `m2`.
 pub(crate) const MEANWHILE: &str =
-    "POST /gc/v1/sweep HTTP/1.1\r\nContent-Length: 21\r\n\r\n{\"defaultCutoff\":\"1\"}POST /api/v2/trees?name=keep&type=BRANCH HTTP/1.1\r\nContent-Length: 105\r\n\r\n{\"type\":\"BRANCH\",\"name\":\"main\",\"hash\":\"d64500950f8a2bc53b5a7924439a204aa18ad71808988331edcf91098cc306db\"}";
+    "POST /gc/v1/sweep HTTP/1.1\r\nContent-Length: 21\r\n\r\n{\"defaultCutoff\":\"1\"}POST /gc/v1/checkpoint HTTP/1.1\r\n\r\nPOST /api/v2/trees?name=keep&type=BRANCH HTTP/1.1\r\nContent-Length: 105\r\n\r\n{\"type\":\"BRANCH\",\"name\":\"main\",\"hash\":\"d64500950f8a2bc53b5a7924439a204aa18ad71808988331edcf91098cc306db\"}";
 
-/// The first collection was opened at place 4, and is open; the branch is made.
+/// The first collection was opened at place 4, and is open, which refuses both; the branch is made.
 pub(crate) const MEANWHILE_TOLD: &str =
-    "HTTP/1.1 409 Conflict\r\nContent-Type: application/json\r\nCatalogue-Place: 4\r\nContent-Length: 129\r\n\r\n{\"errorCode\":\"SWEEP_OPEN\",\"errorDetails\":{\"place\":4,\"type\":\"SWEEP_OPEN\"},\"message\":\"sweep open\",\"reason\":\"Conflict\",\"status\":409}HTTP/1.1 200 OK\r\nContent-Type: application/json\r\nCatalogue-Place: 5\r\nContent-Length: 119\r\n\r\n{\"reference\":{\"hash\":\"d64500950f8a2bc53b5a7924439a204aa18ad71808988331edcf91098cc306db\",\"name\":\"keep\",\"type\":\"BRANCH\"}}";
+    "HTTP/1.1 409 Conflict\r\nContent-Type: application/json\r\nCatalogue-Place: 4\r\nContent-Length: 129\r\n\r\n{\"errorCode\":\"SWEEP_OPEN\",\"errorDetails\":{\"place\":4,\"type\":\"SWEEP_OPEN\"},\"message\":\"sweep open\",\"reason\":\"Conflict\",\"status\":409}HTTP/1.1 409 Conflict\r\nContent-Type: application/json\r\nCatalogue-Place: 4\r\nContent-Length: 129\r\n\r\n{\"errorCode\":\"SWEEP_OPEN\",\"errorDetails\":{\"place\":4,\"type\":\"SWEEP_OPEN\"},\"message\":\"sweep open\",\"reason\":\"Conflict\",\"status\":409}HTTP/1.1 200 OK\r\nContent-Type: application/json\r\nCatalogue-Place: 5\r\nContent-Length: 119\r\n\r\n{\"reference\":{\"hash\":\"d64500950f8a2bc53b5a7924439a204aa18ad71808988331edcf91098cc306db\",\"name\":\"keep\",\"type\":\"BRANCH\"}}";
 
 /// A collection that keeps the head of each chain.
 pub(crate) const COLLECT: &str =

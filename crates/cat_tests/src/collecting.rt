@@ -63,7 +63,7 @@ fn serve_three<R: Threads + Wait + Sync + Abort>(
 }
 
 /// The store that the first so many payloads lead to, each executed again.
-fn led_to(alloc: Global, payloads: &[Bytes], count: usize) -> Option<Store<MemKeeper>> {
+pub(crate) fn led_to(alloc: Global, payloads: &[Bytes], count: usize) -> Option<Store<MemKeeper>> {
     let mut front = Vec::new(alloc);
     for payload in payloads.get(..count)? {
         let copy = Bytes::from_slice(alloc, payload.as_slice()).ok()?;

@@ -7,6 +7,8 @@
 #[cfg(test)]
 mod asking;
 #[cfg(test)]
+mod checkpoints;
+#[cfg(test)]
 mod collected;
 #[cfg(test)]
 mod collecting;

@@ -158,8 +158,8 @@ fn meet<R: Abort + Wait + Threads + Sync + Clock>(
     )
 }
 
-// A second collection is refused, at place 4. Where the draft is opened in the first round too, the
-// second round finds nothing missing; else the third.
+// A second collection is refused, at place 4, and so is a checkpoint. Where the draft is opened in
+// the first round too, the second round finds nothing missing; else the third.
 #[test]
 fn a_collection_keeps_what_is_made_and_named_beside_it(rt: HostRuntime) {
     for (in_second, rounds) in [(false, 2), (true, 3)] {

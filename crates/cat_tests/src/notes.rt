@@ -20,6 +20,7 @@ pub(crate) struct Notes {
 }
 
 impl Logged for Notes {
+    ghost use Rattle.std.specs.Prelude.{[]};
     ghost use Rattle.cat_model.specs.Drafts.{nothing_open};
     ghost use Rattle.cat_model.specs.Limits.{program_limits};
     ghost use Rattle.cat_model.specs.Mark.{no_mark};
@@ -30,6 +31,8 @@ impl Logged for Notes {
     ghost opened = { λ _. record {
       state = first_state (λ bytes. bytes) program_limits;
       draft = 0;
+      drafts = [];
+      payloads = 0;
       faults = 0;
     } };
 
@@ -41,6 +44,10 @@ impl Logged for Notes {
 
     fn count(&self) -> u32 {
         self.count
+    }
+
+    fn first(&self) -> u32 {
+        0
     }
 }
 

@@ -27,7 +27,7 @@ const ENTRY: &[u8] =
     b"\x04\0\0\0\x01\0\0\0\0\0\0\0\x01\0\0\0\0\0\x0fB@\0\0\0\x04main\x01.\x1c\xfa\x82\xb05\xc2l\xbb\xbd\xaec,\xea\x07\x05\x14\xeb\x8bw?aj\xae\xaff\x8e/\x0b\xe8\xf1\x0d\0\0\0\x03one\0\0\0\0\0\0\0\0\0\0\0\0\0\0\0\0\x01\x01\0\x02t1\x01\x01\0\0\0+\x01\0\0\0\0\0\0\0\x01\0\0\0\0\0\0\0\0\0\0\0\x02m1\0\0\0\0\0\0\0\x01\0\0\0\0\0\0\0\0\0\0\0\0\xf9-\xf1L)\x1cU\x08\x1act\xc5\x07K\x13\x94\x01e\x91\xb1\x98\x1c\xd3+;\xdd\xb2\x0a?\x86\xd5\xd4";
 
 /// A store of this one entry.
-fn committed<R: Abort>(rt: &R, alloc: Global) -> Store<MemKeeper>
+pub(crate) fn committed<R: Abort>(rt: &R, alloc: Global) -> Store<MemKeeper>
     ensures { result.left_open ≡ nothing_open }
 {
     let Ok(payload) = Bytes::from_slice(alloc, ENTRY) else {
@@ -43,7 +43,7 @@ fn committed<R: Abort>(rt: &R, alloc: Global) -> Store<MemKeeper>
 }
 
 /// Whether a catalogue counts so many entries and references, and one commit, which is the first.
-fn counts(found: &Counts, place: u32, references: u64) -> bool {
+pub(crate) fn counts(found: &Counts, place: u32, references: u64) -> bool {
     found.place == place
         && found.references == references
         && (found.commits, found.contents, found.keys) == (1, 1, 1)
