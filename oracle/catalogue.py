@@ -306,10 +306,66 @@ class Catalogue:
         self.draft = 0
         self.maps = {NO_ANCESTOR: {}}
         self.log = []
+        # What the log starts from: the place, the last draft number, those below it that may still
+        # come, and the heads.
+        self.first = 0
+        self.taken = 0
+        self.left = set()
+        self.starts = {DEFAULT_BRANCH: NO_ANCESTOR}
+        # The journal's format, and after how many entries of the log each checkpoint was made.
+        self.format = 2
+        self.bases = []
+
+    def start(self, place, draft, left, references, commits, contents):
+        """Starts from a state in place of the empty one."""
+        self.first = self.place = place
+        self.taken = self.draft = draft
+        self.left = set(left)
+        self.references = {name: [kind, head] for name, kind, head in references}
+        self.starts = {name: head for name, _, head in references}
+        self.keep(commits)
+        self.contents = {hashlib.sha256(content_bytes(*c)).digest(): c for c in contents}
 
     def opened(self):
         """What a new opening of the log knows: drafts that left no entry are forgotten."""
         self.draft = max((e[2] for e in self.log), default=0)
+        self.draft = max(self.draft, self.taken)
+
+    def is_new(self, draft):
+        """Whether an entry may have this draft number."""
+        return draft == 0 or (draft > self.taken or draft in self.left) and all(draft != e[2] for e in self.log)
+
+    def may_start(self):
+        """Whether what the log starts from is a state, and none that is too large."""
+        return self.is_linked() and self.is_whole() and self.is_small()
+
+    def is_linked(self):
+        """Each commit stands behind its parents, at the next generation, and each head is known."""
+        generations = {NO_ANCESTOR: 0}
+        for commit_hash, commit in self.commits.items():
+            above = [commit.parent] + ([] if commit.merge_parent is None else [commit.merge_parent])
+            if commit_hash in generations or not all(h in generations for h in above):
+                return False
+            generations[commit_hash] = 1 + max(generations[h] for h in above)
+            if commit.generation != generations[commit_hash]:
+                return False
+        return all(self.known(head) for head in self.starts.values())
+
+    def is_whole(self):
+        """`main` is a branch, each key's parent is a namespace, and what is visible is there."""
+        if self.references.get(DEFAULT_BRANCH, [TAG])[0] != BRANCH:
+            return False
+        for commit_hash in self.commits:
+            now = self.entries(commit_hash)
+            if any(len(k) > 1 and now.get(k[:-1], (None,))[0] != NAMESPACE for k in now):
+                return False
+        return all(self.visible(head) <= set(self.contents) for head in self.starts.values())
+
+    def is_small(self):
+        """It passes no limit. There may be one reference whatever the limit is."""
+        return (len(self.references) <= max(1, LIMITS["References"]) and self.place <= LIMITS["Log"]
+                and len(self.commits) <= LIMITS["Commits"] and len(self.contents) <= LIMITS["Contents"]
+                and all(len(self.entries(h)) <= LIMITS["Keys"] for h in self.commits))
 
     # Looking things up.
 
@@ -634,9 +690,9 @@ class Catalogue:
         return {entry[2] for entry in self.entries(commit_hash).values()}
 
     def states_since(self, place):
-        """The heads of the references after each entry from this place on; place 0 is before the first."""
-        heads = {DEFAULT_BRANCH: NO_ANCESTOR}
-        out = [dict(heads)] if place == 0 else []
+        """The heads of the references after each entry from this place on, or where the log starts."""
+        heads = dict(self.starts)
+        out = [dict(heads)] if place == self.first else []
         for what, number, _, _, command, head in self.log:
             if what == "delete":
                 del heads[command[0]]
@@ -655,7 +711,7 @@ class Catalogue:
 
     def may_be_swept(self, opened, policy, commits, contents):
         """Whether a log may have such a sweep here."""
-        return (opened <= self.place and all(self.known(h) for h in commits)
+        return (self.first <= opened <= self.place and all(self.known(h) for h in commits)
                 and len(policy[1]) <= MOST_PATTERNS)
 
     def sweep(self, opened, policy, commits, contents, moment):
@@ -669,6 +725,13 @@ class Catalogue:
         self.contents = {h: c for h, c in self.contents.items() if h in saved}
         self.entry("sweep", 0, moment, (opened, policy, commits, contents), None)
         return len(self.contents), before - len(self.contents)
+
+    def checkpoint(self):
+        """Writes the state into the journal, which makes no entry; its place is told."""
+        if self.format == 1:
+            raise Refused("OLD_FORMAT", "old format")
+        self.bases.append(len(self.log))
+        return self.place
 
     # Logs.
 

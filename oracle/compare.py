@@ -106,13 +106,12 @@ class Program:
 def last_moment(path):
     """The moment of a journal's last entry."""
     with open(path, "rb") as f:
-        found = f.read()
-    return journal.moment_at(found, journal.gates(found)[-2])
+        return journal.last_moment(f.read())
 
 
 def line_of(c):
     return b"entries %d references %d commits %d contents %d head %s\n" % (
-        len(c.log), len(c.references), len(c.commits), len(c.contents),
+        c.place, len(c.references), len(c.commits), len(c.contents),
         c.references["main"][1].hex().encode())
 
 
@@ -154,10 +153,13 @@ class Comparison:
             path = os.path.join(folder, "j")
             c = rules.Catalogue()
             sweeping = rng.random() < 0.4
-            maker = random_requests.Requests(rng, c, sweeping)
+            maker = random_requests.Requests(rng, c, sweeping, rng.random() < 0.5)
             side = replies.Session(c)
             self.lines = [line_of(c)]
+            self.bases = []
             self.recorded.append([])
+            if maker.checkpointing and rng.random() < 0.3:
+                self.old_journal(c, path)
             count = rng.choice([40, 120, 250, self.options.requests])
             program = Program(self.options.program, path, serve=self.options.serve)
             alive = True
@@ -169,6 +171,8 @@ class Comparison:
                         self.difference("end of a session", (seed, number), None, (b"", 0), (rest, status))
                     if sweeping:
                         self.sweeps(maker, path)
+                    if maker.checkpointing and rng.random() < 0.5:
+                        self.migrate(seed, c, path)
                     program = Program(self.options.program, path, serve=self.options.serve)
                     c.opened()
                     self.note(None)
@@ -188,6 +192,28 @@ class Comparison:
                 program.kill()
             shutil.rmtree(folder, ignore_errors=True)
             self.sessions += 1
+
+    def old_journal(self, c, path):
+        """A journal of format 1 to begin with."""
+        with open(path, "wb") as f:
+            f.write(journal.OLD + b"\x00")
+        c.format = 1
+        self.note(("format", 1))
+
+    def migrate(self, seed, c, path):
+        """The journal is one of format 2 then, and else as it was."""
+        with open(path, "rb") as f:
+            found = f.read()
+        got = subprocess.run([self.options.program, "migrate", path], stdout=subprocess.PIPE)
+        wanted = (b"format 2 entries %d\n" % c.place, 0)
+        if (got.stdout, got.returncode) != wanted:
+            self.difference("migrate", seed, None, wanted, (got.stdout, got.returncode))
+        with open(path, "rb") as f:
+            if f.read() != journal.newer(found):
+                self.difference("what migrate leaves", seed, None, None, None)
+        self.extra["migrations of format %d" % c.format] += 1
+        c.format = 2
+        self.note(("format", 2))
 
     def sweeps(self, maker, path):
         """Sweeps that stand in the journal when it is opened again."""
@@ -213,7 +239,7 @@ class Comparison:
         c = maker.c
         with open(path, "rb") as f:
             found = f.read()
-        moment = journal.moment_at(found, journal.gates(found)[-2]) if c.log else 0
+        moment = journal.last_moment(found)
         command = maker.sweep()
         removed = c.sweep(*command, moment)[1]
         with open(path, "wb") as f:
@@ -245,6 +271,8 @@ class Comparison:
         self.count(kind, side)
         if len(side.catalogue.log) == len(self.lines):
             self.lines.append(line_of(side.catalogue))
+        if len(side.catalogue.bases) > len(self.bases):
+            self.bases.append((len(side.catalogue.log), journal.checkpoint(side.catalogue)))
         if not self.same(kind, (seed, number), side, wanted, got):
             # The two may stand at different states from here on.
             return method == "GET"
@@ -370,8 +398,9 @@ class Comparison:
     def files(self, seed, c, path):
         with open(path, "rb") as f:
             found = f.read()
-        other = journal.compared(found, c.log)
+        other = journal.compared(found, c.log, self.bases, journal.HEADER if c.format == 2 else journal.OLD)
         self.extra["journals"] += 1
+        self.extra["checkpoints in journals"] += len(self.bases)
         if len(self.lines) == len(c.log) + 1:
             self.cuts(seed, c, path, found)
         self.extra["journal entries"] += len(c.log)
@@ -384,7 +413,7 @@ class Comparison:
 
     def cuts(self, seed, c, path, found):
         """The file with one fault: what `check` says of it."""
-        gates = journal.gates(found)
+        gates = journal.entry_gates(found)
         rng = random.Random(seed)
         for _ in range(3):
             b = bytearray(found)
@@ -427,6 +456,8 @@ class Comparison:
                 b[rng.choice([rng.randrange(at, at + 5), rng.randrange(at + 13, gates[i + 1])])] ^= (
                     1 << rng.randrange(8))
                 wanted = {damaged(gates[i]), b"nessie: illegal entry %d\n" % (i + 1)}
+            if self.bases or c.format == 1:
+                wanted = {self.told(b)}
             other = path + "2"
             with open(other, "wb") as f:
                 f.write(b)
@@ -443,10 +474,26 @@ class Comparison:
             with open(other, "rb") as f:
                 if b and f.read() != b:
                     self.difference("check changed a journal", seed, None, None, None)
+            self.migrate_copy(seed, what, other, got)
+
+    def migrate_copy(self, seed, what, path, checked):
+        """A copy that `check` told so: `migrate` tells the same, or that it is of format 2."""
+        with open(path, "rb") as f:
+            found = f.read()
+        got = subprocess.run([self.options.program, "migrate", path], stdout=subprocess.PIPE)
+        wanted, left = checked.stdout, found
+        if checked.returncode == 0:
+            wanted, left = b"format 2 entries %s\n" % checked.stdout.split(b" ")[1], journal.newer(found)
+        if (got.stdout, got.returncode) != (wanted, checked.returncode):
+            self.difference("migrate, a journal with a fault: " + what, seed, None, (wanted, checked.returncode),
+                            (got.stdout, got.returncode))
+        with open(path, "rb") as f:
+            if f.read() != left:
+                self.difference("what migrate leaves of a journal with a fault", seed, None, None, None)
 
     def one_sweep_more(self, rng, c, found):
         """The file with a sweep more between its entries, which may be damage or illegal, or make one behind it so."""
-        gates = journal.gates(found)
+        gates = journal.entry_gates(found)
         log = [e[:3] + (journal.moment_at(found, gate),) + e[4:] for e, gate in zip(c.log, gates)]
         at = rng.randrange(len(log) + 1)
         opened, policy, commits, contents = random_requests.Requests(rng, c).sweep()

@@ -61,6 +61,7 @@ class Row(compare.Comparison):
         self.side = replies.Session(self.c)
         self.program = compare.Program(self.options.program, path)
         self.lines = [compare.line_of(self.c)]
+        self.bases = []
 
     def ask(self, method, target, body=b"", fields=(), wire=None, close=False):
         if isinstance(body, (dict, list)):
@@ -443,7 +444,7 @@ class Row(compare.Comparison):
         none = b"commits 0 keys 0 contents 0 place 0 head %s\n" % NO_ANCESTOR.hex().encode()
         for words, wanted in (
                 ((), usage), (("x",), usage), (("script",), usage), (("script", "a", "b"), usage), (("check",), usage),
-                (("check", "a", "b"), usage), (("drill",), usage), (("drill", "--seed", "0"), usage), (("--help",), usage),
+                (("check", "a", "b"), usage), (("migrate",), usage), (("migrate", "a", "b"), usage), (("drill",), usage), (("drill", "--seed", "0"), usage), (("--help",), usage),
                 (("drill", "--seed", "0", "--commits", "0"), (none, 0)), (("drill", "--commits=0", "--seed=5"), (none, 0)),
                 (("drill", "--seed", "18446744073709551615", "--commits", "0"), (none, 0)),
                 (("drill", "--seed", "18446744073709551616", "--commits", "0"), usage),
@@ -487,12 +488,14 @@ class Row(compare.Comparison):
             def fileno(self):
                 return self.fd
         none = os.path.join(folder, "none", "j")
-        for word, *more in (("script",), ("check",), ("gc", "NONE")):
+        for word, *more in (("script",), ("check",), ("migrate",), ("gc", "NONE")):
             run("no folder, " + word, (word, none, *more), fault, 2, request)
             run("a folder, " + word, (word, folder, *more), fault, 2, request)
         run("a full output, script", ("script", self.path), b"", 6, request, True)
         run("a full output, no request", ("script", self.path), b"", 0, b"", True)
         run("a full output, check", ("check", self.path), b"", 6, b"", True)
+        run("a full output, migrate", ("migrate", self.path), b"", 6, b"", True)
+        run("no input, migrate", ("migrate", self.path), b"format 2 entries 0\n", 0, Folder())
         swept = self.path + "-swept"
         run("a full output, gc", ("gc", swept, "NONE"), b"", 6, b"", True)
         run("no input, gc", ("gc", swept, "NONE"), b"kept 0 removed 0 place 2\n", 0, Folder())
@@ -576,7 +579,7 @@ class Row(compare.Comparison):
         for method, query, encoding, body in itertools.product(
                 ("POST", "GET", "PUT", "DELETE", "HEAD"), ("", "?defaultCutoff=0", "?max-records=x"), (None, "gzip", "identity"),
                 (b'{"defaultCutoff":"9"}', b'{"defaultCutoff":"0"}', b"{}", b"")):
-            for path in ("/gc/v1/sweep", "/gc/v1/sweep/", "/gc/v1"):
+            for path in ("/gc/v1/sweep", "/gc/v1/sweep/", "/gc/v1", "/gc/v1/checkpoint", "/gc/v1/checkpoint/"):
                 self.ask(method, path + query, body, [] if encoding is None else [("Content-Encoding", encoding)])
                 self.fresh_program()
         for path, query in itertools.product(
@@ -663,7 +666,7 @@ class Row(compare.Comparison):
                 ("POST", "trees/main/history/commit", refused), ("HEAD", "config", b""), ("HEAD", "nowhere", b""),
                 ("GET", "nowhere", b""), ("PATCH", "trees", b"x"), ("GET", "trees/main/contents/t", b""),
                 ("GET", "trees/a..b", b""), ("GET", "trees/none", b""), ("POST", "/gc/v1/sweep", b"{}"),
-                ("POST", "/gc/v1/sweep", b"")):
+                ("POST", "/gc/v1/sweep", b""), ("POST", "/gc/v1/checkpoint", b"")):
             self.ask(method, target if target[0] == "/" else "/api/v2/" + target, body, close, close=True)
             self.end()
             self.program = compare.Program(self.options.program, self.path)
@@ -799,6 +802,34 @@ class Row(compare.Comparison):
         self.get("trees")
         self.end()
 
+    def row_checkpoints(self):
+        """What is read, made and swept where the journal goes on from a checkpoint, and where it may have none."""
+        checkpoint = lambda body=b"": self.ask("POST", "/gc/v1/checkpoint", body)
+        checkpoint()
+        first, second, third = self.three()
+        checkpoint(b"{")
+        checkpoint()
+        self.end()
+        self.program = compare.Program(self.options.program, self.path)
+        self.c.opened()
+        for at in (first, second, third):
+            self.get("trees/main@%s/contents/t1" % at)
+        self.sweep("1")
+        self.collect("1")
+        checkpoint()
+        self.get("trees/main@%s/contents/t1" % second)
+        self.end()
+        with open(self.path, "wb") as f:
+            f.write(journal.OLD + b"\0")
+        self.program = compare.Program(self.options.program, self.path)
+        self.c.__init__()
+        self.c.format = 1
+        self.lines, self.bases = [compare.line_of(self.c)], []
+        checkpoint()
+        self.commit("main", table(("t1",)))
+        checkpoint(b"{}")
+        self.end()
+
     def row_many_patterns(self):
         self.three()
         for count in (999, 1000, 1001):
@@ -876,7 +907,7 @@ class Row(compare.Comparison):
         c.opened()
         self.side = replies.Session(c)
         self.program = compare.Program(self.options.program, self.path)
-        self.lines = []
+        self.lines, self.bases = [], []
 
     def row_last_drafts(self):
         c = rules.Catalogue()
@@ -1200,6 +1231,8 @@ class Row(compare.Comparison):
         super().count(kind, side)
         if len(self.c.log) == len(self.lines):
             self.lines.append(compare.line_of(self.c))
+        if len(self.c.bases) > len(self.bases):
+            self.bases.append((len(self.c.log), journal.checkpoint(self.c)))
 
 
 def main():

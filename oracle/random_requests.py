@@ -52,11 +52,13 @@ class Pairs:
 
 
 class Requests:
-    def __init__(self, rng, catalogue, sweeping=False):
+    def __init__(self, rng, catalogue, sweeping=False, checkpointing=False):
         self.rng = rng
         self.c = catalogue
         # Contents are removed meanwhile, so older commits are merged more often.
         self.sweeping = sweeping
+        # States are written into the journal meanwhile.
+        self.checkpointing = checkpointing
         # In some sessions branches mostly grow and are merged into each other, also from older commits.
         self.merging = rng.random() < 0.35
         # Whether policies may ask for durations, which depend on the moment of the call.
@@ -496,8 +498,10 @@ class Requests:
     def sweep(self):
         """A sweep that may be logged: where it was opened, its policy, the commits and the contents that it names."""
         c = self.c
-        opened = self.weighted([(c.place, 5), (max(c.place - self.rng.randrange(8), 0), 3),
-                                (self.rng.randrange(c.place + 1), 1)])
+        # A journal is opened at its last checkpoint, and no sweep is older.
+        least = c.first + (c.bases[-1] if c.bases else 0)
+        opened = self.weighted([(c.place, 5), (max(c.place - self.rng.randrange(8), least), 3),
+                                (self.rng.randrange(least, c.place + 1), 1)])
         patterns = [(self.pattern(), self.cutoff()) for _ in range(self.weighted([(0, 4), (1, 3), (2, 2), (4, 1)]))]
         seen = {e[2] for commit in c.commits.values() for _, e in commit.ops if e is not None}
         commits = self.some_hashes(sorted(c.commits)[-40:] + [NO_ANCESTOR])
@@ -694,12 +698,15 @@ class Requests:
     def a_sweep(self):
         return "POST", "/gc/v1/sweep" + self.query([]), [], self.body_bytes(self.policy_body())
 
+    def a_checkpoint(self):
+        return "POST", "/gc/v1/checkpoint" + self.query([]), [], self.pick([b"", b"", b"{}", b"{", b"x", self.body_bytes({})])
+
     def an_oddity(self):
         if self.chance(0.5):
             target = self.pick([
                 "/", "/api", "/api/v2", "/api/v2/", "/api/v2/trees/", "/api/v2/config/", "/api/v1/trees",
                 "/api/v2/%63onfig", "/api/v2/trees//entries", "/api/v2/trees/main/", "/gc/v1/sweep",
-                "/gc/v1/sweep/", "/gc/v1/", "/gc/v2/sweep", "/api/v2/gc/v1/sweep", "/gc/v1/Sweep", "/gc/v1/sweep?x",
+                "/gc/v1/sweep/", "/gc/v1/checkpoint/", "/gc/v1/checkpoints", "/gc/v1/", "/gc/v2/sweep", "/api/v2/gc/v1/sweep", "/gc/v1/Sweep", "/gc/v1/sweep?x",
                 "/api/v2/trees/main/history/", "/api/v2/trees/main/diff", "/api/v2/Config", "*",
                 "/api/v2/trees/main/contents/", "/api/v2/trees/main/contents/a/b", "//api/v2/config",
                 "/api/v2/trees/rel/1.0", "http://h/api/v2/config", "/api/v2/config#x", "/api/v2/config?",
@@ -709,7 +716,7 @@ class Requests:
             return self.pick(["GET", "GET", "POST", "PUT", "DELETE", "HEAD"]), target, [], b""
         target = self.pick([self.a_config, self.a_list, self.a_get, self.an_entries, self.a_history,
                             self.a_contents, self.a_content, self.a_create, self.a_commit, self.a_merge,
-                            self.a_transplant, self.a_sweep])()[1]
+                            self.a_transplant, self.a_sweep] + [self.a_checkpoint] * self.checkpointing)()[1]
         method = self.pick(["GET", "POST", "PUT", "DELETE", "HEAD", "HEAD", "PATCH", "OPTIONS", "TRACE",
                             "get", "X-Y"])
         return method, target, [], b"" if self.chance(0.7) else b"{}"
@@ -721,7 +728,7 @@ class Requests:
             ("config", 1), ("list", 4 * rare), ("get", 3), ("entries", 10), ("history", 9), ("contents", 7 * rare),
             ("content", 6 * rare), ("create", 9 if rare == 1 or len(self.c.references) < 4 else 2), ("assign", 6 * rare),
             ("delete", 5 * rare), ("commit", 34), ("merge", 20 if rare == 1 else 45), ("transplant", 13 * rare),
-            ("sweep", 4 if self.sweeping else 0.3), ("oddity", 5 * rare)])
+            ("sweep", 4 if self.sweeping else 0.3), ("checkpoint", 2 if self.checkpointing else 0), ("oddity", 5 * rare)])
         method, target, fields, body = getattr(self, ("an_" if kind in ("entries", "assign", "oddity")
                                                       else "a_") + kind)()
         if self.chance(0.02):

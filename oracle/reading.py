@@ -1,17 +1,16 @@
-"""A journal's file read: to its entries, and by these to the catalogue, or to what is wrong with it."""
+"""A journal's file read: to its base and its entries, and by these to the catalogue, or to what is wrong with it."""
 
 from catalogue import (
     BRANCH, TAG, ICEBERG_TABLE, ICEBERG_VIEW, DELTA_LAKE_TABLE, NAMESPACE, TYPE_BYTES, NO_ANCESTOR, ALL,
-    COMMITS, SINCE, Catalogue, Operation, Refused, key_order, u64)
+    COMMITS, SINCE, Catalogue, Commit, Operation, Refused, content_bytes, key_order, u64)
+from hashlib import sha256
 from instants import GREATEST
-from journal import CUTOFFS, HEADER, KINDS, MODES, payload
+from journal import CHECKPOINT, CUTOFFS, HEADER, KINDS, MODES, payload
 from replies import NoReading, is_name, is_pattern, key_of, need, need_hashes, need_operations
 
 KIND_OF, TYPE_OF, MODE_OF, CUTOFF_OF = (
     {number: name for name, number in table.items()} for table in (KINDS, TYPE_BYTES, MODES, CUTOFFS))
 MOST_ENTRIES = (1 << 32) - 1
-# The byte of a header's gate in format 2, and a base's kind.
-NEWER, BASE = 1, b"\x08"
 
 
 class Unopened(Exception):
@@ -200,9 +199,42 @@ class Reader:
         self.end()
         return what, place, draft, moment, command, head
 
+    # Checkpoints.
 
-def framed(file):
-    """Up to the first closed gate each open one with its payload, and the open one that has none, or None."""
+    def framed(self, read):
+        inside = Reader(self.take(self.number(4)))
+        out = read(inside)
+        inside.end()
+        return out
+
+    def change(self):
+        key = self.key()
+        return key, self.option(lambda: (self.chosen(TYPE_OF), self.take(16), self.hash()))
+
+    def written_commit(self):
+        need(self.take(3) == b"NC1")
+        front = self.hash(), self.option(self.hash), self.number(8), self.moment(), self.meta()
+        return Commit(*front, self.ascending(self.change, lambda c: key_order(c[0])))
+
+    def reference(self):
+        return self.name(), self.reference_kind(), self.hash()
+
+    def checkpoint(self):
+        """The place, the greatest draft number, those that were open below it, and the state's three lists."""
+        need(self.number(1) == CHECKPOINT)
+        place, draft = self.number(4), self.number(8)
+        left = self.ascending(lambda: self.number(8))
+        need(all(0 < n < draft for n in left))
+        references = self.ascending(self.reference, lambda r: r[0].encode("utf-8"))
+        commits = self.list(lambda: self.framed(Reader.written_commit))
+        contents = self.ascending(
+            lambda: self.framed(Reader.content), lambda c: sha256(content_bytes(*c)).digest())
+        self.end()
+        return place, draft, left, references, commits, contents
+
+
+def walked(file):
+    """The payloads behind open gates, each with its gate's offset, and the gate that has no frame, or None."""
     out, at = [], len(HEADER)
     while file[at] == 1:
         end = at + 5 + int.from_bytes(file[at + 1:at + 5], "big")
@@ -213,16 +245,20 @@ def framed(file):
     return out, None
 
 
-def given(frames):
-    """Those that format 2 gives: from the last base on. No base is read here: it is damage."""
-    bases = [i for i, (_, spelled) in enumerate(frames) if spelled[:1] == BASE]
-    return frames[bases[-1]:] if bases else frames
+def read_at(gate, read, spelled):
+    try:
+        return read(Reader(spelled))
+    except NoReading:
+        raise Unopened(b"damaged at %d" % gate)
 
 
-def read(file):
-    """The entries of a file, each with the bytes that spell it."""
+def recovered(file):
+    """The base of a file, or None, and the entries behind it, each with the bytes that spell it.
+
+    What stands before the base is walked by its lengths and not read; in format 1 all are entries.
+    """
     if not file:
-        return []
+        return None, []
     if len(file) <= len(HEADER) or file[:8] != HEADER[:8]:
         raise Unopened(b"damaged at 0")
     version = int.from_bytes(file[8:12], "big")
@@ -230,15 +266,18 @@ def read(file):
         raise Unopened(b"version %d" % version)
     if any(file[12:15]):
         raise Unopened(b"damaged at 12")
-    out, (frames, broken) = [], framed(file)
-    for at, spelled in given(frames) if file[15] == NEWER else frames:
-        try:
-            out.append((Reader(spelled).entry(), spelled))
-        except NoReading:
-            raise Unopened(b"damaged at %d" % at)
+    found, broken = walked(file)
+    bases = [i for i, (_, p) in enumerate(found) if p[:1] == bytes([CHECKPOINT]) and file[15] == HEADER[15]]
+    behind = bases[-1] + 1 if bases else 0
+    base = read_at(found[behind - 1][0], Reader.checkpoint, found[behind - 1][1]) if bases else None
+    entries = []
+    for gate, spelled in found[behind:]:
+        if len(entries) == MOST_ENTRIES:
+            raise Unopened(b"damaged at %d" % gate)
+        entries.append((read_at(gate, Reader.entry, spelled), spelled))
     if broken is not None:
         raise Unopened(b"damaged at %d" % broken)
-    return out
+    return base, entries
 
 
 def is_well_made(what, command):
@@ -254,16 +293,21 @@ def is_well_made(what, command):
 
 
 def opened(file):
-    """The catalogue that a file's entries lead to. Each has to be just what it makes itself."""
+    """The catalogue that a file's base and entries lead to. Each entry has to be just what it makes itself."""
     c = Catalogue()
-    for number, ((what, _, draft, moment, command, _), spelled) in enumerate(read(file), 1):
-        illegal = Unopened(b"illegal entry %d" % number)
-        if not is_well_made(what, command) or draft != 0 and any(draft == e[2] for e in c.log):
+    base, entries = recovered(file)
+    if base is not None:
+        c.start(*base)
+        if len(c.commits) < len(base[4]) or not c.may_start():
+            raise Unopened(b"illegal entry %d" % c.first)
+    for number, ((what, _, draft, moment, command, _), spelled) in enumerate(entries):
+        illegal = Unopened(b"illegal entry %d" % (c.first + number + 1))
+        if not is_well_made(what, command) or not c.is_new(draft):
             raise illegal
         try:
             c.again(what, draft, moment, command)
         except Refused:
             raise illegal
-        if [payload(e, moment) for e in c.log[number - 1:]] != [spelled]:
+        if [payload(e, moment) for e in c.log[number:]] != [spelled]:
             raise illegal
     return c

@@ -16,7 +16,8 @@ from catalogue import (
 
 STATUS = {
     "BAD_REQUEST": 400, "REFERENCE_NOT_FOUND": 404, "REFERENCE_ALREADY_EXISTS": 409,
-    "CONTENT_NOT_FOUND": 404, "REFERENCE_CONFLICT": 409, "EXPIRED": 409, "SWEEP_OPEN": 409, "LIMIT": 409, "COLLISION": 500,
+    "CONTENT_NOT_FOUND": 404, "REFERENCE_CONFLICT": 409, "EXPIRED": 409, "SWEEP_OPEN": 409, "LIMIT": 409, "OLD_FORMAT": 409,
+    "COLLISION": 500,
     "FAULT": 503, "DOWN": 503, "NO_MEMORY": 507, "NO_ROUTE": 404, "WRONG_METHOD": 405,
     "TOO_LARGE": 413, "ENCODING": 415,
 }
@@ -411,6 +412,7 @@ ROUTES = [
     ("merge", rb"/api/v2/trees/([^/]+)/history/merge\Z", ("POST",)),
     ("transplant", rb"/api/v2/trees/([^/]+)/history/transplant\Z", ("POST",)),
     ("sweep", rb"/gc/v1/sweep\Z", ("POST",)),
+    ("checkpoint", rb"/gc/v1/checkpoint\Z", ("POST",)),
 ]
 
 
@@ -595,7 +597,8 @@ class Session:
         for name, value in fields:
             if name.lower() == "content-encoding" and value.lower() != "identity":
                 raise Refused("ENCODING", "encoding not supported")
-        changing = method in ("PUT", "DELETE") or self.route in ("commit", "merge", "transplant", "sweep")
+        changing = method in ("PUT", "DELETE") or self.route in (
+            "commit", "merge", "transplant", "sweep", "checkpoint")
         place = [decoded(p) for p in parts]
         where = key = None
         if place:
@@ -818,3 +821,6 @@ class Session:
                 opened, policies.resolved(policy, moment), commits, contents, moment)
             return {"kept": kept, "openedPlace": opened, "removed": removed}
         return do
+
+    def post_checkpoint(self, where, key, query, body, moment):
+        return lambda: {"place": self.catalogue.checkpoint()}

@@ -71,6 +71,8 @@ EDITS = [
     ("catalogue.py", "(keys, self.place)", "(keys, self.place + 1)"),
     ("catalogue.py", "if back >= len(chain):", "if back >= len(chain) - 1:"),
     ("catalogue.py", "return chain[back]", "return chain[max(back - 1, 0)]"),
+    ("catalogue.py", "if self.format == 1:", "if False:"),
+    ("replies.py", "\"place\": self.catalogue.checkpoint()", "\"place\": self.catalogue.checkpoint() + 1"),
     ("replies.py", "len(digits) > 10 or", "len(digits) > 11 or"),
     ("replies.py", "int(digits) > MOST_BACK", "int(digits) >= MOST_BACK"),
     ("replies.py", "read_reference(place[0], True) if changing else read_position(place[0])", "read_position(place[0])[:2 if changing else 3]"),
@@ -127,6 +129,9 @@ def first_difference(recorded):
                 continue
             count += 1
             try:
+                if len(what) == 2:
+                    c.format = what[1]
+                    continue
                 if len(what) == 3:
                     command, moment, told = what
                     if b" contents %d " % c.sweep(*command, moment)[0] not in told:
