@@ -11,7 +11,7 @@ if [ $# -eq 0 ]; then
     set -- "$top/crates/nessie/out/nessie"
     [ -x "$1" ] || set -- "$top/unproved/nessie"
 fi
-exec python3 - "$1" <<'PYTHON'
+exec python3 - "$1" "$top/tools/fresh_journal.py" <<'PYTHON'
 import json, os, re, shutil, socket, subprocess, sys, tempfile
 
 FAULT = b"nessie: disk fault\n"
@@ -93,14 +93,28 @@ def said(path, text):
 
 
 def check_formats(held):
-    """A journal of an old format; held is one of one entry."""
+    """Checkpoints, and a journal of an old format; held is one of one entry."""
+    checkpoint = b"POST /gc/v1/checkpoint HTTP/1.1\r\n\r\n"
     old = file_of("old", held[:15] + b"\x00" + held[16:])
+    case("a checkpoint in an old format", run(["script", old], checkpoint + GET), 0, [409, 200])
     case("a migration", run(["migrate", old]), 0, b"format 2 entries 1\n")
-    tell("and its file", content_of(old) == held, "one byte is another")
-    case("a migration once more", run(["migrate", old]), 0, b"format 2 entries 1\n")
-    tell("and its file", content_of(old) == held, "none is")
-    case("a commit to it", run(["script", old], commit("b")), 0, [200])
-    tell("and its journal", entries(old) == 2, "2 entries")
+    tell("and its file", content_of(old) == held)
+    case("a checkpoint", run(["script", old], checkpoint + commit("b")), 0, [200, 200])
+    found = content_of(old)
+    tell("and its journal", entries(old) == 2 and found.startswith(held[:-1] + b"\x01") and found[len(held) + 4] == 8, "2 entries")
+    case("a session from there on", run(["script", old], GET + commit("c")), 0, [200, 200])
+    tell("and its journal", entries(old) == 3, "3 entries")
+    held, fresh = content_of(old), path_of("fresh")
+    begin = [sys.executable, sys.argv[2], "--program", program]
+    begun = subprocess.run(begin + [old, fresh], capture_output=True)
+    tell("a fresh journal from its checkpoint", begun.returncode == 0 and not begun.stderr, begun.stderr.decode().strip())
+    at = held.rindex(b"\x08\0\0\0\x01") - 5
+    tell("and both files", content_of(old) == held and content_of(fresh) == NEW[:16] + held[at:], f"{len(held)} and {len(held) - at + 16} bytes")
+    said = run(["check", old])
+    tell("and what check says of both", said[0] == 0 and said == run(["check", fresh]))
+    tell("and once more, where it is there", subprocess.run(begin + [old, fresh], capture_output=True).returncode == 1 and content_of(fresh) == NEW[:16] + held[at:])
+    tell("and without a checkpoint", subprocess.run(begin + [file_of("bare", NEW), path_of("fresher")], capture_output=True).stderr == b"fresh_journal: no checkpoint\n" and not os.path.exists(path_of("fresher")))
+    case("a migration once more", run(["migrate", old]), 0, b"format 2 entries 3\n")
     case("a migration of a new journal", run(["migrate", path_of("migrated new")]), 0, b"format 2 entries 0\n")
     tell("and its file", content_of(path_of("migrated new")) == NEW, "a new journal")
 

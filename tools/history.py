@@ -16,6 +16,8 @@ started again on the same journal. At the end the journal's entries are made aga
 - a collection that was refused met another one that was open, and contents that are told as expired were gone already where the
   reply says that the call began;
 - each entry without a reply is the call of a request whose connection was cut by a kill;
+- each checkpoint in the journal is the rules' state at its place, and an entry behind it is of a draft that was open at it or of a
+  later one;
 - places rise within each client, and no reply is older than one that had come before its request was sent;
 - nothing that was answered is lost by a kill, and what the journal held at a kill it holds to the end.
 
@@ -34,7 +36,7 @@ import time
 HERE = os.path.dirname(os.path.abspath(__file__))
 sys.path[:0] = [os.path.join(HERE, part) for part in ("histories", "clients", "../oracle")]
 
-from check import Check, Life, opened_in, payloads_of
+from check import Check, Life, bases_of, opened_in, payloads_of
 from clients import run_client
 from compare import line_of
 from serving import TOP, Server
@@ -85,8 +87,8 @@ def run_clients(server, rng, options):
     return record, lives, held, failed
 
 
-def checked(record, payloads, lives, attempts):
-    check = Check(record, payloads, lives, attempts)
+def checked(record, payloads, lives, attempts, bases=()):
+    check = Check(record, payloads, lives, attempts, bases)
     return check, check.run()
 
 
@@ -165,7 +167,7 @@ def main():
         line = subprocess.run([options.program, "check", server.journal], stdout=subprocess.PIPE).stdout
     payloads, gate = payloads_of(found)
     differences += [f"what the journal held at kill {number} isn't its beginning" for number, front in enumerate(held, 1) if not found.startswith(front)]
-    check, more = checked(record, payloads, lives, options.attempts)
+    check, more = checked(record, payloads, lives, options.attempts, bases_of(found))
     differences += more
     if not more and line != line_of(check.state):
         differences.append(f"check says {line}, the rules {line_of(check.state)}")

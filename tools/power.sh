@@ -5,7 +5,7 @@
 # each moment may leave is made: all that was synced, and of each write since then nothing, all, a front, an
 # end, some sectors of 512 bytes, zeros or any bytes, with the file as long as it was or longer. `check`,
 # the plain rules of oracle/ and a session that reads all and goes on look at each: it holds all that a reply
-# had acknowledged and at most the call in flight more, in the state that the rules give; a file is refused
+# had acknowledged and at most the call in flight more, checkpoints too, in the state that the rules give; a file is refused
 # only where it was being made. Rounds go on upon files that cuts left. The first file that breaks the rule
 # is kept, and ends it; else it ends in 0. The last lines count files and what they held, and the very last
 # says how many cuts, files and runs there were, and what they came to.

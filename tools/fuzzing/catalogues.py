@@ -47,7 +47,7 @@ def told(file):
 def answered(side, requests, path):
     """The rules' replies to requests that the program has answered; the moments of its entries are told by its journal."""
     found = content_of(path)
-    gates = journal.gates(found)
+    gates = journal.entry_gates(found)
     out = b""
     for method, target, fields, body in requests:
         place = side.catalogue.place
@@ -57,14 +57,14 @@ def answered(side, requests, path):
 
 
 def payloads_of(file):
+    """Those of the entries."""
     gates = journal.gates(file)
-    return [file[gate + 5:end] for gate, end in zip(gates, gates[1:])]
+    return [file[gate + 5:end] for gate, end in zip(gates, gates[1:]) if not journal.is_base(file, gate)]
 
 
 def last_moment(file):
     """That of a file's last entry, or 0."""
-    gates = journal.gates(file) if file else [0]
-    return journal.moment_at(file, gates[-2]) if len(gates) > 1 else 0
+    return journal.last_moment(file)
 
 
 def wire(method, target, body):
@@ -96,13 +96,13 @@ def go_on(program, path, c):
     Says whether the commit was accepted, as it is where the journal's draft numbers leave one.
     """
     requests = all_reads(c) + [one_commit(c), ("GET", b"/api/v2/trees/main/history?max-records=2", [], b"")]
-    before, place = content_of(path), c.place
+    before, place, held = content_of(path), c.place, len(c.log)
     sent = b"".join(wire(method, target, body) for method, target, _, body in requests)
     _, output = program.run(["script", path], sent, {0})
     need_same("a session on the journal", answered(replies.Session(c), requests, path), output)
     after = content_of(path)
-    gate = journal.gates(after)[place]
+    gate = journal.entry_gates(after)[place]
     need_same("the journal's old entries", before[:gate], after[:gate] if before else b"")
     need_same("check after the session", line_of(c), program.run(["check", path], wants={0})[1])
-    need_same("the journal's new entries", [journal.payload(entry, entry[3]) for entry in c.log[place:]], payloads_of(after)[place:])
+    need_same("the journal's new entries", [journal.payload(entry, entry[3]) for entry in c.log[held:]], payloads_of(after)[place:])
     return c.place == place + 1

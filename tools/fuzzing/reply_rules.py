@@ -14,6 +14,7 @@ MESSAGES = {
     "BAD_REQUEST": BY_BYTES | {"not a branch", "default branch", "other type", "not consecutive"},
     "REFERENCE_NOT_FOUND": {"reference not found"},
     "REFERENCE_ALREADY_EXISTS": {"reference exists"},
+    "OLD_FORMAT": {"old format"},
     "CONTENT_NOT_FOUND": {"content absent", "content expired"},
     "NO_ROUTE": {"no such path"},
     "WRONG_METHOD": {"method not allowed"},
@@ -26,7 +27,7 @@ ACCEPTED = [{"addedContents", "targetBranch"}, {"kept", "openedPlace", "removed"
 READ = [
     {"actualApiVersion", "defaultBranch", "maxSupportedApiVersion", "minSupportedApiVersion", "noAncestorHash"},
     {"hasMore", "references"}, {"effectiveReference", "entries", "hasMore"}, {"hasMore", "logEntries"},
-    {"contents", "effectiveReference"}, {"content", "effectiveReference"},
+    {"contents", "effectiveReference"}, {"content", "effectiveReference"}, {"place"},
 ]
 
 

@@ -49,7 +49,7 @@ def need_journal(case, path, before, place):
     line, status, c = told(after)
     for _ in range(2):
         need_same("check after the session", (status, line), case.program.run(["check", path]))
-    need_same("the place at the end, by the journal", len(c.log), place)
+    need_same("the place at the end, by the journal", c.place, place)
 
 
 def requests(case):

@@ -6,7 +6,7 @@ import time
 
 import drill
 import reply_rules
-from catalogues import last_moment, line_of, replies, told
+from catalogues import journal, last_moment, line_of, replies, told
 from mutations import changed, cut, doubled, flipped, inserted, moved, noise, removed, renumbered, mutated
 from program import Wrong, content_of, need_same, shown, write
 
@@ -14,9 +14,10 @@ NUMBERS = ["0", "1", "2", "8", "64", "65", "007", "-1", "+1", "1.5", "x", "", " 
 FEW = ["0", "1", "2", "37", "400"]
 ADDRESSES = ["nowhere", "127.0.0.1", ":0", "127.0.0.1:70000", "", "[::1", "256.1.1.1:1", "127.0.0.1:-1", "203.0.113.1:80", "127.0.0.1:0"]
 STRANGE = [b"--", b"-", b"-h", b"--help", b"-V", b"--version", b"help", b"", b"=", b"--seed", b"--commits=3", b"--workers=2", b"--attempts", b"--connections=1",
-           b"script", b"serve", b"gc", b"check", b"drill", b"\xff\xfe", b"\xc3\xa9", b"a" * 120000, b"--seed=", b"--=1", b"-s", b"*=1", b"main=", b"NONE", b"P1D"]
+           b"script", b"serve", b"gc", b"check", b"migrate", b"drill", b"\xff\xfe", b"\xc3\xa9", b"a" * 120000, b"--seed=", b"--=1", b"-s", b"*=1", b"main=", b"NONE", b"P1D"]
 LINES = {
     "check": rb"entries \d+ references \d+ commits \d+ contents \d+ head [0-9a-f]{64}\n\Z",
+    "migrate": rb"format 2 entries \d+\n\Z",
     "gc": rb"kept \d+ removed \d+ place \d+\n\Z",
     "drill": rb"commits \d+ keys \d+ contents \d+ place \d+ head [0-9a-f]{64}\n\Z",
 }
@@ -28,7 +29,7 @@ def command(case, maker):
     """The words of a command."""
     rng = case.rng
     name = rng.choice(["whole", "whole", "damaged", "empty", "absent", "folder", "none/journal"])
-    what = rng.choice(["script", "check", "gc", "gc", "drill", "serve"])
+    what = rng.choice(["script", "check", "migrate", "gc", "gc", "drill", "serve"])
     number = lambda good: rng.choice(good if rng.random() < 0.8 else NUMBERS)
     if what == "drill":
         pairs = [["--seed", number(NUMBERS[:4])], ["--commits", number(FEW)]]
@@ -176,6 +177,9 @@ def need_done(words, status, output, old, new, c):
             wanted, line = (1, b"nessie: usage\n") if replies_of(words, c, 0)[0] == 1 else (3, line)
         else:
             wanted, line = replies_of(words, there, last_moment(new.get(name, b"")))
+    elif what == "migrate" and there is not None:
+        line = b"format 2 entries %d\n" % there.place
+        need_same("the migrated journal", journal.newer(old.get(name, b"")), new[name])
     elif what == "script" and there is not None:
         line = replies.Session(there).answer("GET", b"/api/v2/config", [], b"", 0)
     need_same(what, (wanted, line), (status, output))

@@ -19,17 +19,34 @@ class Damaged(Exception):
 
 
 def payloads_of(held):
-    """The payloads of a journal's bytes, and the offset of its closed gate."""
+    """The payloads of the entries in a journal's bytes, without those of checkpoints, and the offset of its closed gate."""
     if not held.startswith(journal.HEADER):
         raise Damaged("no header")
     at, out = len(journal.HEADER), []
     while held[at:at + 1] == b"\x01":
         length = int.from_bytes(held[at + 1:at + 5], "big")
-        out.append(held[at + 5:at + 5 + length])
+        if not journal.is_base(held, at):
+            out.append(held[at + 5:at + 5 + length])
         at += 5 + length
     if at >= len(held):
         raise Damaged(f"no gate at {at}")
     return out, at
+
+
+def bases_of(held):
+    """The payload of each checkpoint in a journal's bytes, with the number of entries before it."""
+    out, entries = [], 0
+    gates = journal.gates(held)
+    for gate, end in zip(gates, gates[1:]):
+        if journal.is_base(held, gate):
+            out.append((entries, held[gate + 5:end]))
+        else:
+            entries += 1
+    return out
+
+
+def kind_of(sent):
+    return "checkpoint: " if sent.checkpoints else "change: " if sent.changes else "read: "
 
 
 def fields_of(payload):
@@ -75,8 +92,8 @@ class Life:
 
 
 class Check:
-    def __init__(self, record, payloads, lives, attempts):
-        self.record, self.payloads, self.lives, self.attempts = record, payloads, lives, attempts
+    def __init__(self, record, payloads, lives, attempts, bases=()):
+        self.record, self.payloads, self.lives, self.attempts, self.bases = record, payloads, lives, attempts, bases
         self.state = rules.Catalogue()
         self.heads = []  # at each place, the heads of the references
         self.there = collections.defaultdict(list)  # of each content, the places at which it came and went
@@ -96,6 +113,8 @@ class Check:
             self.heads.append({name: value[1] for name, value in self.state.references.items()})
             for sent in self.others.pop(place, []):
                 self.other(sent)
+            for spelled in [spelled for before, spelled in self.bases if before == place]:
+                self.base(place, spelled)
             if place < len(self.payloads) and not self.entry(place + 1):
                 break
         return self.differences
@@ -182,14 +201,14 @@ class Check:
     def other(self, sent):
         """A reply that made no entry, on the state at its place."""
         place = self.state.place
-        if sent.collects and sent.status == 409:
+        if (sent.collects or sent.checkpoints) and sent.status == 409:
             self.sweep_open(sent)
             return
         wanted, outcome = self.answered(copy_of(self.state) if sent.changes else self.state, sent)
         if outcome == "EXPIRED" and wanted != sent.raw and b'"EXPIRED"' in sent.raw:
             self.expired(sent, sent.json["errorDetails"]["openedPlace"])
         elif wanted == sent.raw:
-            self.counts[("change: " if sent.changes else "read: ") + outcome] += 1
+            self.counts[kind_of(sent) + outcome] += 1
         elif sent.status == 507:
             self.counts["no memory"] += 1
         elif sent.changes and b'"RETRIES_SPENT"' in sent.raw:
@@ -211,9 +230,9 @@ class Check:
         return bisect.bisect_right(came_and_went, place) % 2 == 1
 
     def sweep_open(self, sent):
-        """A collection was refused: another client's, opened where the reply says, hadn't settled yet."""
+        """A collection or a checkpoint was refused: another client's, opened where the reply says, hadn't settled yet."""
         place, opened = self.state.place, (sent.json.get("errorDetails") or {}).get("place")
-        self.counts["change: SWEEP_OPEN"] += 1
+        self.counts[kind_of(sent) + "SWEEP_OPEN"] += 1
         fits = opened is not None and opened <= place
         fits = fits and self.refusal(sent, rules.Refused("SWEEP_OPEN", "sweep open", opened)) == sent.raw
         if not fits or not any(self.is_open(other, place, opened) for other in self.sweeps if other.client != sent.client and other.began <= sent.ended and sent.began <= other.ended):
@@ -224,6 +243,22 @@ class Check:
         if other.raw is None or other.status == 507:
             return True
         return other.accepted and other.place > place and opened_in(self.payloads[other.place - 1]) == opened
+
+    def base(self, place, spelled):
+        """A checkpoint: the state at its place, with the drafts that were open; an entry behind it is of one of these or of a later one."""
+        try:
+            _, draft, left, _, _, _ = reading.read_at(0, reading.Reader.checkpoint, spelled)
+        except reading.Unopened:
+            return self.differs("a checkpoint that can't be read, behind entry", place)
+        if journal.checkpoint(self.state, left) != spelled:
+            self.differs("a checkpoint of another state, behind entry", place)
+        late = [fields_of(payload)[1] for payload in self.payloads[place:]]
+        late = [number for number in late if 0 < number <= draft]
+        if not set(late) <= set(left):
+            self.differs("an entry behind a checkpoint at place", place, "of a draft that wasn't open at it:", *late)
+        self.counts["checkpoints in the journal"] += 1
+        self.counts["drafts that were open at checkpoints"] += len(left)
+        self.counts["entries of such drafts"] += len(late)
 
     def retries(self, sent, heads, outcome):
         """A call that gave up: each head is its branch's at its place, and each differs from the one before."""

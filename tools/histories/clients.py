@@ -131,6 +131,9 @@ class Requests:
         cutoffs = [{"pattern": pattern, "cutoff": self.rng.choice(CUTOFFS)} for pattern in patterns]
         return "POST", "/gc/v1/sweep", {"defaultCutoff": self.rng.choice(CUTOFFS), "cutoffs": cutoffs}
 
+    def checkpoint(self):
+        return "POST", "/gc/v1/checkpoint", self.rng.choice([None, {}])
+
     def listing(self):
         return "GET", "/trees" + self.rng.choice(["", "?max-records=3"]), None
 
@@ -156,7 +159,7 @@ class Requests:
                                 ("POST", "/gc/v1/sweep", {"defaultCutoff": "0"})])
 
     def one(self):
-        kinds = {"commit": 34, "merge": 11, "transplant": 5, "create": 4, "assign": 4, "restart": 0.4, "delete": 2, "collect": 1, "listing": 4, "tree": 6,
+        kinds = {"commit": 34, "merge": 11, "transplant": 5, "create": 4, "assign": 4, "restart": 0.4, "delete": 2, "collect": 1, "checkpoint": 0.5, "listing": 4, "tree": 6,
                  "entries": 9, "history": 8, "contents": 4, "content": 8, "odd": 1}
         method, target, body = getattr(self, self.rng.choices(list(kinds), list(kinds.values()))[0])()
         target = target if target.startswith("/gc/") else "/api/v2" + target

@@ -39,12 +39,17 @@ class Sent(NamedTuple):
     def changes(self):
         """Whether it asks for a change."""
         path = self.target.partition(b"?")[0]
-        return self.method in ("PUT", "DELETE") or self.method == "POST" and not path.endswith(b"/contents")
+        return self.method in ("PUT", "DELETE") or self.method == "POST" and not path.endswith((b"/contents", b"/checkpoint"))
 
     @property
     def collects(self):
         """Whether it asks for a collection."""
         return self.method == "POST" and self.target == b"/gc/v1/sweep"
+
+    @property
+    def checkpoints(self):
+        """Whether it asks for a checkpoint."""
+        return self.method == "POST" and self.target == b"/gc/v1/checkpoint"
 
     @property
     def accepted(self):

@@ -48,28 +48,29 @@ class Cuts:
             recording.without(0.5)
         self.counts["sessions on %s" % ("a journal that a cut had left" if first is not None else "a new journal")] += 1
         self.counts["requests and collections by words"] += recording.requests
-        self.counts["entries"] += recording.c.place - recording.acknowledged[0]
+        self.counts["entries"] += recording.c.place - recording.acknowledged[0][0]
+        self.counts["checkpoints"] += len(recording.c.bases)
         self.counts["disk calls"] += sum(event.kind in "wtsd" for event in recording.events)
         return recording
 
     def opened(self, image, recording):
-        """How many entries an image opens with, a front of those that were asked for, after which a session goes on; None where it is refused."""
+        """The places of an image's last entry and of its checkpoint, the entries between being those that were asked for, after which a session goes on; None where it is refused."""
         path = write(self.path("image"), image)
         line, status, c = told(image)
         need_same("check of the image", (status, line), self.program.run(["check", path]))
         if c is None:
             return None
-        place, payloads = len(c.log), [journal.payload(entry, entry[3]) for entry in c.log]
-        need_same("the image's entries", recording.payloads()[:place], payloads)
+        place, first, payloads = c.place, c.first, [journal.payload(entry, entry[3]) for entry in c.log]
+        need_same("the image's entries", recording.payloads(first, place), payloads)
         if place in recording.lines:
             need_same("the image's state", recording.lines[place], line)
         if not go_on(self.program, path, c):
             raise Wrong("a commit upon the image is refused")
-        return place
+        return place, first
 
     def cut(self, recording, number, seen):
         """The images of a cut after so many events."""
-        events, least = recording.events[:number], recording.acknowledged[number]
+        events, (least, base) = recording.events[:number], recording.acknowledged[number]
         replied = max((at for at, event in enumerate(events) if event.kind == "r"), default=-1)
         most = least + any(event.kind == "w" and event.at >= len(journal.HEADER) for event in events[replied + 1:])
         made = bool(recording.first) or any(event.kind == "s" for event in events[first_write(events):])
@@ -81,17 +82,23 @@ class Cuts:
                 if image not in seen:
                     seen[image] = self.opened(image, recording)
                     self.counts["images that differ"] += 1
-                self.judge(seen[image], least, most, made)
+                self.judge(seen[image], least, most, base, made)
             except Wrong as wrong:
                 raise Wrong("round %d, a cut after %d events, of what wasn't synced %s: %s" % (self.rounds, number, ", ".join(ways), wrong))
 
-    def judge(self, place, least, most, made):
-        if place is None:
+    def judge(self, found, least, most, base, made):
+        if found is None:
             if made:
                 raise Wrong("a journal that was made is refused, with %d entries acknowledged" % least)
             self.counts["refused before the journal was made"] += 1
-        elif not least <= place <= most:
+            return
+        place, first = found
+        if not least <= place <= most:
             raise Wrong("%d entries, where %d were acknowledged and %d asked for" % (place, least, most))
+        elif first < base or first > base and place > least:
+            raise Wrong("a checkpoint at %d, where the last that was acknowledged is at %d" % (first, base))
+        elif first > base:
+            self.counts["with the checkpoint in flight"] += 1
         else:
             self.counts["with the call in flight" if place > least else "with what was acknowledged"] += 1
 
@@ -104,7 +111,7 @@ class Cuts:
                 break
             self.counts["cuts"] += 1
             self.cut(recording, number, seen)
-        opened = [image for image, place in seen.items() if place is not None and place < 40]
+        opened = [image for image, found in seen.items() if found is not None and found[0] < 40]
         return self.rng.choice(opened) if opened and self.rng.random() < 0.65 else None
 
     def report(self, seconds, wrong):

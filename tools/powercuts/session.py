@@ -13,7 +13,7 @@ from images import done, events_of
 from program import Wrong, content_of, environment, need_same
 
 FIRST = {"create", "commit"}
-CHANGES = {"create", "assign", "delete", "commit", "merge", "transplant", "sweep"}
+CHANGES = {"create", "assign", "delete", "commit", "merge", "transplant", "sweep", "checkpoint"}
 
 
 class Running(compare.Program):
@@ -33,7 +33,7 @@ def large_commit(rng):
 
 
 class Recording:
-    """A journal, from what it held at first; what was done to it, and the place that was acknowledged after each call."""
+    """A journal, from what it held at first; what was done to it, and the places that were acknowledged after each call: of the last entry, and of the last checkpoint."""
 
     def __init__(self, program, library, path, rng):
         self.program, self.library, self.path, self.rng = program, library, path, rng
@@ -41,10 +41,10 @@ class Recording:
         self.c = told(self.first or b"")[2]
         self.lines = {self.c.place: line_of(self.c)}
         self.events = []
-        self.acknowledged = [self.c.place]
+        self.acknowledged = [(self.c.place, self.c.first)]
         self.log = path + ".log"
         self.read = 0
-        self.maker = random_requests.Requests(rng, self.c, rng.random() < 0.6)
+        self.maker = random_requests.Requests(rng, self.c, rng.random() < 0.6, rng.random() < 0.6)
         self.requests = 0
 
     def env(self):
@@ -52,22 +52,25 @@ class Recording:
         moment = max([BEGUN] + [entry[3] for entry in self.c.log]) + 10_000_000
         return environment(LD_PRELOAD=self.library, RECORD_JOURNAL=self.path, RECORD_LOG=self.log, RECORD_CLOCK=str(moment))
 
-    def note(self, place):
-        """Takes the calls since the last look: what goes to the output first acknowledges this place."""
+    def note(self):
+        """Takes the calls since the last look: what goes to the output first acknowledges what holds now."""
+        now = self.c.place, self.c.first + (self.c.bases[-1] if self.c.bases else 0)
         found = content_of(self.log)[self.read:]
         self.read += len(found)
         for event in events_of(found):
             if event.kind == "x":
                 raise SystemExit("the journal is changed by a call that isn't recorded: %d" % event.at)
             self.events.append(event)
-            self.acknowledged.append(place if event.kind == "r" else self.acknowledged[-1])
+            self.acknowledged.append(now if event.kind == "r" else self.acknowledged[-1])
 
     def request(self):
         if self.rng.random() < 0.12:
             return large_commit(self.rng)
+        if self.maker.checkpointing and self.rng.random() < 0.15:
+            return "POST", b"/gc/v1/checkpoint", [], b""
         while True:
             kind, method, target, fields, body = self.maker.one()
-            if kind in (CHANGES if len(self.c.log) > 3 else FIRST) or kind != "oddity" and self.rng.random() < 0.02:
+            if kind in (CHANGES if self.c.place > 3 else FIRST) or kind != "oddity" and self.rng.random() < 0.02:
                 return method, target, fields, body
 
     def session(self, count):
@@ -80,7 +83,7 @@ class Recording:
                 got = link.reply(True)
                 need_same("a reply", answered(side, [asked], self.path), got)
                 self.lines[self.c.place] = line_of(self.c)
-                self.note(self.c.place)
+                self.note()
                 self.requests += 1
             need_same("the end of a session", (b"", 0), link.ended())
         except compare.Stopped as stopped:
@@ -97,7 +100,7 @@ class Recording:
         moment = last_moment(content_of(self.path)) if os.path.exists(self.path) else 0
         need_same("gc", replies.collected(self.c, words, moment)[::-1], (status, output))
         self.lines[self.c.place] = line_of(self.c)
-        self.note(self.c.place)
+        self.note()
         self.requests += 1
         self.end()
 
@@ -109,8 +112,9 @@ class Recording:
         if not self.first and next((event.kind for event in self.events if event.kind in "wd"), "d") != "d":
             raise Wrong("a new journal gets its first bytes before its folder is synced")
 
-    def payloads(self):
-        return [journal.payload(entry, entry[3]) for entry in self.c.log]
+    def payloads(self, first, last):
+        """Those of the entries behind one place, up to another."""
+        return [journal.payload(entry, entry[3]) for entry in self.c.log[first - self.c.first:last - self.c.first]]
 
     def without(self, chance):
         """The same with some syncs left out, as if the program hadn't made them."""
