@@ -66,6 +66,15 @@ module _ {X : Type 0} where
   length_of_drop (suc n) [] le = absurd (omega arith)
   length_of_drop (suc n) (x ∷ xs) le = omega (arith, length_of_drop n xs (omega arith))
 
+  -- two parts of a list, of which the first has so many elements
+  pub seam : (n : ℕ) (front back whole : List X) → front ++ back ≡ whole → length front ≡ n → (front ≡ take n whole) × (back ≡ drop n whole)
+  seam zero [] back whole e l = (refl, e)
+  seam zero (x ∷ front) back whole e l = absurd (omega arith)
+  seam (suc n) [] back whole e l = absurd (omega arith)
+  seam (suc n) (x ∷ front) back whole e l =
+      let parts = seam n front back (front ++ back) refl (omega arith) in
+      rw (← e) (ap (λ (a : List X). x ∷ a) parts.0, parts.1)
+
   pub no_items : (xs : List X) → length xs ≡ 0 → xs ≡ []
   no_items [] e = refl
   no_items (x ∷ xs) e = absurd (omega arith)

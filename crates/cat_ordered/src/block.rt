@@ -11,6 +11,7 @@ ghost use Rattle.cat_ordered.specs.Places;
 ghost use Rattle.cat_ordered.specs.Shared.{values};
 
 use crate::change::Change;
+use crate::next::next_of;
 use crate::pair::Pair;
 use crate::piece::{LEAST, MOST, Made, Piece};
 use crate::seek::Seek;
@@ -251,6 +252,28 @@ fn change_pairs<K: Ord + Drop, V: Drop>(
     }
 }
 
+/// Pairs that are too many for one block, as blocks of 16 and a last one of at most 32.
+fn cut_blocks<K: Drop, V: Drop>(
+    alloc: Global,
+    pairs: Vec<Pair<K, V>>,
+) -> Result<Vec<Arc<Block<K, V>>>, AllocError>
+    requires { 32 < length pairs.items }
+    ensures { IfOk result
+        (λ v. Cuts (λ b. b.pairs.items) (λ b. length b.pairs.items) 16 pairs.items
+        (length pairs.items) (values v.items)) }
+{
+    let mut out = Vec::new(alloc);
+    let mut rest = pairs.into_iter();
+    while rest.len() > MOST {
+        let front = next_of(alloc, &mut rest, LEAST)?;
+        out.push(Arc::new(alloc, Block { pairs: front })?)?;
+    }
+    let left = rest.len();
+    let last = next_of(alloc, &mut rest, left)?;
+    out.push(Arc::new(alloc, Block { pairs: last })?)?;
+    Ok(out)
+}
+
 /// Pairs as blocks of at most 32.
 fn blocks<K: Drop, V: Drop>(
     alloc: Global,
@@ -260,18 +283,14 @@ fn blocks<K: Drop, V: Drop>(
         (λ v. Cuts (λ b. b.pairs.items) (λ b. length b.pairs.items) 16 pairs.items
         (length pairs.items) (values v.items)) }
 {
-    let mut out = Vec::new(alloc);
-    let mut rest = pairs;
-    while rest.len() > MOST {
-        let others = rest.split_off(LEAST)?;
-        rest.shrink_to_fit();
-        out.push(Arc::new(alloc, Block { pairs: rest })?)?;
-        rest = others;
+    if pairs.len() > MOST {
+        return cut_blocks(alloc, pairs);
     }
-    if rest.is_empty() {
+    let mut out = Vec::new(alloc);
+    if pairs.is_empty() {
         return Ok(out);
     }
-    out.push(Arc::new(alloc, Block { pairs: rest })?)?;
+    out.push(Arc::new(alloc, Block { pairs })?)?;
     Ok(out)
 }
 

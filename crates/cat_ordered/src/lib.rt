@@ -2,7 +2,7 @@
 //! values, keys ascending, and never changes: changes make a new map, which shares with the old one
 //! all but the blocks that they meet and the path to these. A map that is given up for the one after
 //! a change is changed in its own memory, as far as no other map shares it. Pairs stand in blocks of
-//! 16 to 64, under runs of 16 to 64 pieces each; where there is only one block or run it may be
+//! 16 to 32, under runs of 16 to 32 pieces each; where there is only one block or run it may be
 //! smaller. Each call answers what its definition says of the list; a look-up takes at most
 //! `2 * log2(n + 1)` comparisons of keys, and a change copies at most 512 pairs.
 #![tactic(auto)]
@@ -10,6 +10,7 @@
 mod block;
 pub mod change;
 mod growing;
+mod next;
 pub mod ordered_map;
 mod owned;
 pub mod pair;

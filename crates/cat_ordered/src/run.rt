@@ -6,6 +6,7 @@ ghost use Rattle.cat_ordered.specs.Pieces.{AreFine, Cuts};
 ghost use Rattle.cat_ordered.specs.Shared.{values};
 
 use crate::change::Change;
+use crate::next::next_of;
 use crate::owned::Grown;
 use crate::pair::Pair;
 use crate::piece::{LEAST, MOST, Made, Piece};
@@ -59,6 +60,31 @@ fn run_of<K: Ord, V, P: Piece<K, V>>(pieces: Vec<Arc<P>>) -> Result<Run<K, V, P>
     })
 }
 
+/// Pieces that are too many for one run, as runs of 16 and a last one of at most 32.
+fn cut_runs<K: Ord, V, P: Piece<K, V>>(
+    alloc: Global,
+    pieces: Vec<Arc<P>>,
+) -> Result<Vec<Arc<Run<K, V, P>>>, AllocError>
+    requires fine { AreFine P.entries P.size P.least (values pieces.items) }
+    requires many { 32 < length pieces.items }
+    ensures { IfOk result
+        (λ v. Cuts (λ r. r.entries) (λ r. r.size) (16 * P.least)
+        (flat_map P.entries (values pieces.items)) (length pieces.items) (values v.items)) }
+{
+    let mut out = Vec::new(alloc);
+    let mut rest = pieces.into_iter();
+    while rest.len() > MOST {
+        let front = next_of(alloc, &mut rest, LEAST)?;
+        let run = run_of(front)?;
+        out.push(Arc::new(alloc, run)?)?;
+    }
+    let left = rest.len();
+    let last = next_of(alloc, &mut rest, left)?;
+    let run = run_of(last)?;
+    out.push(Arc::new(alloc, run)?)?;
+    Ok(out)
+}
+
 /// Pieces as runs of at most 32.
 fn runs<K: Ord, V, P: Piece<K, V>>(
     alloc: Global,
@@ -69,20 +95,15 @@ fn runs<K: Ord, V, P: Piece<K, V>>(
         (λ v. Cuts (λ r. r.entries) (λ r. r.size) (16 * P.least)
         (flat_map P.entries (values pieces.items)) (length pieces.items) (values v.items)) }
 {
-    let mut out = Vec::new(alloc);
-    let mut rest = pieces;
-    while rest.len() > MOST {
-        let others = rest.split_off(LEAST)?;
-        rest.shrink_to_fit();
-        let run = run_of(rest)?;
-        out.push(Arc::new(alloc, run)?)?;
-        rest = others;
+    if pieces.len() > MOST {
+        return cut_runs(alloc, pieces);
     }
-    if rest.is_empty() {
+    let mut out = Vec::new(alloc);
+    if pieces.is_empty() {
         return Ok(out);
     }
-    let last = run_of(rest)?;
-    out.push(Arc::new(alloc, last)?)?;
+    let run = run_of(pieces)?;
+    out.push(Arc::new(alloc, run)?)?;
     Ok(out)
 }
 
