@@ -96,7 +96,7 @@ module _ (digest : Digest) (a : State) (w : IsWithin a) where
       subst (λ (s : State). IsWithin (record s { place = s.place + 1; references = moved_reference s.references moved })) (sym new)
       (next_within a (moved_reference a.references moved) ((hash, c) ∷ a.commits) present log (moved_low a moved w) (omega (arith, many)) (both_true _ _ (le-leb _ _ keys) w.keys) contents)
 
-  commit_within : (c : CommitRequest) (draft moment : ℕ) → WithinOn (step_commit digest a c draft moment)
+  pub commit_within : (c : CommitRequest) (draft moment : ℕ) → WithinOn (step_commit digest a c draft moment)
   unfolding step_commit given_ops request_commit
   commit_within c draft moment =
       bind (commit_opening digest a c) _ (λ (branch, expected) e.

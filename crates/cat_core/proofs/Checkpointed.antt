@@ -9,6 +9,7 @@ use Rattle.cat_codes.specs.Code.{Code, whole}
 use Rattle.cat_checks.specs.Histories.{book_at}
 use Rattle.cat_checks.specs.Upheld.{AreHashed, Upholds}
 use Rattle.cat_frames.specs.Bases.{checkpoint_of, draft_of}
+use Rattle.cat_frames.specs.Standing.{has_main, may_start}
 use Rattle.cat_frames.specs.Checkpoints.{checkpoint_code, has_hash, have_hashes, is_open_draft, record_hash}
 use Rattle.cat_keeper.specs.declared.keeper.Keeper.{Ghosts}
 use Rattle.cat_keeper.specs.Bases.{bases_in}
@@ -17,6 +18,7 @@ use Rattle.cat_keeper.specs.Moments.{started, weaker}
 use Rattle.cat_keymap.specs.KeyOrder.{both_true}
 use Rattle.cat_model.specs.declared.log_entry.LogEntry.{LogEntry}
 use Rattle.cat_model.specs.declared.limits.Quantity.TheVariants as quantities
+use Rattle.cat_model.specs.declared.reference.Reference.{Reference}
 use Rattle.cat_model.specs.declared.refusal.Refusal.{Refusal}
 use Rattle.cat_model.specs.declared.refusal.Refusal.TheVariants as refusals
 use Rattle.cat_model.specs.declared.refusal.Refused.{Refused}
@@ -46,13 +48,15 @@ use Rattle.cat_core.specs.Checkpointing.{Checkpoints, IsCheckpoint, MayBase, Not
 use Rattle.cat_core.specs.Kept.{KeepsBase}
 use Rattle.cat_core.specs.Made.{based_at, fallen_by, told_at}
 use Rattle.cat_core.specs.Records.{IsCheckpointAt}
-use Rattle.cat_core.specs.Stored.{AreWaiting, IsDownAt, IsInStep, IsSound, IsUp, Stored, draft_held, failed, held_mark, held_open}
+use Rattle.cat_core.specs.Stored.{AreWaiting, GoesBehind, IsDownAt, IsInStep, IsSound, IsUp, Stored, draft_held, failed, held_mark, held_open, sweep_held}
+use Rattle.cat_core.proofs.Behind.{behind_kept}
 use Rattle.cat_core.proofs.BaseCounts.{bases_based, bases_not_based, bases_stayed}
 use Rattle.cat_core.proofs.Making.{stored_at}
 use Rattle.cat_core.proofs.NumberSets.{set_all, set_rises}
 use Rattle.cat_core.proofs.Rebasing.{based_fell, based_kept, based_stayed}
 use Rattle.cat_core.proofs.Records.{kind_of}
 use Rattle.cat_core.proofs.Sound.{state_upholds}
+use Rattle.cat_core.proofs.StartKept.{main_there}
 
 -- ---- what may be spelled
 
@@ -110,6 +114,7 @@ pub record KeptSo {K T : Type 0} (members : Ghosts K) (old new : K) (kept : Resu
   pub spells : Spells (base_of_state state draft drafts) kept
   pub reads : IfWritten kept (whole (checkpoint_code sha256) (base_of_state state draft drafts) ≡ Ok (checkpoint_of state draft drafts))
   pub once : IsTrue (are_distinct state.present)
+  pub may : IsTrue (may_start sha256 state)
   pub bases : Bases members old new state.place (base_of_state state draft drafts) kept
 
 module _ {K : Type 0} (members : Ghosts K)
@@ -143,10 +148,13 @@ module _ {K : Type 0} (members : Ghosts K)
       once = subst (λ (s : State). are_distinct s.present ≡ true) (sym led) once;
     }
 
+    may_here : (book_at o (reverse book.log)).state ≡ book.state → may_start sha256 book.state ≡ true → may_start sha256 (book_at o (reverse book.log)).state ≡ true
+    may_here led may = subst (λ (s : State). may_start sha256 s ≡ true) (sym led) may
+
     -- the store is in step with its keeper
     step_by : {T : Type 0} (caller place : ℕ) (kept : Result T Unmade) → IsInStep members o book old None → (book_at o (reverse book.log)).state ≡ book.state → KeptHere kept → IsInStep members o book new (fallen_by caller (members.faults new) None (based_at place kept))
-    step_by caller place (Ok x) was led so = based_kept members old new o book was payload numbers (kind_of payload (checkpoint_of book.state last numbers) so.reads) (is_here led so.reads so.once) so.bases
-    step_by caller place (Err NotKept) was led so = based_fell members old new o book was payload numbers caller (is_here led so.reads so.once) so.bases
+    step_by caller place (Ok x) was led so = based_kept members old new o book was payload numbers (kind_of payload (checkpoint_of book.state last numbers) so.reads) (is_here led so.reads so.once) (may_here led so.may) so.bases
+    step_by caller place (Err NotKept) was led so = based_fell members old new o book was payload numbers caller (is_here led so.reads so.once) (may_here led so.may) so.bases
     step_by caller place (Err (Failed failure)) was led so = based_stayed members old new o book was so.bases
 
     pub based_step : {T : Type 0} (caller place : ℕ) (kept : Result T Unmade) (made : Result Told Unmade) (fallen after_fallen : Option Fallen) → IsInStep members o book old fallen → fallen ≡ None → made ≡ based_at place kept → after_fallen ≡ fallen_by caller (members.faults new) fallen made
@@ -154,6 +162,12 @@ module _ {K : Type 0} (members : Ghosts K)
     based_step caller place kept made fallen after_fallen was none is fell led so =
         let ends : fallen_by caller (members.faults new) None (based_at place kept) ≡ after_fallen = (λ i. fallen_by caller (members.faults new) (sym none i) (sym is i)) ∙ sym fell in
         subst (IsInStep members o book new) ends (step_by caller place kept (subst (IsInStep members o book old) none was) led so)
+
+    -- and so stands what may come behind its payloads
+    pub based_behind : {T : Type 0} (kept : Result T Unmade) (sweep : Option OpenSweep) → sweep ≡ None → IsSound o book (map draft_held held) → KeptHere kept → GoesBehind members o (map draft_held held) sweep old → GoesBehind members o (map draft_held held) sweep new
+    based_behind kept sweep none sound so was =
+        subst (λ (s : Option OpenSweep). GoesBehind members o (map draft_held held) s new) (sym none)
+        (behind_kept members o old new book (map draft_held held) book.state.place payload kept sound so.reads so.bases (subst (λ (s : Option OpenSweep). GoesBehind members o (map draft_held held) s old) none was))
 
     -- what one might have left before is one of the payloads without more
     without : (c : Option (List (List ℕ))) → members.down old ≡ None → members.may_leave old c → IfSome (members.told old) (λ ps. WithOrWithout ps payload c)
@@ -256,3 +270,14 @@ module _ {K : Type 0} (members : Ghosts K)
 -- a store that is down isn't up
 pub down_is_not_up : {K A : Type 0} (s : Stored K) (count : ℕ) → IsDownAt s count → IsUp s → A
 down_is_not_up s count is up = let no : ◌≡◌ {A = Option FailedAppend} None (Some is.0) = sym up ∙ is.1 in absurd cc
+
+-- no sweep is held
+pub unswept_inside : {K : Type 0} (s x : Stored K) (held : Option OpenSweep) → s ≡ x → s.left_open.sweep ≡ option_map sweep_held held → x.left_open.sweep ≡ None → held ≡ None
+unswept_inside s x None same is none = refl
+unswept_inside {K} s x (Some o) same is none =
+    let no : Some (sweep_held o) ≡ None = sym is ∙ ap (λ (z : Stored K). z.left_open.sweep) same ∙ none in
+    absurd cc
+
+-- its state has its default branch
+pub has_its_main : (o : Opened) (book : Book) (left_open : List OpenDraft) (references : List Reference) → IsSound o book left_open → references ≡ book.state.references → has_main references ≡ true
+has_its_main o book left_open references sound is = subst (λ (l : List Reference). has_main l ≡ true) (sym is) (main_there book.state.references (state_upholds o book left_open sound).main)

@@ -1,5 +1,5 @@
 -- What settling a sweep answers and leaves.
-use Rattle.std.proofs.Common.{◌≡◌, ℕ, List, Option, Some, None, Result, Err, true, refl, sym, ap, ◌∙◌, subst}
+use Rattle.std.proofs.Common.{◌≡◌, ◌≤◌, ℕ, List, Option, Some, None, Result, Err, true, refl, sym, ap, ◌∙◌, subst}
 use Rattle.sha2.specs.Sha256.{sha256}
 use Rattle.cat_checks.specs.Legal.{may_be_swept}
 use Rattle.cat_frames.specs.Sweeps.{sweep_is_logged}
@@ -98,6 +98,9 @@ module _ {K : Type 0} (s after : Stored K) (o : OpenSweep) (c : Closing) (is : s
 
   pub walked_it : (marks : Marks) → HaveWalked s.book.state.commits marks → HaveWalked after.book.state.commits marks
   walked_it marks walked = subst (λ (b : Book). HaveWalked b.state.commits marks) (sym same_book) walked
+
+  pub since_it : (start : K → ℕ) → start s.keeper ≤ c.ticket.place → start after.keeper ≤ c.ticket.place
+  since_it start since = subst (λ (k : K). start k ≤ c.ticket.place) (sym (ap (λ (x : Stored K). x.keeper) (drops_it s after s.left_open.sweep o is drops))) since
 
   pub up_it : IsUp s → IsUp after
   up_it up = ap (λ (x : Stored K). x.mark.fault) (drops_it s after s.left_open.sweep o is drops) ∙ up

@@ -2,9 +2,10 @@
 use Rattle.std.proofs.Common.{◌≡◌, ◌≤◌, ℕ, ◌+◌, max, List, [], ◌∷◌, ◌++◌, length, reverse, map, Option, Result, Ok, Err, Bool, true, false, cond, not, ◌&&◌, nat_eq, refl, sym, ap, ◌∙◌, subst, arith}
 use Rattle.std.proofs.lemmas.List.{map-append}
 use Rattle.std.specs.List.{filter}
-use Rattle.std.specs.Prelude.{is_err, is_ok, if◌then◌else◌}
+use Rattle.std.specs.Prelude.{IfSome, is_err, is_ok, if◌then◌else◌}
 use Rattle.sha2.specs.Sha256.{sha256}
 use Rattle.cat_keeper.specs.declared.keeper.Keeper.{Ghosts}
+use Rattle.cat_keeper.specs.Bases.{base_of}
 use Rattle.cat_keeper.specs.Keeping.{is_format}
 use Rattle.cat_decisions.specs.declared.building.Built.{Built}
 use Rattle.cat_decisions.specs.declared.call.Call.{Call}
@@ -27,7 +28,9 @@ use Rattle.cat_core.specs.declared.tickets.OpenDraft.{OpenDraft}
 use Rattle.cat_core.specs.declared.tickets.Start.{Start}
 use Rattle.cat_core.specs.declared.tickets.Ticket.{Ticket}
 use Rattle.cat_core.specs.Drafts.{IsOpen, closed, open_draft_of, without}
+use Rattle.cat_core.specs.Records.{AllFollow}
 use Rattle.cat_core.specs.Stored.{IsFree, IsInStep, IsSound, Stored, draft_held, log_of, opened_held, opening_at}
+use Rattle.cat_core.proofs.Behind.{one_told}
 use Rattle.cat_core.proofs.Sound.{sound_with}
 use Rattle.cat_core.proofs.Waiting.{in_all, none_left, waiting_closed, waiting_more, waits}
 
@@ -88,15 +91,22 @@ pub sound_closed : (start : Opened) (book : Book) (left_open held : List drafts.
 sound_closed start book left_open held o sound is = subst (IsSound start book) (sym is) (sound_with start book left_open (without o left_open) sound (waiting_closed start.draft book.draft book.log o left_open sound.waiting))
 
 -- its number is free
-pub frees : {K : Type 0} (s after : Stored K) (d : Draft) → IsSound s.opened s.book s.left_open.drafts → IsOpen (open_draft_of d) (drafts_of d.caller s.left_open.drafts) → after ≡ record s { left_open = closed s d } → IsFree d.number after
-frees {K} s after d sound is left =
+pub frees : {K : Type 0} (members : Ghosts K) (s after : Stored K) (d : Draft) → IsSound s.opened s.book s.left_open.drafts → IfSome (members.told s.keeper) (λ ps. AllFollow s.opened (base_of ps) s.left_open.drafts) → IsOpen (open_draft_of d) (drafts_of d.caller s.left_open.drafts)
+    → after ≡ record s { left_open = closed s d } → IsFree members d.number after
+frees {K} members s after d sound follow is left =
     let there : IsOpen (open_draft_of d) s.left_open.drafts = in_all d.caller (open_draft_of d) s.left_open.drafts is in
     let one = waits s.opened.draft s.book.draft s.book.log (open_draft_of d) s.left_open.drafts sound.waiting there in
-    subst (λ (x : Stored K). IsFree d.number x) (sym left) record { above = one.above; below = one.below; new = one.new; none = none_left s.opened.draft s.book.draft s.book.log (open_draft_of d) s.left_open.drafts sound.waiting there }
+    subst (λ (x : Stored K). IsFree members d.number x) (sym left) record {
+      above = one.above;
+      below = one.below;
+      new = one.new;
+      none = none_left s.opened.draft s.book.draft s.book.log (open_draft_of d) s.left_open.drafts sound.waiting there;
+      follows = one_told s.opened (open_draft_of d) s.left_open.drafts (members.told s.keeper) there follow;
+    }
 
 -- as it is held
-pub free_inside : {K : Type 0} (number : ℕ) (s x : Stored K) → s ≡ x → IsFree number x → IsFree number s
-free_inside {K} number s x same free = subst (λ (z : Stored K). IsFree number z) (sym same) free
+pub free_inside : {K : Type 0} (members : Ghosts K) (number : ℕ) (s x : Stored K) → s ≡ x → IsFree members number x → IsFree members number s
+free_inside {K} members number s x same free = subst (λ (z : Stored K). IsFree members number z) (sym same) free
 
 -- ---- as it is seen
 

@@ -4,6 +4,7 @@ use Rattle.std.proofs.lemmas.List.{append-nil, reverse-append}
 use Rattle.sha2.specs.Sha256.{sha256}
 use Rattle.cat_checks.specs.Histories.{IsLegalFrom}
 use Rattle.cat_frames.specs.Checkpoints.{is_checkpoint}
+use Rattle.cat_frames.specs.Standing.{may_start}
 use Rattle.cat_io.specs.Causes.{Rose}
 use Rattle.cat_io.specs.Crashes as crashes
 use Rattle.cat_keeper.specs.declared.keeper.Keeper.{Ghosts}
@@ -23,13 +24,13 @@ use Rattle.cat_state.specs.declared.unmade.Unmade.{Unmade}
 use Rattle.cat_state.specs.Kept.{AreReadBack, Keeps, Stayed, reached, spelling, spellings}
 use Rattle.cat_core.specs.Making.{Runs}
 use Rattle.cat_core.specs.Made.{fallen_by}
-use Rattle.cat_core.specs.Records.{IsCheckpointAt, IsInFlight, StandThrough}
+use Rattle.cat_core.specs.Records.{IsCheckpointAt, IsInFlight, MayStand, StandThrough, state_at}
 use Rattle.cat_core.specs.Stored.{IsInStep}
 use Rattle.cat_core.proofs.Records.{through_base, through_entry}
 
 -- ---- a call logs one entry at most, and none where it is refused
 
-abbrev AtMostOne : List LogEntry → Type 0
+abbrev pub AtMostOne : List LogEntry → Type 0
 AtMostOne [] = Unit {0}
 AtMostOne (e ∷ []) = Unit {0}
 AtMostOne (e ∷ f ∷ entries) = ⊥
@@ -57,17 +58,29 @@ right_attempt book o command = right_tried o.caller book.state book.draft comman
 
 -- ---- the payloads of a log
 
--- so many entries more, and their payloads
-stand_more : (o : Opened) (log logged : List LogEntry) (ps : List (List ℕ)) → AtMostOne logged → AreReadBack logged → StandThrough o (reverse log) ps → StandThrough o (reverse (logged ++ log)) (ps ++ spellings logged)
-stand_more o log [] ps few read is = subst (StandThrough o (reverse log)) (sym (append-nil ps)) is
-stand_more o log (e ∷ []) ps few read is = subst (λ (l : List LogEntry). StandThrough o l (ps ++ spelling e ∷ [])) (sym (reverse-append (e ∷ []) log)) (through_entry o (reverse log) ps e read.0 is)
-stand_more o log (e ∷ f ∷ entries) ps few read is = absurd few
+-- the first of these entries may stand behind the payloads
+abbrev pub FirstStands : Opened → List LogEntry → List LogEntry → List (List ℕ) → Type 0
+FirstStands o log [] ps = Unit {0}
+FirstStands o log (e ∷ entries) ps = MayStand o (reverse log) ps e
 
-told_more : (o : Opened) (before now : Option (List (List ℕ))) (log logged : List LogEntry) → AtMostOne logged → AreReadBack logged → IfSome before (StandThrough o (reverse log)) → crashes.Told before now (λ old new. new ≡ old ++ spellings logged) → IfSome now (StandThrough o (reverse (logged ++ log)))
-told_more o None None log logged few read is more = tt
-told_more o None (Some ps) log logged few read is more = absurd more
-told_more o (Some old) None log logged few read is more = absurd more
-told_more o (Some old) (Some new) log logged few read is more = subst (StandThrough o (reverse (logged ++ log))) (sym more) (stand_more o log logged old few read is)
+-- so many entries more, and their payloads
+stand_more : (o : Opened) (log logged : List LogEntry) (ps : List (List ℕ)) → AtMostOne logged → AreReadBack logged → FirstStands o log logged ps → StandThrough o (reverse log) ps → StandThrough o (reverse (logged ++ log)) (ps ++ spellings logged)
+stand_more o log [] ps few read stands is = subst (StandThrough o (reverse log)) (sym (append-nil ps)) is
+stand_more o log (e ∷ []) ps few read stands is = subst (λ (l : List LogEntry). StandThrough o l (ps ++ spelling e ∷ [])) (sym (reverse-append (e ∷ []) log)) (through_entry o (reverse log) ps e read.0 stands is)
+stand_more o log (e ∷ f ∷ entries) ps few read stands is = absurd few
+
+told_more : (o : Opened) (before now : Option (List (List ℕ))) (log logged : List LogEntry) → AtMostOne logged → AreReadBack logged → IfSome before (FirstStands o log logged) → IfSome before (StandThrough o (reverse log)) → crashes.Told before now (λ old new. new ≡ old ++ spellings logged) → IfSome now (StandThrough o (reverse (logged ++ log)))
+told_more o None None log logged few read stands is more = tt
+told_more o None (Some ps) log logged few read stands is more = absurd more
+told_more o (Some old) None log logged few read stands is more = absurd more
+told_more o (Some old) (Some new) log logged few read stands is more = subst (StandThrough o (reverse (logged ++ log))) (sym more) (stand_more o log logged old few read stands is)
+
+-- what is told stays
+pub still_told : (before now : Option (List (List ℕ))) (P : List (List ℕ) → Type 0) → crashes.Told before now (λ old new. new ≡ old) → IfSome before P → IfSome now P
+still_told None None P same is = tt
+still_told None (Some ps) P same is = absurd same
+still_told (Some old) None P same is = absurd same
+still_told (Some old) (Some new) P same is = subst P (sym same) is
 
 pub told_same : (o : Opened) (before now : Option (List (List ℕ))) (log : List LogEntry) → IfSome before (StandThrough o (reverse log)) → crashes.Told before now (λ old new. new ≡ old) → IfSome now (StandThrough o (reverse log))
 told_same o None None log is same = tt
@@ -76,12 +89,12 @@ told_same o (Some old) None log is same = absurd same
 told_same o (Some old) (Some new) log is same = subst (StandThrough o (reverse log)) (sym same) is
 
 -- a base more
-pub told_base : (o : Opened) (before now : Option (List (List ℕ))) (log : List LogEntry) (base : List ℕ) (drafts : List ℕ) → is_checkpoint base ≡ true → IsCheckpointAt o (reverse log) drafts base
+pub told_base : (o : Opened) (before now : Option (List (List ℕ))) (log : List LogEntry) (base : List ℕ) (drafts : List ℕ) → is_checkpoint base ≡ true → IsCheckpointAt o (reverse log) drafts base → may_start sha256 (state_at o (reverse log)) ≡ true
     → IfSome before (StandThrough o (reverse log)) → crashes.Told before now (λ old new. new ≡ old ++ base ∷ []) → IfSome now (StandThrough o (reverse log))
-told_base o None None log base drafts kind made is more = tt
-told_base o None (Some ps) log base drafts kind made is more = absurd more
-told_base o (Some old) None log base drafts kind made is more = absurd more
-told_base o (Some old) (Some new) log base drafts kind made is more = subst (StandThrough o (reverse log)) (sym more) (through_base o (reverse log) old base drafts kind made is)
+told_base o None None log base drafts kind made may is more = tt
+told_base o None (Some ps) log base drafts kind made may is more = absurd more
+told_base o (Some old) None log base drafts kind made may is more = absurd more
+told_base o (Some old) (Some new) log base drafts kind made may is more = subst (StandThrough o (reverse log)) (sym more) (through_base o (reverse log) old base drafts kind made may is)
 
 pub still : {K : Type 0} (told : K → Option (List (List ℕ))) (o : Opened) (old new : K) (before after : Book) → told new ≡ told old → after.log ≡ before.log → IfSome (told old) (StandThrough o (reverse before.log)) → IfSome (told new) (StandThrough o (reverse after.log))
 still told o old new before after same log is =
@@ -89,6 +102,10 @@ still told o old new before after same log is =
 
 pub rose_since : (began old new : ℕ) → began ≤ old → Rose old new → Rose began new
 rose_since began old new later rose = omega (arith, later, rose)
+
+each_told : (told : Option (List (List ℕ))) (P Q : List (List ℕ) → Type 0) → ((ps : List (List ℕ)) → P ps → Q ps) → IfSome told P → IfSome told Q
+each_told None P Q f is = tt
+each_told (Some ps) P Q f is = f ps is
 
 module _ {K : Type 0} (members : Ghosts K) where
   module _ (old new : K) (caller : ℕ) (called : Called) (o : Opened) (before after : Book) (right : LogsRight called) (legal : IsLegalFrom o (reverse (called.logged ++ before.log))) (was : IsInStep members o before old None) (number : reached members new ≡ after.state.place) where
@@ -99,12 +116,12 @@ module _ {K : Type 0} (members : Ghosts K) where
         record { payloads = still members.told o old new before after keeps.payloads log was.payloads; number = number; fallen = keeps.fallen ∙ was.fallen; later = omega arith; rose = tt; counted = tt; flies = tt }
 
     -- after a call
-    pub in_step : (made : Result Told Unmade) → Runs called before after made → Keeps members old new called.logged made → IsInStep members o after new (fallen_by caller (members.faults new) None made)
-    in_step (Ok told_is) runs keeps =
+    pub in_step : IfSome (members.told old) (FirstStands o before.log called.logged) → (made : Result Told Unmade) → Runs called before after made → Keeps members old new called.logged made → IsInStep members o after new (fallen_by caller (members.faults new) None made)
+    in_step stands (Ok told_is) runs keeps =
         let later : o.faults ≤ members.faults old = was.later in
         let more : members.faults old ≤ members.faults new = keeps.later in
         record {
-          payloads = subst (λ (b : Book). IfSome (members.told new) (StandThrough o (reverse b.log))) (sym runs.book) (told_more o (members.told old) (members.told new) before.log _ right.few keeps.read was.payloads keeps.payloads);
+          payloads = subst (λ (b : Book). IfSome (members.told new) (StandThrough o (reverse b.log))) (sym runs.book) (told_more o (members.told old) (members.told new) before.log _ right.few keeps.read stands was.payloads keeps.payloads);
           number = number;
           fallen = keeps.up;
           later = omega arith;
@@ -112,7 +129,7 @@ module _ {K : Type 0} (members : Ghosts K) where
           counted = tt;
           flies = tt;
         }
-    in_step (Err NotKept) runs keeps =
+    in_step stands (Err NotKept) runs keeps =
         let later : o.faults ≤ members.faults old = was.later in
         let more : members.faults old ≤ members.faults new = keeps.later in
         let behind : IsLegalFrom o (reverse after.log ++ keeps.entry ∷ []) =
@@ -124,7 +141,9 @@ module _ {K : Type 0} (members : Ghosts K) where
           later = omega arith;
           rose = rose_since o.faults (members.faults old) (members.faults new) was.later keeps.rose;
           counted = (rose_since o.faults (members.faults old) (members.faults new) was.later keeps.rose, le_refl (members.faults new));
-          flies = subst (λ (t : Option (List ℕ)). IfSome t (IsInFlight o (reverse after.log))) (sym keeps.flies) (inr (keeps.entry, refl, keeps.read, behind));
+          flies = subst (λ (t : Option (List ℕ)). IfSome t (λ p. IfSome (members.told new) (IsInFlight o (reverse after.log) p))) (sym keeps.flies)
+              (still_told (members.told old) (members.told new) (IsInFlight o (reverse after.log) (spelling keeps.entry)) keeps.payloads
+              (each_told (members.told old) _ _ (λ ps one. inr (keeps.entry, refl, keeps.read, behind, subst (λ (l : List LogEntry). MayStand o (reverse l) ps keeps.entry) (sym runs.log) (subst (λ (l : List LogEntry). FirstStands o before.log l ps) keeps.one one))) stands));
         }
-    in_step (Err (Failed failures.NoMemory)) runs keeps = stayed runs.log keeps
-    in_step (Err (Failed (failures.Refused why))) runs keeps = stayed (ap (λ (b : Book). b.log) runs.1.book ∙ ap (λ (l : List LogEntry). l ++ before.log) (right.none _ runs.1.said)) keeps
+    in_step stands (Err (Failed failures.NoMemory)) runs keeps = stayed runs.log keeps
+    in_step stands (Err (Failed (failures.Refused why))) runs keeps = stayed (ap (λ (b : Book). b.log) runs.1.book ∙ ap (λ (l : List LogEntry). l ++ before.log) (right.none _ runs.1.said)) keeps

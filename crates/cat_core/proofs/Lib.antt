@@ -49,7 +49,6 @@ pub mod Grown
 pub mod Lasting
 pub mod Gone
 pub mod OpensAgain
-pub mod WholeStates
 pub mod FullStates
 pub mod SweptFull
 pub mod RaisedStates
@@ -59,3 +58,5 @@ pub mod PlannedMaps
 pub mod FullPlans
 pub mod StartKept
 pub mod MapsKept
+pub mod Follows
+pub mod Behind

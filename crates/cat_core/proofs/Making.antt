@@ -118,17 +118,17 @@ counted_at began now (Some f) None counted x is = absurd (up_of x is)
 counted_at began now (Some f) (Some payload) counted x is = let same : f.count ≡ x.count = cc in subst (λ (n : ℕ). Rose began n × (n ≤ now)) same counted
 
 -- what is in flight is the last of payloads that stand for the log, or for it and one entry more
-flown_told : (o : Opened) (log : List LogEntry) (told : Option (List (List ℕ))) (p : List ℕ) → IsInFlight o log p → IfSome told (StandThrough o log) → IfSome told (λ ps. StandFlown o log p (ps ++ p ∷ []))
+flown_told : (o : Opened) (log : List LogEntry) (told : Option (List (List ℕ))) (p : List ℕ) → IfSome told (IsInFlight o log p) → IfSome told (StandThrough o log) → IfSome told (λ ps. StandFlown o log p (ps ++ p ∷ []))
 flown_told o log None p flies stand = tt
 flown_told o log (Some ps) p flies stand = stands_flown o log ps p (stands_now o log ps stand) flies
 
-flown_at : (o : Opened) (log : List LogEntry) (told : Option (List (List ℕ))) (fallen : Option Fallen) (flight : Option (List ℕ)) → IfSome fallen (λ f. IfSome flight (IsInFlight o log)) → IfSome told (StandThrough o log) → (x : FailedAppend) → failed fallen flight ≡ Some x
+flown_at : (o : Opened) (log : List LogEntry) (told : Option (List (List ℕ))) (fallen : Option Fallen) (flight : Option (List ℕ)) → IfSome fallen (λ f. IfSome flight (λ p. IfSome told (IsInFlight o log p))) → IfSome told (StandThrough o log) → (x : FailedAppend) → failed fallen flight ≡ Some x
     → IfSome told (λ ps. StandFlown o log x.payload (ps ++ x.payload ∷ []))
 flown_at o log told None flight flies stand x is = absurd (up_of x is)
 flown_at o log told (Some f) None flies stand x is = absurd (up_of x is)
 flown_at o log told (Some f) (Some p) flies stand x is = let same : p ≡ x.payload = cc in subst (λ (q : List ℕ). IfSome told (λ ps. StandFlown o log q (ps ++ q ∷ []))) same (flown_told o log told p flies stand)
 
-pub flown_seen : {K : Type 0} (told : K → Option (List (List ℕ))) (in_flight : K → Option (List ℕ)) (fallen : Option Fallen) (s v : Stored K) → s ≡ v → s.mark.fault ≡ failed fallen (in_flight s.keeper) → IfSome fallen (λ f. IfSome (in_flight s.keeper) (IsInFlight s.opened (log_of s)))
+pub flown_seen : {K : Type 0} (told : K → Option (List (List ℕ))) (in_flight : K → Option (List ℕ)) (fallen : Option Fallen) (s v : Stored K) → s ≡ v → s.mark.fault ≡ failed fallen (in_flight s.keeper) → IfSome fallen (λ f. IfSome (in_flight s.keeper) (λ p. IfSome (told s.keeper) (IsInFlight s.opened (log_of s) p)))
     → IfSome (told s.keeper) (StandThrough s.opened (log_of s)) → (x : FailedAppend) → v.mark.fault ≡ Some x → IfSome (told v.keeper) (λ ps. StandFlown v.opened (log_of v) x.payload (ps ++ x.payload ∷ []))
 flown_seen {K} told in_flight fallen s v same fault flies stand x is =
     subst (λ (z : Stored K). IfSome (told z.keeper) (λ ps. StandFlown z.opened (log_of z) x.payload (ps ++ x.payload ∷ []))) same

@@ -17,7 +17,7 @@ use Rattle.cat_keymap.specs.KeyOrder.{less_is, split3, both_true, and_true}
 abbrev rise : Option ℕ → List ℕ → Bool
 rise = keys_ascend nat_cmp
 
-abbrev is_in : List ℕ → ℕ → Bool
+abbrev pub is_in : List ℕ → ℕ → Bool
 is_in numbers number = list_any (λ x. nat_eq x number) numbers
 
 -- ---- numbers that ascend
@@ -148,7 +148,7 @@ in_fold number acc (x ∷ numbers) =
 pub set_rises : (numbers : List ℕ) → keys_ascend nat_cmp None (set_of nat_cmp numbers) ≡ true
 set_rises numbers = rise_fold [] numbers refl
 
-in_set : (numbers : List ℕ) (number : ℕ) → is_in (set_of nat_cmp numbers) number ≡ is_in numbers number
+pub in_set : (numbers : List ℕ) (number : ℕ) → is_in (set_of nat_cmp numbers) number ≡ is_in numbers number
 in_set numbers number = in_fold number [] numbers
 
 -- ---- in their order, each once

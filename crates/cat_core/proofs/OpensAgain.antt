@@ -1,5 +1,5 @@
 -- What payloads that stand for a log are opened as: from their base a log may start, and the entries behind it lead on to a book.
-use Rattle.std.proofs.Common.{◌≡◌, ℕ, Bool, true, if◌then◌else◌, List, [], ◌∷◌, drop, length, take, Option, Some, None, Result, Ok, Err, refl, sym, ap, subst, ◌∙◌, arith}
+use Rattle.std.proofs.Common.{◌≡◌, ℕ, Bool, true, if◌then◌else◌, List, [], ◌∷◌, ◌++◌, drop, length, take, Option, Some, None, Ok, Err, IfSome, refl, sym, ap, subst, ◌∙◌, ⊎_elim, arith}
 use Rattle.std.proofs.lemmas.List.{length-take-le, take-append-drop}
 use Rattle.sha2.specs.Sha256.{sha256}
 use Rattle.cat_checks.specs.AlikeBooks.{AreBooksAlike, AreRead, AreSweptFrom, legal_leads}
@@ -10,14 +10,10 @@ use Rattle.cat_checks.specs.SinceLaws.{from_alike, legal_since}
 use Rattle.cat_checks.specs.StartingLaws.{start_alike}
 use Rattle.cat_checks.specs.Upheld.{Upholds}
 use Rattle.cat_checks.specs.KeptMaps.{HaveMaps}
-use Rattle.cat_codes.specs.declared.fault.FieldFault.{FieldFault}
-use Rattle.cat_codes.specs.Code.{whole}
 use Rattle.cat_frames.specs.declared.checkpoint.Checkpoint.{Checkpoint}
-use Rattle.cat_frames.specs.Checkpoints.{checkpoint_code}
 use Rattle.cat_frames.specs.Bases.{by_reading, checkpoint_of, draft_of, from_checkpoint, from_nothing, opened_by}
 use Rattle.cat_frames.specs.Standing.{may_start}
 use Rattle.cat_keeper.specs.Bases.{base_of, base_place, entries_of}
-use Rattle.cat_model.specs.declared.limits.Limits.{Limits}
 use Rattle.cat_model.specs.declared.log_entry.LogEntry.{LogEntry}
 use Rattle.cat_model.specs.Book.{Book}
 use Rattle.cat_model.specs.Past.{past_of}
@@ -25,9 +21,11 @@ use Rattle.cat_model.specs.State.{State}
 use Rattle.cat_model.specs.Turns.{Opened}
 use Rattle.cat_state.specs.Kept.{AreReadBack}
 use Rattle.cat_tables.specs.Tables.{are_distinct}
-use Rattle.cat_core.specs.Opening.{led_base, led_by, led_from}
-use Rattle.cat_core.specs.Records.{IsBaseAt, StandFor, state_at}
+use Rattle.cat_core.specs.Opening.{OpenThrough, Opens, led_base, led_by, led_from}
+use Rattle.cat_core.specs.Records.{IsBaseAt, StandFlown, StandFor, StandThrough, state_at}
 use Rattle.cat_core.specs.RecordLaws.{legal_front, starts_there}
+use Rattle.cat_core.specs.Stored.{Stored, log_of}
+use Rattle.cat_core.proofs.Led.{counted_alike}
 use Rattle.cat_core.proofs.Resumed.{resumed}
 use Rattle.cat_core.proofs.StartKept.{log_start}
 
@@ -89,21 +87,6 @@ opens_again o log ps may upheld legal stand comes since maps =
 
 -- ---- payloads without a new base
 
--- what a log is opened from tells the same drafts, whatever its counts are
-counted_alike : (o from : Opened) (limits : Limits) (base : Option (List ℕ)) → opened_by limits o.payloads o.faults base ≡ Some o → opened_by limits 0 0 base ≡ Some from → (from.draft ≡ o.draft) × (from.drafts ≡ o.drafts)
-counted_alike o from limits None opened again =
-    let here : from_nothing limits o.payloads o.faults ≡ o = cc in
-    let there : from_nothing limits 0 0 ≡ from = cc in
-    (sym (ap (λ (x : Opened). x.draft) there) ∙ ap (λ (x : Opened). x.draft) here, sym (ap (λ (x : Opened). x.drafts) there) ∙ ap (λ (x : Opened). x.drafts) here)
-counted_alike o from limits (Some base) opened again = by (whole (checkpoint_code sha256) base) opened again
-  where
-    by : (reading : Result Checkpoint FieldFault) → by_reading limits o.payloads o.faults reading ≡ Some o → by_reading limits 0 0 reading ≡ Some from → (from.draft ≡ o.draft) × (from.drafts ≡ o.drafts)
-    by (Err fault) opened again = absurd cc
-    by (Ok c) opened again =
-        let here : from_checkpoint limits o.payloads o.faults c ≡ o = cc in
-        let there : from_checkpoint limits 0 0 c ≡ from = cc in
-        (sym (ap (λ (x : Opened). x.draft) there) ∙ ap (λ (x : Opened). x.draft) here, sym (ap (λ (x : Opened). x.drafts) there) ∙ ap (λ (x : Opened). x.drafts) here)
-
 -- payloads whose base is that from which the log was opened are opened again, and lead to a book
 pub opens_plain : (o : Opened) (log : List LogEntry) (ps : List (List ℕ)) → may_start sha256 o.state ≡ true → IsLegalFrom o log → StandFor o log ps → opened_by o.state.limits o.payloads o.faults (base_of ps) ≡ Some o
     → (book : Book) × (led_by o.state.limits ps ≡ Ok book)
@@ -117,3 +100,27 @@ opens_plain o log ps may legal stand opened =
     opens_from o log ps legal stand
     (λ from again. let same = counted_alike o from o.state.limits (base_of ps) opened again in from_alike o from (drop n log) same.0 same.1 from_here)
     since starts
+
+-- ---- payloads that are told
+
+-- payloads that stand for a legal log are opened again
+pub opens_standing : (o : Opened) (log : List LogEntry) (ps : List (List ℕ)) → IsLegalFrom o log → StandFor o log ps → Opens o.state.limits ps
+opens_standing o log ps legal stand = opens_from o log ps legal stand stand.comes stand.since stand.may
+
+-- so are those that stood for it at each moment
+pub opens_told : (o : Opened) (log : List LogEntry) (told : Option (List (List ℕ))) → IsLegalFrom o log → IfSome told (StandThrough o log) → IfSome told (OpenThrough o)
+opens_told o log None legal through = tt
+opens_told o log (Some ps) legal through = λ n many most. opens_standing o (take (through.reach n) log) (take n ps) (legal_front o log (through.reach n) legal) (through.each n many most)
+
+-- and those with one that was in flight
+opens_flown : (o : Opened) (log : List LogEntry) (p : List ℕ) (told : Option (List (List ℕ))) → IsLegalFrom o log → IfSome told (λ ps. StandFlown o log p (ps ++ p ∷ [])) → IfSome told (λ ps. Opens o.state.limits (ps ++ p ∷ []))
+opens_flown o log p None legal stand = tt
+opens_flown o log p (Some ps) legal stand = ⊎_elim (λ all. opens_standing o log (ps ++ p ∷ []) legal all) (λ more. opens_standing o (log ++ more.0 ∷ []) (ps ++ p ∷ []) more.2 more.3) stand
+
+-- as they are seen
+module _ {K : Type 0} (told : K → Option (List (List ℕ))) (s x : Stored K) (same : s ≡ x) (legal : IsLegalFrom s.opened (log_of s)) where
+  pub again_seen : IfSome (told s.keeper) (StandThrough s.opened (log_of s)) → IfSome (told x.keeper) (OpenThrough x.opened)
+  again_seen through = subst (λ (z : Stored K). IfSome (told z.keeper) (OpenThrough z.opened)) same (opens_told s.opened (log_of s) (told s.keeper) legal through)
+
+  pub again_flown : (p : List ℕ) → IfSome (told x.keeper) (λ ps. StandFlown x.opened (log_of x) p (ps ++ p ∷ [])) → IfSome (told x.keeper) (λ ps. Opens x.opened.state.limits (ps ++ p ∷ []))
+  again_flown p stand = opens_flown x.opened (log_of x) p (told x.keeper) (subst (λ (z : Stored K). IsLegalFrom z.opened (log_of z)) same legal) stand

@@ -1,11 +1,16 @@
 -- Payloads that stand for a log, with an entry or a base more.
-use Rattle.std.proofs.Common.{◌≡◌, ◌≤◌, ◌<◌, ℕ, ◌+◌, Bool, true, false, List, [], ◌∷◌, ◌++◌, drop, length, take, is_ok, Ok, cond, nat_eq, nat_le, inl, inr, refl, sym, ap, subst, ◌∙◌, arith, le_refl, length-append}
+use Rattle.std.proofs.Common.{◌≡◌, ◌≤◌, ◌<◌, ℕ, ◌+◌, Bool, true, false, List, [], ◌∷◌, ◌++◌, drop, length, take, is_ok, Ok, Some, cond, nat_eq, nat_le, inl, inr, refl, sym, ap, subst, ◌∙◌, arith, le_refl, length-append}
 use Rattle.std.specs.Prelude.{◌%◌}
 use Rattle.std.proofs.lemmas.Bool.Decides.{nat_tests}
 use Rattle.std.proofs.lemmas.List.{drop-append-le, drop_all, map-append, take-append-le, take_all}
 use Rattle.std.proofs.Math.Seq.{take-length}
 use Rattle.sha2.specs.Sha256.{sha256}
+use Rattle.cat_checks.specs.AlikeBooks.{AreSweptFrom, IsSweptFrom}
+use Rattle.cat_checks.specs.Histories.{AreFrom}
+use Rattle.cat_checks.specs.Legal.{draft_may_come}
 use Rattle.cat_codes.specs.Code.{u8_spelling, whole}
+use Rattle.cat_frames.specs.Bases.{opened_by}
+use Rattle.cat_frames.specs.Standing.{may_start}
 use Rattle.cat_frames.specs.declared.checkpoint.Checkpoint.{Checkpoint}
 use Rattle.cat_frames.specs.CheckpointLaws.{is_whole_checkpoint}
 use Rattle.cat_frames.specs.Checkpoints.{checkpoint_code, is_checkpoint}
@@ -19,7 +24,7 @@ use Rattle.cat_model.specs.declared.log_entry.LogEntry.{LogEntry}
 use Rattle.cat_model.specs.Turns.{Opened}
 use Rattle.cat_state.specs.Kept.{AreReadBack, IsReadBack, spelling, spellings}
 use Rattle.cat_core.specs.RecordLaws.{stands_now}
-use Rattle.cat_core.specs.Records.{IsBaseAt, IsCheckpointAt, IsInFlight, StandFlown, StandFor, StandThrough}
+use Rattle.cat_core.specs.Records.{IsBaseAt, IsCheckpointAt, IsInFlight, MayStand, StandFlown, StandFor, StandThrough, state_at}
 
 -- ---- an entry is no base
 
@@ -45,6 +50,18 @@ pub kind_of : (bytes : List ℕ) (c : Checkpoint) → whole (checkpoint_code sha
 unfolding is_whole_checkpoint
 kind_of bytes c reads = whole_is_checkpoint bytes (ap is_ok reads)
 
+-- ---- what may stand behind a base
+
+-- an entry more, whose draft may come
+comes_more : (from : Opened) (log : List LogEntry) (e : LogEntry) → AreFrom from log → draft_may_come from e.draft ≡ true → AreFrom from (log ++ e ∷ [])
+comes_more from [] e are one = (one, tt)
+comes_more from (x ∷ log) e are one = (are.0, comes_more from log e are.1 one)
+
+-- which is no sweep that was opened before the base
+since_more : (place : ℕ) (log : List LogEntry) (e : LogEntry) → AreSweptFrom place log → IsSweptFrom place e.action → AreSweptFrom place (log ++ e ∷ [])
+since_more place [] e are one = (one, tt)
+since_more place (x ∷ log) e are one = (are.0, since_more place log e are.1 one)
+
 -- ---- one payload more
 
 pub read_more : (xs ys : List LogEntry) → AreReadBack xs → AreReadBack ys → AreReadBack (xs ++ ys)
@@ -52,8 +69,8 @@ read_more [] ys p q = q
 read_more (x ∷ xs) ys p q = (p.0, read_more xs ys p.1 q)
 
 module _ (o : Opened) (log : List LogEntry) (ps : List (List ℕ)) where
-  pub with_entry : (e : LogEntry) → IsReadBack e → StandFor o log ps → StandFor o (log ++ e ∷ []) (ps ++ spelling e ∷ [])
-  with_entry e again is = record {
+  pub with_entry : (e : LogEntry) → IsReadBack e → MayStand o log ps e → StandFor o log ps → StandFor o (log ++ e ∷ []) (ps ++ spelling e ∷ [])
+  with_entry e again stands is = record {
     count = is.count;
     within = omega (arith, is.within, length-append log (e ∷ []));
     base = subst (λ (l : List LogEntry). IsBaseAt o l (base_of (ps ++ spelling e ∷ []))) (sym (take-append-le is.count log (e ∷ []) is.within)) (subst (IsBaseAt o (take is.count log)) (sym (base_with_entry ps (spelling e) (entry_is_no_base e))) is.base);
@@ -61,22 +78,31 @@ module _ (o : Opened) (log : List LogEntry) (ps : List (List ℕ)) where
         entries_with_entry ps (spelling e) (entry_is_no_base e) ∙ ap (λ (l : List (List ℕ)). l ++ spelling e ∷ []) is.entries ∙ sym (map-append spelling (drop is.count log) (e ∷ []))
         ∙ ap spellings (sym (drop-append-le is.count log (e ∷ []) is.within));
     read = subst AreReadBack (sym (drop-append-le is.count log (e ∷ []) is.within)) (read_more (drop is.count log) (e ∷ []) is.read (again, tt));
+    may = subst (λ (l : List LogEntry). may_start sha256 (state_at o l) ≡ true) (sym (take-append-le is.count log (e ∷ []) is.within)) is.may;
+    comes = λ from opened.
+        let was : opened_by o.state.limits 0 0 (base_of ps) ≡ Some from = ap (opened_by o.state.limits 0 0) (sym (base_with_entry ps (spelling e) (entry_is_no_base e))) ∙ opened in
+        subst (AreFrom from) (sym (drop-append-le is.count log (e ∷ []) is.within)) (comes_more from (drop is.count log) e (is.comes from was) (stands.comes from was));
+    since = subst (λ (l : List LogEntry). AreSweptFrom (state_at o l).place (drop is.count (log ++ e ∷ []))) (sym (take-append-le is.count log (e ∷ []) is.within))
+        (subst (AreSweptFrom (state_at o (take is.count log)).place) (sym (drop-append-le is.count log (e ∷ []) is.within)) (since_more (state_at o (take is.count log)).place (drop is.count log) e is.since (stands.since is)));
   }
 
-  pub with_base : (base : List ℕ) (drafts : List ℕ) → is_checkpoint base ≡ true → IsCheckpointAt o log drafts base → StandFor o log (ps ++ base ∷ [])
-  with_base base drafts is made = record {
+  pub with_base : (base : List ℕ) (drafts : List ℕ) → is_checkpoint base ≡ true → IsCheckpointAt o log drafts base → may_start sha256 (state_at o log) ≡ true → StandFor o log (ps ++ base ∷ [])
+  with_base base drafts is made may = record {
     count = length log;
     within = le_refl (length log);
     base = subst (IsBaseAt o (take (length log) log)) (sym (base_with_base ps base is))
         (drafts, subst (λ (l : List LogEntry). IsCheckpointAt o l drafts base) (sym (take-length log)) made);
     entries = entries_with_base ps base is ∙ ap spellings (sym (drop_all (length log) log (le_refl (length log))));
     read = subst AreReadBack (sym (drop_all (length log) log (le_refl (length log)))) tt;
+    may = subst (λ (l : List LogEntry). may_start sha256 (state_at o l) ≡ true) (sym (take-length log)) may;
+    comes = λ from opened. subst (AreFrom from) (sym (drop_all (length log) log (le_refl (length log)))) tt;
+    since = subst (AreSweptFrom (state_at o (take (length log) log)).place) (sym (drop_all (length log) log (le_refl (length log)))) tt;
   }
 
 -- the one that was in flight
-pub stands_flown : (o : Opened) (log : List LogEntry) (ps : List (List ℕ)) (p : List ℕ) → StandFor o log ps → IsInFlight o log p → StandFlown o log p (ps ++ p ∷ [])
-stands_flown o log ps p is (inl based) = inl (with_base o log ps p based.0 (kind_of p _ based.1.reads) based.1)
-stands_flown o log ps p is (inr entry) = inr (entry.0, entry.1, entry.3, subst (λ (q : List ℕ). StandFor o (log ++ entry.0 ∷ []) (ps ++ q ∷ [])) (sym entry.1) (with_entry o log ps entry.0 entry.2 is))
+pub stands_flown : (o : Opened) (log : List LogEntry) (ps : List (List ℕ)) (p : List ℕ) → StandFor o log ps → IsInFlight o log p ps → StandFlown o log p (ps ++ p ∷ [])
+stands_flown o log ps p is (inl based) = inl (with_base o log ps p based.0 (kind_of p _ based.1.reads) based.1 based.2)
+stands_flown o log ps p is (inr entry) = inr (entry.0, entry.1, entry.3, subst (λ (q : List ℕ). StandFor o (log ++ entry.0 ∷ []) (ps ++ q ∷ [])) (sym entry.1) (with_entry o log ps entry.0 entry.2 entry.4 is))
 
 -- ---- at each moment
 
@@ -147,12 +173,12 @@ module _ (o : Opened) (log : List LogEntry) (ps : List (List ℕ)) (p : List ℕ
     each = each;
   }
 
-pub through_entry : (o : Opened) (log : List LogEntry) (ps : List (List ℕ)) (e : LogEntry) → IsReadBack e → StandThrough o log ps → StandThrough o (log ++ e ∷ []) (ps ++ spelling e ∷ [])
-through_entry o log ps e again through =
-    through_more o log ps (spelling e) (log ++ e ∷ []) through (λ n le. take-append-le n log (e ∷ []) le) (omega (arith, length-append log (e ∷ []))) (with_entry o log ps e again (stands_now o log ps through))
+pub through_entry : (o : Opened) (log : List LogEntry) (ps : List (List ℕ)) (e : LogEntry) → IsReadBack e → MayStand o log ps e → StandThrough o log ps → StandThrough o (log ++ e ∷ []) (ps ++ spelling e ∷ [])
+through_entry o log ps e again stands through =
+    through_more o log ps (spelling e) (log ++ e ∷ []) through (λ n le. take-append-le n log (e ∷ []) le) (omega (arith, length-append log (e ∷ []))) (with_entry o log ps e again stands (stands_now o log ps through))
 
-pub through_base : (o : Opened) (log : List LogEntry) (ps : List (List ℕ)) (base : List ℕ) (drafts : List ℕ) → is_checkpoint base ≡ true → IsCheckpointAt o log drafts base → StandThrough o log ps → StandThrough o log (ps ++ base ∷ [])
-through_base o log ps base drafts is made through = through_more o log ps base log through (λ n le. refl) (le_refl (length log)) (with_base o log ps base drafts is made)
+pub through_base : (o : Opened) (log : List LogEntry) (ps : List (List ℕ)) (base : List ℕ) (drafts : List ℕ) → is_checkpoint base ≡ true → IsCheckpointAt o log drafts base → may_start sha256 (state_at o log) ≡ true → StandThrough o log ps → StandThrough o log (ps ++ base ∷ [])
+through_base o log ps base drafts is made may through = through_more o log ps base log through (λ n le. refl) (le_refl (length log)) (with_base o log ps base drafts is made may)
 
 -- as it is opened
 pub through_opened : (o : Opened) (log : List LogEntry) (ps : List (List ℕ)) → o.payloads ≡ length ps → StandFor o log ps → StandThrough o log ps

@@ -51,7 +51,7 @@ above_by : (commits : Commits) → AreLinked commits → are_above sha256 commit
 above_by [] linked = refl
 above_by (x ∷ older) linked = both_true _ _ (next_stands older x.0 x.1 linked.0 linked.1) (above_by older linked.2)
 
-main_there : (references : List Reference) → HasMain references → has_main references ≡ true
+pub main_there : (references : List Reference) → HasMain references → has_main references ≡ true
 main_there references has =
     ap (λ (found : Option Reference). option_map_or (λ (r : Reference). same_kind r.kind Branch) found false) has.1 ∙ ap (λ (kind : Kind). same_kind kind Branch) has.2
 
@@ -69,7 +69,7 @@ whole_full s whole =
     let one = and_true above formed two.0 in
     record { linked = linked_by s.commits one.0; formed = one.1; heads = three.1; held = four.1 }
 
-pub full_whole : (s : State) → IsFull s → HasMain s.references → is_whole sha256 s ≡ true
+full_whole : (s : State) → IsFull s → HasMain s.references → is_whole sha256 s ≡ true
 unfolding is_whole
 full_whole s full main =
     both_true (are_above sha256 s.commits && maps_pass is_well_formed s.commits && has_main s.references && heads_known sha256 s.commits s.references) (heads_shown s.commits s.present s.references)

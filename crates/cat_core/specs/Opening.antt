@@ -1,5 +1,5 @@
 -- What opening a store over a keeper comes to, by the keeper's payloads as far as these are told.
-use Rattle.std.specs.Prelude.{◌≡◌, ℕ, ◌+◌, List, [], ◌∷◌, ◌++◌, length, map, get_or, take, reverse, Option, Some, None, Result, Ok, Err, Bool, true, false, ◌&&◌, nat_eq, is_ok, IfSome}
+use Rattle.std.specs.Prelude.{◌≡◌, ℕ, ◌+◌, ◌≤◌, List, [], ◌∷◌, ◌++◌, length, map, get_or, take, reverse, Option, Some, None, Result, Ok, Err, Bool, true, false, ◌&&◌, nat_eq, is_ok, IfSome}
 use Rattle.std.specs.List.{list_any}
 use Rattle.std.specs.Str.{bytes_eq}
 use Rattle.sha2.specs.Sha256.{sha256}
@@ -33,6 +33,14 @@ led_from limits payloads (Some base) = led_base (base_place base) (entries_of pa
 
 abbrev pub led_by : Limits → List (List ℕ) → Result Book ℕ
 led_by limits payloads = led_from limits payloads (base_of payloads)
+
+-- they are opened
+abbrev pub Opens : Limits → List (List ℕ) → Type 0
+Opens limits payloads = (book : Book) × (led_by limits payloads ≡ Ok book)
+
+-- so they are at each length that they had since the log was opened
+abbrev pub OpenThrough : Opened → List (List ℕ) → Type 0
+OpenThrough o payloads = (n : ℕ) → o.payloads ≤ n → n ≤ length payloads → Opens o.state.limits (take n payloads)
 
 -- a log may start from a base's state
 abbrev pub MayStart : Opened → Option (List ℕ) → Type 0

@@ -10,6 +10,7 @@ use Rattle.cat_checks.specs.Legal.{draft_is_new, most_patterns}
 use Rattle.cat_checks.specs.Upheld.{Upholds}
 use Rattle.cat_frames.specs.Sweeps.{resolved_is_logged}
 use Rattle.cat_keeper.specs.declared.keeper.Keeper.{Ghosts}
+use Rattle.cat_keeper.specs.Bases.{base_of}
 use Rattle.cat_model.specs.declared.log_entry.LogEntry.{LogEntry}
 use Rattle.cat_model.specs.Book.{Book}
 use Rattle.cat_model.specs.Drafts as drafts
@@ -29,7 +30,7 @@ use Rattle.cat_core.specs.declared.tickets.OpenDraft.{OpenDraft}
 use Rattle.cat_core.specs.declared.tickets.OpenSweep.{OpenSweep}
 use Rattle.cat_core.specs.declared.tickets.Start.{Start}
 use Rattle.cat_core.specs.declared.tickets.Ticket.{Ticket}
-use Rattle.cat_core.specs.Records.{IsInFlight, StandThrough}
+use Rattle.cat_core.specs.Records.{AllFollow, IsInFlight, MayFollow, StandThrough}
 
 -- a book, what keeps its log, the mark and what is open beside the log, and what the log starts from
 pub record Stored (K : Type 0) : Type 0 where
@@ -130,7 +131,12 @@ pub record IsInStep {K : Type 0} (members : Ghosts K) (o : Opened) (book : Book)
   pub later : o.faults ≤ members.faults keeper
   pub rose : IfSome fell (λ f. Rose o.faults (members.faults keeper))
   pub counted : IfSome fell (λ f. Rose o.faults f.count × (f.count ≤ members.faults keeper))
-  pub flies : IfSome fell (λ f. IfSome (members.in_flight keeper) (IsInFlight o (reverse book.log)))
+  pub flies : IfSome fell (λ f. IfSome (members.in_flight keeper) (λ p. IfSome (members.told keeper) (IsInFlight o (reverse book.log) p)))
+
+-- behind the payloads that are told an entry of each open draft may come, and their base isn't after the open sweep
+pub record GoesBehind {K : Type 0} (members : Ghosts K) (o : Opened) (left_open : List drafts.OpenDraft) (held : Option OpenSweep) (keeper : K) : Type 0 where
+  pub waiting : IfSome (members.told keeper) (λ ps. AllFollow o (base_of ps) left_open)
+  pub since : IfSome held (λ s. members.start keeper ≤ s.ticket.place)
 
 -- none has the number
 abbrev pub IsNumberOfNone : ℕ → List drafts.OpenDraft → Type 0
@@ -148,12 +154,13 @@ abbrev pub AreWaiting : ℕ → ℕ → List LogEntry → List drafts.OpenDraft 
 AreWaiting first last log [] = Unit {0}
 AreWaiting first last log (x ∷ xs) = IsWaiting first last log x × IsNumberOfNone x.opening.number xs × AreWaiting first last log xs
 
--- the number was taken since the log's start, and neither an entry nor an open draft has it
-pub record IsFree {K : Type 0} (number : ℕ) (s : Stored K) : Type 0 where
+-- the number was taken since the log's start, neither an entry nor an open draft has it, and an entry of it may come behind the payloads that are told
+pub record IsFree {K : Type 0} (members : Ghosts K) (number : ℕ) (s : Stored K) : Type 0 where
   pub above : s.opened.draft < number
   pub below : number ≤ s.book.draft
   pub new : draft_is_new s.book.log number ≡ true
   pub none : IsNumberOfNone number s.left_open.drafts
+  pub follows : IfSome (members.told s.keeper) (λ ps. MayFollow s.opened (base_of ps) number)
 
 -- the book goes on from the log's start, which upholds what each state does, and is what its log leads to, each entry legal where it stands; and so are the drafts
 pub record IsSound (o : Opened) (book : Book) (left_open : List drafts.OpenDraft) : Type 0 where

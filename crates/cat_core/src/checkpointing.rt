@@ -69,6 +69,7 @@ impl<K: Keeper> Store<K> {
         };
         let catalogue = self.ledger.catalogue();
         catalogue.contents().known();
+        catalogue.may_start();
         let kept = catalogue.keep_checkpoint(alloc, &mut self.keeper, draft, drafts);
         let made = checkpoint_at(place, kept);
         tell(&self.keeper, &mut self.fallen, caller, place, made)

@@ -140,7 +140,7 @@ impl<K: Keeper> Store<K> {
         requires { IsOpen (open_draft_of draft) (drafts_of draft.caller self.old.left_open.drafts) }
         ensures call { result ≡ draft.entry.call }
         ensures closed { self.new ≡ record self.old { left_open = closed self.old draft.entry } }
-        ensures free { IsFree draft.entry.number self.new }
+        ensures free { IsFree K.Keeper draft.entry.number self.new }
     {
         remove(&mut self.drafts, ticket_of(&draft));
         let Draft {
@@ -179,7 +179,7 @@ impl<K: Keeper> Store<K> {
         requires well_made { IsTrue (is_well_made sha256 (command_of call)) }
         requires given { IsGivenBy number call }
         requires up { IsUp self.old }
-        requires free { IsFree number self.old }
+        requires free { IsFree K.Keeper number self.old }
         requires opened { opening sha256 self.old.book.state (command_of call) ≡ Ok tt }
         requires built { IsBuilt self.old.book.state call built }
         ensures { IsTold K.Keeper caller self.old self.new

@@ -20,7 +20,7 @@ ghost use Rattle.cat_keeper.specs.Keeping.{is_format};
 ghost use Rattle.cat_state.specs.Counting.{main_head};
 ghost use Rattle.cat_state.specs.Kept.{Stayed, reached};
 ghost use Rattle.cat_core.specs.Lasting.{AreLasting, IsHolding};
-ghost use Rattle.cat_core.specs.Opening.{IsIllegalAt, IsLedTo};
+ghost use Rattle.cat_core.specs.Opening.{IsIllegalAt, IsLedTo, OpenThrough, Opens};
 ghost use Rattle.cat_core.specs.Records.{GoesOn, StandFlown, StandFor, StandThrough};
 ghost use Rattle.cat_graph.specs.Linked.{AreLinked};
 ghost use Rattle.cat_core.specs.Stored.{IsMarked, IsSound, KnowsNames, MayBeDown, is_headed, log_of, opened_held, opened_of};
@@ -66,7 +66,7 @@ impl<K: Keeper> Model for Store<K> {
     ghost use Rattle.std.specs.Option.{option_map};
     ghost use Rattle.cat_keeper.specs.Bases.{bases_in};
     ghost use Rattle.cat_core.specs.Lasting.{IsHolding};
-    ghost use Rattle.cat_core.specs.Stored.{IsInStep, IsSound, IsSwept, Stored, draft_held, failed, held_mark, held_open, opened_held, sweep_held};
+    ghost use Rattle.cat_core.specs.Stored.{GoesBehind, IsInStep, IsSound, IsSwept, Stored, draft_held, failed, held_mark, held_open, opened_held, sweep_held};
 
     ghost Value = { Stored K };
 
@@ -84,7 +84,9 @@ impl<K: Keeper> Model for Store<K> {
         s.fallen
         × IsSound (opened_held s.ledger.base s.start) s.ledger (map draft_held s.drafts.items)
         × IsSwept s.ledger (map draft_held s.drafts.items) s.sweep s.closed
-        × IsHolding s.ledger (map draft_held s.drafts.items) (option_map sweep_held s.sweep) };
+        × IsHolding s.ledger (map draft_held s.drafts.items) (option_map sweep_held s.sweep)
+        × GoesBehind K.Keeper (opened_held s.ledger.base s.start) (map draft_held s.drafts.items)
+        s.sweep s.keeper };
 }
 
 impl<K: Keeper> Logged for Store<K> {
@@ -315,10 +317,12 @@ impl<K: Keeper> Store<K> {
 
     /// What holds of the keeper: its payloads stand for the log, and the mark tells of its bases and
     /// of its failed append or rebase. With the payload that this left in flight they stand for the
-    /// log, or for it and one entry more.
+    /// log, or for it and one entry more. They are opened again, so and at each length that they had
+    /// since the log was opened.
     pub fn log_is_kept(&self)
         ensures payloads { IfSome (K.told self.now.keeper)
             (StandThrough self.now.opened (log_of self.now)) }
+        ensures again { IfSome (K.told self.now.keeper) (OpenThrough self.now.opened) }
         ensures number { reached K.Keeper self.now.keeper ≡ self.now.book.state.place }
         ensures base { self.now.mark.base ≡ K.start self.now.keeper }
         ensures bases { self.now.mark.bases ≡ bases_in (K.told self.now.keeper) }
@@ -331,6 +335,9 @@ impl<K: Keeper> Store<K> {
             → IfSome (K.told self.now.keeper)
             (λ ps. StandFlown self.now.opened (log_of self.now) x.payload
             (ps ++ x.payload ∷ [])) }
+        ensures again_flown { (x : FailedAppend) → self.now.mark.fault ≡ Some x
+            → IfSome (K.told self.now.keeper)
+            (λ ps. Opens self.now.opened.state.limits (ps ++ x.payload ∷ [])) }
         ensures later { self.now.opened.faults ≤ K.faults self.now.keeper }
         ensures rose { (x : FailedAppend) → self.now.mark.fault ≡ Some x
             → Rose self.now.opened.faults (K.faults self.now.keeper) }

@@ -213,6 +213,7 @@ impl<K: Keeper> Store<K> {
         requires { IsSweeping self.old sweep }
         ensures shut { Drops self.old self.old.left_open.sweep self.new }
         ensures closing { Closes self.old.left_open.sweep result }
+        ensures since { K.start self.old.keeper ≤ result.ticket.place }
     {
         let Sweep { ticket: _ } = sweep;
         let Some(open) = self.sweep.take() else {
@@ -240,6 +241,7 @@ impl<K: Keeper> Store<K> {
         requires may { IsTrue (may_be_swept sha256 self.old.book (sweep_in closing)) }
         requires logged { IsTrue (sweep_is_logged (sweep_in closing)) }
         requires told { HasAllNames (names_in (sweep_in closing)) self.old.left_open.drafts }
+        requires since { K.start self.old.keeper ≤ closing.ticket.place }
         requires marked { AreAllMarked self.old.book (sweep_in closing) marks.set roots.now }
         requires walked { HaveWalked self.old.book.state.commits marks }
         ensures { IsTold K.Keeper closing.ticket.caller self.old self.new

@@ -29,7 +29,7 @@ kept_by : (q : Planned → Bool) (b : Bool) (p : Planned) (rest : List Planned) 
 kept_by q true p rest own others = both_true _ _ own others
 kept_by q false p rest own others = others
 
-kept_pass : (q : Planned → Bool) (planned : List Planned) → list_all q planned ≡ true → list_all q (changing planned) ≡ true
+pub kept_pass : (q : Planned → Bool) (planned : List Planned) → list_all q planned ≡ true → list_all q (changing planned) ≡ true
 kept_pass q [] e = refl
 kept_pass q (p ∷ planned) e = let both = and_true (q p) (list_all q planned) e in kept_by q (has_changes p) p (changing planned) both.0 (kept_pass q planned both.1)
 
@@ -61,7 +61,7 @@ pub record MayFollow (state : State) (head : Hash) (planned : List Planned) : Ty
   pub made : AreMadeUpon state.present (entries state.commits head) planned
   pub room : length state.commits + length planned ≤ 4294967295
 
-pub may_follow : (state : State) (head : Hash) (planned made : List Planned) → AreDrafted state head planned → has_contents state.present (entries state.commits head) ≡ true → has_contents state.present (merges.all_set (all_planned planned)) ≡ true → HasRoom state planned
+pub may_follow : (state : State) (head : Hash) (planned made : List Planned) → AreDrafted state head planned → has_contents state.present (entries state.commits head) ≡ true → has_contents state.present (merges.all_set (all_planned planned)) ≡ true → HasRoom state head planned
     → all_conflicts_in planned ≡ [] → made ≡ changing planned → MayFollow state head made
 may_follow state head planned made drafted held set room none is = subst (λ (l : List Planned). MayFollow state head l) (sym is) (record {
   known = drafted.known;

@@ -1,6 +1,7 @@
 pub mod Lists
 pub mod Room
 pub mod Followed
+pub mod Within
 pub mod Settled
 pub mod Paired
 pub mod Drafted

@@ -18,6 +18,7 @@ use Rattle.cat_model.specs.Merges.{all_conflicts, applied, commits_made, merge_r
 use Rattle.cat_model.specs.Refusing.{◌>>=◌, Outcome, Tested}
 use Rattle.cat_model.specs.State.{State}
 use Rattle.cat_merge.specs.declared.plan.Planned.{Planned}
+use Rattle.cat_merge.specs.Planned.{AreUpon}
 use Rattle.cat_state.specs.declared.additions.Additions.{Additions}
 use Rattle.cat_state.specs.declared.failure.Failure.{Failure}
 use Rattle.cat_state.specs.Adding.{moved_state}
@@ -26,9 +27,10 @@ use Rattle.cat_state.specs.Giving.{Fails}
 use Rattle.cat_state.specs.GivingLaws.{fails_on}
 use Rattle.cat_decisions.specs.declared.decision.Decision.{Decision}
 use Rattle.cat_decisions.specs.declared.drafts.Draft.{Draft}
-use Rattle.cat_decisions.specs.Drafts.{all_conflicts_in, all_details_in, all_planned, changing, plans_for}
+use Rattle.cat_decisions.specs.Drafts.{all_conflicts_in, all_details_in, all_planned, changing, plans_for, plans_of}
 use Rattle.cat_decisions.specs.Settling.{AreAdded, HasRoom, Settles, decision_of, reply_at, told_or_refused}
 use Rattle.cat_decisions.proofs.Lists.{any_is, conflicts_are, details_are, is_filled, made_are}
+use Rattle.cat_decisions.proofs.Within.{moved_within}
 
 none_left : {A : Type 0} (xs : List A) → length xs ≡ 0 → xs ≡ []
 none_left [] e = refl
@@ -117,7 +119,7 @@ module _ (state : State) (d : Draft) (branch : Reference) (opened moment : ℕ) 
         ∙ ap (λ (r : Result (Hash × State) Refusal). r >>= λ x. Ok (moved_state x.1 (record branch { head = x.0 }), merge_reply its_plans x.0 true true)) made
         ∙ ap (λ (r : Reply). Ok (moved_state x.1 (record branch { head = x.0 }), r)) (reply_is details x.0 true true are)
 
-    module _ (command : Command) (room : HasRoom state d.planned.items) where
+    module _ (command : Command) (room : HasRoom state branch.head d.planned.items) (upon : AreUpon (entries state.commits branch.head) (plans_of d.planned.items)) where
       kept_as : (tried : Bool) → d.asked.dry_run ≡ tried → is_kept d.asked.dry_run (changing d.planned.items) ≡ is_kept tried (changing d.planned.items)
       kept_as tried is = ap (λ (t : Bool). is_kept t (changing d.planned.items)) is
 
@@ -128,7 +130,7 @@ module _ (state : State) (d : Draft) (branch : Reference) (opened moment : ℕ) 
       by_tried false None is there = stays_is (branch.head, state) (none_made moment state branch.head (changing d.planned.items) there) (kept_as false is ∙ nothing_made (changing d.planned.items) there)
       by_tried false (Some a) is there = record {
         step = moved_is (a.0, with_additions state a.1) there.step (kept_as false is ∙ ap not (some_left (changing d.planned.items) there.some));
-        may = record { place = room.place; additions = there.new; reference = there.last };
+        may = record { place = room.place; additions = there.new; reference = there.last; within = moved_within state branch d.planned.items a room upon there.adds };
         command = refl;
         head = refl;
       }

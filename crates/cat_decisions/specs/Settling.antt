@@ -10,6 +10,7 @@ use Rattle.cat_model.specs.declared.refusal.Refusal.{Refusal}
 use Rattle.cat_model.specs.declared.refusal.Refusal.TheVariants.{Conflicts}
 use Rattle.cat_model.specs.declared.reply.Merged.{Merged}
 use Rattle.cat_model.specs.declared.reply.Reply.TheVariants as replies
+use Rattle.cat_model.specs.Chain.{entries}
 use Rattle.cat_model.specs.Merges.{with_planned}
 use Rattle.cat_model.specs.Refusing.{Outcome}
 use Rattle.cat_model.specs.State.{State}
@@ -20,10 +21,11 @@ use Rattle.cat_state.specs.declared.change.ReferenceChange.TheVariants.{Moved}
 use Rattle.cat_state.specs.declared.failure.Failure.{Failure}
 use Rattle.cat_state.specs.Changing.{AreNewTo, MayBeHead, MayBeMade, applied, with_additions}
 use Rattle.cat_state.specs.Giving.{Fails}
+use Rattle.cat_state.specs.Planning.{AddsFew}
 use Rattle.cat_decisions.specs.declared.decision.Decision.{Decision}
 use Rattle.cat_decisions.specs.declared.decision.Decision.TheVariants.{Told, Made}
 use Rattle.cat_decisions.specs.declared.decision.Making.{Making}
-use Rattle.cat_decisions.specs.Drafts.{all_planned, changing}
+use Rattle.cat_decisions.specs.Drafts.{all_planned, all_set_in, changing}
 
 -- ---- replies
 
@@ -44,10 +46,13 @@ told_or_refused told reply conflicts = if told then Ok reply else Err (Conflicts
 
 -- ---- commits
 
--- there is room for an entry, and for the commits that plans make
-pub record HasRoom (state : State) (planned : List Planned) : Type 0 where
+-- there is room for an entry, for the commits that plans make, and for the keys that they set on the map at a head
+pub record HasRoom (state : State) (head : Hash) (planned : List Planned) : Type 0 where
   pub place : state.place < 4294967295
   pub commits : length state.commits + length (changing planned) ≤ 4294967295
+  pub log : state.place < state.limits.log
+  pub most : length state.commits + length (changing planned) ≤ state.limits.commits
+  pub keys : length (entries state.commits head) + length (all_set_in planned) ≤ state.limits.keys
 
 -- what the commits of plans add to a state upon a head, behind the last one's hash
 pub record IsAdded (moment : ℕ) (state : State) (head : Hash) (planned : List Planned) (a : Hash × Additions) : Type 0 where
@@ -55,6 +60,7 @@ pub record IsAdded (moment : ℕ) (state : State) (head : Hash) (planned : List 
   pub step : with_planned sha256 moment state head (all_planned planned) ≡ Ok (a.0, with_additions state a.1)
   pub new : AreNewTo state a.1
   pub last : MayBeHead (with_additions state a.1) a.0
+  pub adds : AddsFew state planned a.1
 
 -- what they add, if there are any
 abbrev pub AreAdded : ℕ → State → Hash → List Planned → Option (Hash × Additions) → Type 0

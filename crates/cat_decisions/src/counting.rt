@@ -100,7 +100,7 @@ pub(crate) fn needs_room(
     ensures test { Gives result
         (needs_planned_room catalogue.now (entries catalogue.now.commits branch.now.head)
         (all_planned planned.now)) }
-    ensures room { OnOk result (HasRoom catalogue.now planned.now) }
+    ensures room { OnOk result (HasRoom catalogue.now branch.now.head planned.now) }
 {
     let head = catalogue.map_at(&branch.head)?;
     let sets = all_set_count(planned)?;

@@ -1,12 +1,13 @@
 //! Calls that make, move and remove references. They open no draft, and add no contents or commits.
 
-ghost use Rattle.std.specs.Prelude.{ℕ, ◌≡◌, ◌<◌, Ok, false};
+ghost use Rattle.std.specs.Prelude.{ℕ, ◌≡◌, ◌<◌, IsTrue, Ok, false};
 ghost use Rattle.sha2.specs.Sha256.{sha256};
 ghost use Rattle.cat_model.specs.declared.command.Command.{Command as CommandValue};
 ghost use Rattle.cat_model.specs.declared.command.Command.TheVariants as commands;
 ghost use Rattle.cat_model.specs.declared.reply.Reply.TheVariants as replies;
 ghost use Rattle.cat_model.specs.Moves.{step_assign, step_create, step_delete, with_references};
 ghost use Rattle.cat_model.specs.Step.{Turn, head_left, logged_command, opens_draft, step};
+ghost use Rattle.cat_frames.specs.Standing.{is_within};
 ghost use Rattle.cat_state.specs.Changing.{MayBecome, changed_references};
 ghost use Rattle.cat_decisions.specs.Decisions.{Decides};
 
@@ -34,6 +35,10 @@ fn referred(
 ) -> Decision
     requires place { catalogue.now.place < 4294967295 }
     requires may { MayBecome catalogue.now change }
+    requires within { IsTrue (is_within catalogue.now)
+        → IsTrue
+        (is_within
+        (with_references catalogue.now (changed_references catalogue.now.references change))) }
     ensures { (draft : ℕ) (call : CommandValue) → command ≡ logged_command sha256 draft call
         → head ≡ head_left call (replies.Reference reply)
         → Decides draft catalogue.now call

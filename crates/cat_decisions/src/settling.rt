@@ -146,7 +146,7 @@ fn added(
     requires held { IsHeldAt catalogue.now head.now }
     requires set { IsTrue
         (has_contents catalogue.now.present (all_set (all_planned planned.items))) }
-    requires room { HasRoom catalogue.now planned.items }
+    requires room { HasRoom catalogue.now head.now planned.items }
     requires conflicts { all_conflicts_in planned.items ≡ [] }
     ensures added { IfOk result (AreAdded moment catalogue.now head.now (changing planned.items)) }
     ensures refused { IfErr result
@@ -175,7 +175,7 @@ fn apply(
 ) -> Result<Decision, Failure>
     requires drafted { AreDrafted catalogue.now branch.now.head draft.planned.items }
     requires held { IsHeldAt catalogue.now branch.now.head }
-    requires room { HasRoom catalogue.now draft.planned.items }
+    requires room { HasRoom catalogue.now branch.now.head draft.planned.items }
     requires conflicts { all_conflicts_in draft.planned.items ≡ [] }
     requires details { details ≡ all_details_in draft.planned.items }
     ensures step { Settles catalogue.now draft.command
@@ -236,7 +236,7 @@ fn by_conflicts(
 ) -> Result<Decision, Failure>
     requires drafted { AreDrafted catalogue.now branch.now.head draft.planned.items }
     requires held { IsHeldAt catalogue.now branch.now.head }
-    requires room { HasRoom catalogue.now draft.planned.items }
+    requires room { HasRoom catalogue.now branch.now.head draft.planned.items }
     requires details { details ≡ all_details_in draft.planned.items }
     requires conflicts { conflicts ≡ all_conflicts_in draft.planned.items }
     ensures step { Settles catalogue.now draft.command
@@ -275,7 +275,7 @@ fn unless_conflicts(
 ) -> Result<Decision, Failure>
     requires drafted { AreDrafted catalogue.now branch.now.head draft.planned.items }
     requires held { IsHeldAt catalogue.now branch.now.head }
-    requires room { HasRoom catalogue.now draft.planned.items }
+    requires room { HasRoom catalogue.now branch.now.head draft.planned.items }
     ensures step { Settles catalogue.now draft.command
         (step_unless_conflicts sha256 catalogue.now
         (plans_for draft branch.now opened moment)

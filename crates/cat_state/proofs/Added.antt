@@ -25,7 +25,7 @@ use Rattle.cat_state.specs.declared.failure.Failure.{Failure}
 use Rattle.cat_state.specs.Adding.{HasCommit, holding, keeping, with_both}
 use Rattle.cat_state.specs.Changing.{AreBeside, AreNewTo, with_additions}
 use Rattle.cat_state.specs.Giving.{GivesAs}
-use Rattle.cat_state.specs.Keeping.{IsHeldAt, MayBeAdded, has_contents}
+use Rattle.cat_state.specs.Keeping.{IsHeldAt, MayBeAdded, fits, has_contents}
 use Rattle.cat_state.proofs.Heads.{known_more}
 use Rattle.cat_state.proofs.Kept.{next_of, none_by}
 use Rattle.cat_state.proofs.Upon.{entries_at}
@@ -97,6 +97,7 @@ commit_more state old new hash c map are next absent below commits maps contents
       known = rw (commits, same_self hash) refl;
       changed = rw commits (entries_new before hash c ∙ sym next.changed);
       count = rw commits (omega arith);
+      few = λ fit are. rw commits (both_true _ _ (subst (λ (m : Map). fits state.limits m ≡ true) next.changed fit) are);
     }
 
 -- a commit that is there already
@@ -108,6 +109,7 @@ commit_there state a hash c map are next there = record {
   known = found_is_known (with_additions state a).commits hash c there;
   changed = entries_at (with_additions state a).commits hash c are.linked there ∙ sym next.changed;
   count = omega arith;
+  few = λ fit are. are;
 }
 
 -- what is visible at a commit that was added is held where the contents of its map are

@@ -10,9 +10,9 @@ use Rattle.cat_model.specs.Maps.{Map}
 use Rattle.cat_model.specs.Namespaces.{is_well_formed}
 use Rattle.cat_frames.specs.Standing.{stands_above}
 use Rattle.cat_names.specs.declared.hash.Hash.{Hash}
-use Rattle.cat_state.specs.Keeping.{AreKept}
+use Rattle.cat_state.specs.Keeping.{AreKept, fits}
 use Rattle.cat_state.specs.Starting.{map_above, may_be_added, may_be_map, may_stand}
-use Rattle.cat_state.proofs.Founding.{fits, next_stands, stands_next}
+use Rattle.cat_state.proofs.Founding.{next_stands, stands_next}
 
 -- ---- one commit
 

@@ -19,8 +19,9 @@ use Rattle.cat_model.specs.Same.{same_hash}
 use Rattle.cat_frames.specs.Standing.{are_above, has_main, heads_known, heads_shown, is_whole, is_within, knows, knows_other, maps_pass, may_start, stands_above}
 use Rattle.cat_model.specs.State.{State, no_ancestor}
 use Rattle.cat_names.specs.declared.hash.Hash.{Hash}
-use Rattle.cat_state.specs.Keeping.{AreKept, IsCatalogue}
+use Rattle.cat_state.specs.Keeping.{AreKept, IsCatalogue, fits}
 use Rattle.cat_state.specs.Starting.{map_above, may_all_stand, may_be_added, may_be_map, may_be_references, may_stand}
+use Rattle.cat_state.proofs.Within.{is_few, within_by, within_parts}
 
 -- ---- a commit above older ones
 
@@ -98,9 +99,6 @@ right_true false = refl
 pub added_alone : (limits : Limits) (xs : Commits) → may_all_stand limits (reverse xs) ≡ may_be_added limits [] xs
 added_alone limits xs = ap (may_all_stand limits) (sym (append-nil (reverse xs))) ∙ added_all limits [] xs ∙ right_true (may_be_added limits [] xs)
 
-abbrev pub fits : Limits → Map → Bool
-fits limits map = nat_le (length map) limits.keys
-
 -- each commit stands above those before it, and each map is as it may be
 pub all_parts : (limits : Limits) (commits : Commits) → may_all_stand limits commits ≡ true → (are_above sha256 commits ≡ true) × (maps_pass is_well_formed commits ≡ true) × (maps_pass (fits limits) commits ≡ true)
 all_parts limits [] e = (refl, refl, refl)
@@ -140,14 +138,6 @@ all_two p q (x ∷ xs) = crossed (p x) (list_all p xs) (q x) (list_all q xs) ∙
 
 -- ---- a state
 
--- no more than its limits say, but for the keys at its commits
-abbrev pub is_few : State → Bool
-is_few s =
-    nat_le (length s.references) (max 1 s.limits.references)
-    && nat_le s.place s.limits.log
-    && nat_le (length s.commits) s.limits.commits
-    && nat_le (length s.present) s.limits.contents
-
 -- all that is found of it, part by part
 pub record IsFound (s : State) : Type 0 where
   pub few : is_few s ≡ true
@@ -155,7 +145,7 @@ pub record IsFound (s : State) : Type 0 where
   pub references : may_be_references s.commits s.present s.references ≡ true
 
 pub start_found : (s : State) → may_start sha256 s ≡ true → IsFound s
-unfolding is_whole is_within
+unfolding is_whole
 start_found s e =
     let both = and_parts (is_whole sha256 s) (is_within s) e in
     let above = are_above sha256 s.commits in
@@ -163,43 +153,31 @@ start_found s e =
     let main = has_main s.references in
     let known = heads_known sha256 s.commits s.references in
     let shown = heads_shown s.commits s.present s.references in
-    let few = maps_pass (fits s.limits) s.commits in
-    let one = nat_le (length s.references) (max 1 s.limits.references) in
-    let two = nat_le s.place s.limits.log in
-    let three = nat_le (length s.commits) s.limits.commits in
-    let four = nat_le (length s.present) s.limits.contents in
     let w1 = and_parts (above && well && main && known) shown both.0 in
     let w2 = and_parts (above && well && main) known w1.0 in
     let w3 = and_parts (above && well) main w2.0 in
     let w4 = and_parts above well w3.0 in
-    let l1 = and_parts (one && two && three && few) four both.1 in
-    let l2 = and_parts (one && two && three) few l1.0 in
+    let within = within_parts s both.1 in
     record {
-      few = and_from (one && two && three) four l2.0 l1.1;
-      stand = all_from s.limits s.commits w4.0 w4.1 l2.1;
+      few = within.0;
+      stand = all_from s.limits s.commits w4.0 w4.1 within.1;
       references = and_from (main && known) shown (and_from main known w3.1 w2.1) w1.1;
     }
 
 pub found_start : (s : State) → IsFound s → may_start sha256 s ≡ true
-unfolding is_whole is_within
+unfolding is_whole
 found_start s found =
     let above = are_above sha256 s.commits in
     let well = maps_pass is_well_formed s.commits in
     let main = has_main s.references in
     let known = heads_known sha256 s.commits s.references in
     let shown = heads_shown s.commits s.present s.references in
-    let few = maps_pass (fits s.limits) s.commits in
-    let one = nat_le (length s.references) (max 1 s.limits.references) in
-    let two = nat_le s.place s.limits.log in
-    let three = nat_le (length s.commits) s.limits.commits in
-    let four = nat_le (length s.present) s.limits.contents in
-    let l = and_parts (one && two && three) four found.few in
     let stand = all_parts s.limits s.commits found.stand in
     let r = and_parts (main && known) shown found.references in
     let m = and_parts main known r.0 in
     and_from (is_whole sha256 s) (is_within s)
     (and_from (above && well && main && known) shown (and_from (above && well && main) known (and_from (above && well) main (and_from above well stand.0 stand.1) m.0) m.1) r.1)
-    (and_from (one && two && three && few) four (and_from (one && two && three) few l.0 stand.2) l.1)
+    (within_by s found.few stand.2)
 
 -- ---- the state in a checkpoint
 
@@ -242,14 +220,18 @@ starts_all limits c few added references = found_start (state_in limits c) (reco
 })
 
 -- the parts of its catalogue
-pub catalogue_found : (limits : Limits) (references : List Reference) (commits : Commits) (maps : List (Hash × Map)) (contents : List (Hash × Content)) → limits.log ≤ 4294967295 → limits.commits ≤ 4294967295 → AreKept maps commits
-    → may_be_references commits contents references ≡ true → IsCatalogue limits references commits maps contents
-catalogue_found limits references commits maps contents log most kept may =
+pub catalogue_found : (limits : Limits) (c : Checkpoint) (references : List Reference) (commits : Commits) (maps : List (Hash × Map)) (contents : List (Hash × Content)) → limits.log ≤ 4294967295 → limits.commits ≤ 4294967295 → AreKept maps commits
+    → references ≡ c.references → commits ≡ reverse c.commits → contents ≡ reverse c.contents
+    → (nat_le (length c.references) (max 1 limits.references) && nat_le c.place limits.log && nat_le (length c.commits) limits.commits && nat_le (length c.contents) limits.contents) ≡ true
+    → may_be_added limits [] c.commits ≡ true → may_be_references commits contents references ≡ true → IsCatalogue limits references commits maps contents c.place
+catalogue_found limits c references commits maps contents log most kept named made held few added may =
     let r = and_parts (has_main references && heads_known sha256 commits references) (heads_shown commits contents references) may in
+    let starts = starts_all limits c few added (sym (same_references c references commits contents named made held) ∙ may) in
     record {
       log_bound = log;
       commits_bound = most;
       kept = kept;
       heads = (and_parts (has_main references) (heads_known sha256 commits references) r.0).1;
       held = r.1;
+      within = (λ i. is_within (record { place = c.place; references = named i; commits = made i; present = held i; limits = limits })) ∙ (and_parts (is_whole sha256 (state_in limits c)) (is_within (state_in limits c)) starts).1;
     }

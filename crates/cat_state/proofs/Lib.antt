@@ -6,8 +6,10 @@ pub mod Sets
 pub mod Over
 pub mod Added
 pub mod Upon
+pub mod Within
 pub mod Made
 pub mod Founding
+pub mod Whole
 pub mod Founded
 pub mod Sorted
 pub mod Spelled

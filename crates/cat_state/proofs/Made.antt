@@ -1,12 +1,14 @@
 -- What holds of a catalogue after a change.
-use Rattle.std.proofs.Common.{◌≡◌, ◌≤◌, List, [], ◌∷◌, ◌++◌, None, Bool, true, IsTrue, refl, sym, subst, ◌∙◌}
+use Rattle.std.proofs.Common.{◌≡◌, ◌≤◌, ◌<◌, ◌+◌, List, [], ◌∷◌, ◌++◌, None, Bool, true, not, IsTrue, refl, sym, subst, ◌∙◌}
 use Rattle.sha2.specs.Sha256.{sha256}
 use Rattle.cat_names.specs.declared.hash.Hash.{Hash}
 use Rattle.cat_graph.specs.GraphLaws.{same_self}
 use Rattle.cat_graph.specs.Linked.{AreLinked, is_known}
 use Rattle.cat_keymap.specs.MapsAt.{map_is}
+use Rattle.cat_model.specs.declared.content.Content.{Content}
 use Rattle.cat_model.specs.declared.limits.Limits.{Limits}
 use Rattle.cat_model.specs.declared.reference.Reference.{Reference}
+use Rattle.cat_model.specs.Base.{is_among}
 use Rattle.cat_model.specs.Chain.{Commits, commit_of, entries}
 use Rattle.cat_model.specs.Maps.{Map}
 use Rattle.cat_model.specs.State.{State, no_ancestor}
@@ -25,6 +27,7 @@ use Rattle.cat_state.proofs.Heads.{all_known, heads_more}
 use Rattle.cat_state.proofs.Held.{Contents, Grows, map_stays, spared_stays, there_more}
 use Rattle.cat_state.proofs.Kept.{map_absent}
 use Rattle.cat_state.proofs.Upon.{entries_stay}
+use Rattle.cat_state.proofs.Within.{within_first, within_without}
 
 -- ---- maps
 
@@ -76,13 +79,13 @@ heads_held s more contents references linked known held =
 -- ---- all of it
 
 -- the parts of a catalogue without a commit
-pub catalogue_empty : (limits : Limits) (main : Reference) → limits.log ≤ 4294967295 → limits.commits ≤ 4294967295 → main.head ≡ no_ancestor sha256 → IsCatalogue limits (main ∷ []) [] [] []
+pub catalogue_empty : (limits : Limits) (main : Reference) → limits.log ≤ 4294967295 → limits.commits ≤ 4294967295 → main.head ≡ no_ancestor sha256 → IsCatalogue limits (main ∷ []) [] [] [] 0
 unfolding entries
-catalogue_empty limits main log commits head = record { log_bound = log; commits_bound = commits; kept = tt; heads = rw (head, same_self (no_ancestor sha256)) refl; held = refl }
+catalogue_empty limits main log commits head = record { log_bound = log; commits_bound = commits; kept = tt; heads = rw (head, same_self (no_ancestor sha256)) refl; held = refl; within = within_first limits main }
 
 -- a catalogue's parts after a change that it may take
-pub catalogue_changed : (s : State) (maps : List (Hash × Map)) (c : Change) → IsCatalogue s.limits s.references s.commits maps s.present → MayBeMade s c
-    → IsCatalogue s.limits (changed_references s.references c.reference) (c.additions.commits.list ++ s.commits) (c.additions.maps.list ++ maps) (c.additions.contents.list ++ s.present)
+pub catalogue_changed : (s : State) (maps : List (Hash × Map)) (c : Change) → IsCatalogue s.limits s.references s.commits maps s.present s.place → MayBeMade s c
+    → IsCatalogue s.limits (changed_references s.references c.reference) (c.additions.commits.list ++ s.commits) (c.additions.maps.list ++ maps) (c.additions.contents.list ++ s.present) (s.place + 1)
 catalogue_changed s maps c is may =
     let added = may.additions in
     record {
@@ -93,6 +96,7 @@ catalogue_changed s maps c is may =
           (heads_more s.commits (c.additions.commits.list ++ s.commits) s.references (all_known c.additions.commits.list s.commits) is.heads);
       held = heads_changed (is_held_at (c.additions.commits.list ++ s.commits) (c.additions.contents.list ++ s.present)) (with_additions s c.additions) s.references c.reference may.reference (λ head may. may.held)
           (heads_held s c.additions.commits.list c.additions.contents.list s.references added.linked is.heads is.held);
+      within = may.within is.within;
     }
 
 named_newly : (state : State) (change : ReferenceChange) → MayBecome state change → HasNewName state.references change
@@ -101,7 +105,7 @@ named_newly state (Moved r) may = tt
 named_newly state (Removed name) may = tt
 
 -- such a change is new to its tables
-pub new_to_tables : (s : State) (maps : List (Hash × Map)) (c : Change) → IsCatalogue s.limits s.references s.commits maps s.present → MayBeMade s c → IsNewTo s.references s.present s.commits maps c
+pub new_to_tables : (s : State) (maps : List (Hash × Map)) (c : Change) → IsCatalogue s.limits s.references s.commits maps s.present s.place → MayBeMade s c → IsNewTo s.references s.present s.commits maps c
 new_to_tables s maps c is may =
     let added = may.additions in
     record {
@@ -112,13 +116,14 @@ new_to_tables s maps c is may =
     }
 
 -- a catalogue's parts after a sweep of what no head shows
-pub catalogue_swept : (s : State) (maps : List (Hash × Map)) (hashes : List Hash) → IsCatalogue s.limits s.references s.commits maps s.present → IsTrue (heads_pass (spares_at s.commits hashes) s.references)
-    → IsCatalogue s.limits s.references s.commits maps (without hashes s.present)
-catalogue_swept s maps hashes is spared = record {
+pub catalogue_swept : (s : State) (maps : List (Hash × Map)) (hashes : List Hash) → IsCatalogue s.limits s.references s.commits maps s.present s.place → IsTrue (heads_pass (spares_at s.commits hashes) s.references) → s.place < s.limits.log
+    → IsCatalogue s.limits s.references s.commits maps (without hashes s.present) (s.place + 1)
+catalogue_swept s maps hashes is spared log = record {
   log_bound = is.log_bound;
   commits_bound = is.commits_bound;
   kept = is.kept;
   heads = is.heads;
   held = all_both (λ r. is_held_at s.commits s.present r.head) (λ r. spares_at s.commits hashes r.head) (λ r. is_held_at s.commits (without hashes s.present) r.head) s.references
       (λ r. spared_stays hashes s.present (entries s.commits r.head)) is.held spared;
+  within = within_without s (λ (x : Hash × Content). not (is_among hashes x.0)) log is.within;
 }

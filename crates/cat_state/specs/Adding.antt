@@ -15,7 +15,9 @@ use Rattle.cat_model.specs.Refusing.{◌>>=◌}
 use Rattle.cat_model.specs.State.{State, commit_hash, content_hash, is_known, moved_reference}
 use Rattle.cat_state.specs.declared.additions.Additions.{Additions}
 use Rattle.cat_state.specs.declared.records.Record.{Record}
+use Rattle.cat_frames.specs.Standing.{maps_pass}
 use Rattle.cat_state.specs.Changing.{AreNewTo, with_additions}
+use Rattle.cat_state.specs.Keeping.{fits}
 
 -- the hashes are the contents'
 abbrev pub AreHashesOf : List Hash → List Content → Type 0
@@ -39,7 +41,7 @@ keeping commits state = record state { commits = commits }
 abbrev pub IsAbove : {A : Type 0} → List A → List A → Type 0
 IsAbove older list = drop (length list - length older) list ≡ older
 
--- additions after a commit of a hash, with the map at it, was added, unless it was there: what was known stays so, it is known, and no content was added
+-- additions after a commit of a hash, with the map at it, was added, unless it was there: what was known stays so, it is known, no content was added, and no map has more keys than the limit says where this one and those before have no more
 pub record HasCommit (state : State) (old new : Additions) (hash : Hash) (map : Map) : Type 0 where
   pub additions : AreNewTo state new
   pub contents : new.contents ≡ old.contents
@@ -47,6 +49,7 @@ pub record HasCommit (state : State) (old new : Additions) (hash : Hash) (map : 
   pub known : IsTrue (is_known sha256 (with_additions state new) hash)
   pub changed : entries (with_additions state new).commits hash ≡ map
   pub count : length (with_additions state new).commits ≤ length (with_additions state old).commits + 1
+  pub few : IsTrue (fits state.limits map) → IsTrue (maps_pass (fits state.limits) (with_additions state old).commits) → IsTrue (maps_pass (fits state.limits) (with_additions state new).commits)
 
 -- a state with more contents, then with one more commit
 abbrev pub with_both : State → List Content → Commit → Result State Refusal

@@ -9,6 +9,7 @@ use Rattle.cat_model.specs.Maps.{Map}
 use Rattle.cat_model.specs.Moves.{with_references}
 use Rattle.cat_model.specs.State.{State, is_known, moved_reference, reference_of, with_reference, without_reference}
 use Rattle.cat_tables.specs.Tables.{are_distinct}
+use Rattle.cat_frames.specs.Standing.{is_within}
 use Rattle.cat_state.specs.declared.additions.Additions.{Additions}
 use Rattle.cat_state.specs.declared.change.Change.{Change}
 use Rattle.cat_state.specs.declared.change.ReferenceChange.{ReferenceChange}
@@ -58,8 +59,9 @@ MayBecome state (Removed name) = Unit {0}
 abbrev pub applied : State → Change → State
 applied state c = with_references (with_additions state c.additions) (changed_references state.references c.reference)
 
--- a change that a state may take
+-- a change that a state may take: where the state passes none of its limits, so does what the change makes of it
 pub record MayBeMade (state : State) (c : Change) : Type 0 where
   pub place : state.place < 4294967295
   pub additions : AreNewTo state c.additions
   pub reference : MayBecome (with_additions state c.additions) c.reference
+  pub within : IsTrue (is_within state) → IsTrue (is_within (applied state c))

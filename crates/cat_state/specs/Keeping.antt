@@ -1,5 +1,5 @@
 -- What holds of each catalogue: the map at each commit, the contents that are visible at it, and where references point.
-use Rattle.std.specs.Prelude.{◌≡◌, ◌≤◌, List, [], ◌∷◌, Option, Some, None, Bool, ◌||◌, is_some, IsTrue}
+use Rattle.std.specs.Prelude.{◌≡◌, ◌≤◌, ℕ, List, [], ◌∷◌, Option, Some, None, Bool, ◌||◌, is_some, length, nat_le, IsTrue}
 use Rattle.std.specs.List.{list_all, list_any}
 use Rattle.sha2.specs.Sha256.{sha256}
 use Rattle.cat_names.specs.declared.hash.Hash.{Hash}
@@ -12,6 +12,7 @@ use Rattle.cat_model.specs.Maps.{Map, after_changes}
 use Rattle.cat_model.specs.Namespaces.{is_well_formed}
 use Rattle.cat_model.specs.Same.{same_hash}
 use Rattle.cat_model.specs.State as state
+use Rattle.cat_frames.specs.Standing.{is_within}
 use Rattle.cat_tables.specs.References.{heads_pass}
 use Rattle.cat_graph.specs.Linked.{is_known, is_merge_known, next_generation}
 
@@ -68,12 +69,19 @@ abbrev pub IsAtCommit : state.State → Option Reference → Type 0
 IsAtCommit s None = Unit {0}
 IsAtCommit s (Some r) = IsTrue (state.is_known sha256 s r.head)
 
+-- ---- limits
+
+-- a map has no more keys than the limit says
+abbrev pub fits : Limits → Map → Bool
+fits limits map = nat_le (length map) limits.keys
+
 -- ---- all of it
 
--- what holds of a catalogue's parts: places and generations don't pass their types' ends, each reference points at a commit or at the hash that has no ancestor, and each content that is visible where one points is there
-pub record IsCatalogue (limits : Limits) (references : List Reference) (commits : Commits) (maps : List (Hash × Map)) (contents : List (Hash × Content)) : Type 0 where
+-- what holds of a catalogue's parts: places and generations don't pass their types' ends, each reference points at a commit or at the hash that has no ancestor, each content that is visible where one points is there, and no limit is passed
+pub record IsCatalogue (limits : Limits) (references : List Reference) (commits : Commits) (maps : List (Hash × Map)) (contents : List (Hash × Content)) (place : ℕ) : Type 0 where
   pub log_bound : limits.log ≤ 4294967295
   pub commits_bound : limits.commits ≤ 4294967295
   pub kept : AreKept maps commits
   pub heads : IsTrue (heads_pass (is_known commits) references)
   pub held : IsTrue (heads_pass (is_held_at commits contents) references)
+  pub within : IsTrue (is_within (record { place = place; references = references; commits = commits; present = contents; limits = limits }))

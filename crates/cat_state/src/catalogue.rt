@@ -1,11 +1,12 @@
 //! The catalogue.
 
-ghost use Rattle.std.specs.Prelude.{◌≡◌, ◌≤◌, IfOk, IsTrue, length};
+ghost use Rattle.std.specs.Prelude.{◌≡◌, ◌≤◌, IfOk, IsTrue, length, true};
 ghost use Rattle.sha2.specs.Sha256.{sha256};
 ghost use Rattle.cat_names.specs.declared.hash.Hash.{Hash};
 ghost use Rattle.cat_model.specs.Chain.{entries, generation};
 ghost use Rattle.cat_model.specs.Namespaces.{is_well_formed};
 ghost use Rattle.cat_model.specs.State.{first_state};
+ghost use Rattle.cat_frames.specs.Standing.{has_main, may_start};
 ghost use Rattle.cat_tables.specs.References.{heads_pass};
 ghost use Rattle.cat_graph.specs.Linked.{AreLinked, is_known};
 ghost use Rattle.cat_keymap.specs.MapsAt.{map_at};
@@ -53,7 +54,8 @@ impl Model for Catalogue {
       limits = c.limits;
     } };
 
-    ghost invariant = { λ c. IsCatalogue c.limits c.references c.commits c.maps c.contents };
+    ghost invariant = { λ c. IsCatalogue c.limits c.references c.commits c.maps c.contents
+        c.place };
 }
 
 impl Catalogue {
@@ -120,6 +122,14 @@ impl Catalogue {
         ensures { AreLinked self.now.commits }
     {
         let _ = self.commits();
+    }
+
+    /// Says what holds of it: a log may start from it, where its default branch is there.
+    pub fn may_start(&self)
+        requires main { IsTrue (has_main self.now.references) }
+        ensures { may_start sha256 self.now ≡ true }
+    {
+        self.commits.known();
     }
 
     /// The generation of a hash; 0 for the one that has no ancestor, and for one that isn't known.

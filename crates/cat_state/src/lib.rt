@@ -5,7 +5,8 @@
 //! and then the one takes the other's place, which can't fail and takes no memory. So each change
 //! leaves the state that the model's step leaves, or the state as it was. It is
 //! written into checkpoints, and made from one where a log may start there. The map at each commit is
-//! well-formed, and each reference points at a commit or at the hash that has no ancestor.
+//! well-formed, each reference points at a commit or at the hash that has no ancestor, and no limit
+//! is passed.
 #![tactic(auto)]
 
 mod adding;

@@ -52,6 +52,7 @@ impl Catalogue {
     /// shares with this one all else.
     pub fn swept(&self, alloc: Global, hashes: &[Hash]) -> Result<Catalogue, NoMemory>
         requires place { self.now.place < 4294967295 }
+        requires log { self.now.place < self.now.limits.log }
         requires spared { IsTrue
             (heads_pass (spares_at self.now.commits hashes.now) self.now.references) }
         ensures { IfOk result (λ catalogue. catalogue ≡ sweeping self.now hashes.now) }

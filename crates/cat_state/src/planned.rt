@@ -13,7 +13,7 @@ ghost use Rattle.cat_state.specs.Adding.{HasCommit, IsRecordOf};
 ghost use Rattle.cat_state.specs.Changing.{AreNewTo, with_additions};
 ghost use Rattle.cat_state.specs.Giving.{GivesAs};
 ghost use Rattle.cat_state.specs.Keeping.{IsHeldAt};
-ghost use Rattle.cat_state.specs.Planning.{AreMadeUpon, IsMadeUpon};
+ghost use Rattle.cat_state.specs.Planning.{AddsFew, AreMadeUpon, IsMadeUpon};
 
 use crate::additions::Additions;
 use crate::catalogue::Catalogue;
@@ -140,6 +140,7 @@ impl Catalogue {
         ensures known { IfOk result
             (λ a. IsTrue (is_known sha256 (with_additions self.now a.1) a.0)) }
         ensures held { IfOk result (λ a. IsHeldAt (with_additions self.now a.1) a.0) }
+        ensures adds { IfOk result (λ a. AddsFew self.now planned.items a.1) }
     {
         let mut more = self.no_additions(alloc);
         let mut at = *head;

@@ -110,6 +110,9 @@ impl Catalogue {
             → result ≡ needs_planned_room self.now head.now planned }
         ensures place { OnOk result (self.now.place < 4294967295) }
         ensures commits { OnOk result (length self.now.commits + commits ≤ 4294967295) }
+        ensures log { OnOk result (self.now.place < self.now.limits.log) }
+        ensures most { OnOk result (length self.now.commits + commits ≤ self.now.limits.commits) }
+        ensures keys { OnOk result (length head.now + puts ≤ self.now.limits.keys) }
     {
         let limits = self.limits();
         needs_room(u64::from(self.place()), limits.log, Quantity::Log)?;

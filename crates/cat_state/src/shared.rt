@@ -165,6 +165,7 @@ impl SharedCatalogue {
     /// The catalogue after a sweep, in memory that can be shared.
     fn next_swept(&self, alloc: Global, hashes: &[Hash]) -> Result<Arc<Catalogue>, NoMemory>
         requires place { self.now.place < 4294967295 }
+        requires log { self.now.place < self.now.limits.log }
         requires spared { IsTrue
             (heads_pass (spares_at self.now.commits hashes.now) self.now.references) }
         ensures { IfOk result (λ next. catalogue_in next ≡ sweeping self.now hashes.now) }
@@ -184,6 +185,7 @@ impl SharedCatalogue {
         hashes: &[Hash],
     ) -> Result<(), Unmade>
         requires place { self.old.place < 4294967295 }
+        requires log { self.old.place < self.old.limits.log }
         requires spared { IsTrue
             (heads_pass (spares_at self.old.commits hashes.now) self.old.references) }
         requires logged { IsTrue (is_logged sha256 entry.now) }
@@ -205,6 +207,7 @@ impl SharedCatalogue {
     /// hashes; or changes nothing. Views keep the old one.
     pub fn apply_sweep(&mut self, alloc: Global, hashes: &[Hash]) -> Result<(), NoMemory>
         requires place { self.old.place < 4294967295 }
+        requires log { self.old.place < self.old.limits.log }
         requires spared { IsTrue
             (heads_pass (spares_at self.old.commits hashes.now) self.old.references) }
         ensures ok { OnOk result (self.new ≡ sweeping self.old hashes.now) }

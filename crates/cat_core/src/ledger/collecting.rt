@@ -47,6 +47,7 @@ impl Ledger {
             ≡ needs_sweep_room self.now.state
             (length sweep.now.commits + length sweep.now.contents) }
         ensures below { OnOk result (self.now.state.place < 4294967295) }
+        ensures log { OnOk result (self.now.state.place < self.now.state.limits.log) }
     {
         sweep.commits.known();
         sweep.contents.known();
@@ -87,6 +88,7 @@ impl Ledger {
         hashes: &[Hash],
     ) -> Result<(), Unmade>
         requires place { self.old.state.place < 4294967295 }
+        requires log { self.old.state.place < self.old.state.limits.log }
         requires spared { IsTrue
             (heads_pass (spares_at self.old.state.commits hashes.now) self.old.state.references) }
         requires logged { IsTrue (is_logged sha256 entry) }
@@ -145,6 +147,7 @@ impl Ledger {
         requires room { needs_sweep_room self.old.state (length sweep.commits + length sweep.contents)
             ≡ Ok tt }
         requires place { self.old.state.place < 4294967295 }
+        requires log { self.old.state.place < self.old.state.limits.log }
         requires logged { IsTrue (sweep_is_logged sweep) }
         requires goes { AreRemoved self.old sweep hashes.items }
         requires up { K.down keeper.old ≡ None }

@@ -17,7 +17,7 @@ returns-in_ok-decision-in-Ok c =
     record {
       step =
           subst (λ (d : Decision). Settles state (c.args.draft).command (step_applied sha256 state (plans_for c.args.draft c.args.branch.now c.args.opened c.args.moment)) (Ok d)) (sym c.in_ok-decision-in-Ok.ensures)
-          (decision_settles state c.args.draft c.args.branch.now c.args.opened c.args.moment _ (rw c.as_slice.ensures.value at c.in_default.ensures.exact) c.requires.details (c.args.draft).command c.requires.room c.in-Ok.added c.in-Ok.ensures.added);
+          (decision_settles state c.args.draft c.args.branch.now c.args.opened c.args.moment _ (rw c.as_slice.ensures.value at c.in_default.ensures.exact) c.requires.details (c.args.draft).command c.requires.room c.requires.drafted.plans.upon c.in-Ok.added c.in-Ok.ensures.added);
     }
 
 pub returns-in-Err-added : goal.returns-in-Err-added

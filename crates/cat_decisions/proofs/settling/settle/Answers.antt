@@ -4,7 +4,7 @@ use Rattle.cat_decisions.proofs.Settled.{has_room}
 use Rattle.cat_decisions.proofs.settling.settle.Goals as goal
 
 pub unless_conflicts-requires-clause-room : goal.unless_conflicts-requires-clause-room
-unless_conflicts-requires-clause-room c = subst (HasRoom c.args.catalogue.now) c.as_slice.ensures.value c.in-Ok.ensures.room
+unless_conflicts-requires-clause-room c = subst (HasRoom c.args.catalogue.now c.args.branch.now.head) c.as_slice.ensures.value c.in-Ok.ensures.room
 
 pub returns-in-Ok : goal.returns-in-Ok
 returns-in-Ok c =

@@ -1,5 +1,5 @@
 use Rattle.std.proofs.Common.{◌<◌, arith}
-use Rattle.cat_core.proofs.Swept.{place_below, swept_again, sweep_spares}
+use Rattle.cat_core.proofs.Swept.{has_place, place_below, swept_again, sweep_spares}
 use Rattle.cat_core.proofs.replay.Replay.sweep_again.Goals as goal
 
 pub overflow_add-place : goal.overflow_add-place
@@ -10,6 +10,9 @@ overflow_add-place c =
 pub sweep_again-requires-clause-place : goal.sweep_again-requires-clause-place
 sweep_again-requires-clause-place c =
     place_below c.args.self.now.ledger c.args.entry c.args.hashes.items c.requires.removes c.limits.result (rw c.catalogue-catalogue.ensures at c.limits.ensures.value) c.limits.ensures.log
+
+pub sweep_again-requires-clause-log : goal.sweep_again-requires-clause-log
+sweep_again-requires-clause-log c = has_place c.args.self.now.ledger.state c.requires.removes.sweep c.requires.removes.room
 
 pub sweep_again-requires-clause-spared : goal.sweep_again-requires-clause-spared
 sweep_again-requires-clause-spared c = rw c.as_slice.ensures.value (sweep_spares c.args.self.now.ledger c.args.entry c.args.hashes.items c.requires.removes)

@@ -1,5 +1,6 @@
-use Rattle.std.proofs.Common.{refl, rules, ◌∙◌}
+use Rattle.std.proofs.Common.{arith, refl, rules, ◌∙◌}
 use Rattle.cat_core.specs.Stored.{opened_held}
+use Rattle.cat_core.proofs.Behind.{behind_begun}
 use Rattle.cat_core.proofs.Giving.{begun_is}
 use Rattle.cat_core.proofs.Held.{at_least, log_seen}
 use Rattle.cat_core.proofs.Lasting.{holding_begun}
@@ -17,6 +18,9 @@ invariant_of-self g c = (
   holding_begun c.self.inside.ledger _ _
       (record { ticket = record { number = c.next_sweep.result; caller = c.args.caller; place = c.place.result }; policy = c.args.policy; commits = c.in_ok-commits.commits; contents = c.in_ok-contents.contents; drained = c.entries.result; given_commits = c.len.result; given_contents = c.len-2.result })
       c.self.invariant.3 (search rules) (search rules),
+  behind_begun g.K.Keeper (opened_held c.self.inside.ledger.base c.self.inside.start) c.self.inside.keeper _ c.self.inside.sweep c.self.invariant.4
+      (record { ticket = record { number = c.next_sweep.result; caller = c.args.caller; place = c.place.result }; policy = c.args.policy; commits = c.in_ok-commits.commits; contents = c.in_ok-contents.contents; drained = c.entries.result; given_commits = c.len.result; given_contents = c.len-2.result })
+      (omega (arith, c.place.ensures, c.self.invariant.0.number)),
 )
 
 pub returns-clause-opened : goal.returns-clause-opened

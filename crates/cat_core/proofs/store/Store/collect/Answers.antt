@@ -4,6 +4,7 @@ use Rattle.cat_graph.specs.Linked.{AreLinked}
 use Rattle.cat_model.specs.State.{State}
 use Rattle.cat_core.specs.Sweeps.{sweep_in, sweep_on}
 use Rattle.cat_core.specs.Stored.{opened_held}
+use Rattle.cat_core.proofs.Behind.{none_told, start_inside, sweep_told}
 use Rattle.cat_core.proofs.Lasting.{holding_made, sweep_on_spares, told_inside}
 use Rattle.cat_core.proofs.Making.{all_told, down_none, up_inside}
 use Rattle.cat_core.proofs.Removing.{sweep_brings, sweep_right}
@@ -30,13 +31,16 @@ invariant_of-self g c =
     let brings = sweep_brings caller c.args.moment c.self.inside.ledger (sweep_in c.args.closing) (may_inside _ _ c.self.view_is (sweep_in c.args.closing) c.requires.may) in
     let laws = g.met.K.Keeper g.world.𝓛 g.world.𝓜 g.world.𝓡 ((λ s x. x), (λ x. x), (λ x. x), λ x. x) in
     let both = stands g.K.Keeper
-    c.self.inside.keeper c.collect-made.new.keeper caller 0 (sweep_on caller c.self.inside.ledger c.args.moment (sweep_in c.args.closing)) c.self.inside.start c.self.inside.ledger c.collect-made.new.self _ c.self.inside.fallen c.tell.new.fallen c.collect-made.result
+    c.self.inside.keeper c.collect-made.new.keeper caller 0 (sweep_on caller c.self.inside.ledger c.args.moment (sweep_in c.args.closing)) c.self.inside.start c.self.inside.ledger c.collect-made.new.self _ c.self.inside.sweep c.self.inside.fallen c.tell.new.fallen c.collect-made.result
     (sweep_right caller c.args.moment c.self.inside.ledger (sweep_in c.args.closing))
     brings
     (none_comes (opened_held c.self.inside.ledger.base c.self.inside.start)) (omega arith)
     (none_of_none c.self.inside.start.draft c.self.inside.ledger.draft c.self.inside.ledger.log _ c.self.invariant.1.waiting)
+    (none_told (opened_held c.self.inside.ledger.base c.self.inside.start) (g.K.Keeper.told c.self.inside.keeper))
+    (sweep_told g.K.Keeper laws.counted (opened_held c.self.inside.ledger.base c.self.inside.start) c.self.inside.ledger _ c.self.inside.keeper caller c.args.moment (sweep_in c.args.closing)
+    c.self.invariant.1 c.self.invariant.0.number (start_inside g.K.Keeper.start _ _ c.self.view_is c.args.closing.ticket.place c.requires.since))
     (up_inside g.K.Keeper.down g.K.Keeper.in_flight laws.flies laws.waits c.self.inside.keeper c.self.inside.fallen c.self.invariant.0.fallen _ _ c.self.view_is refl c.requires.up)
-    c.tell.ensures.fallen c.collect-made.ensures.kept c.collect-made.ensures.call c.collect-made.ensures.keeps (c.self.invariant.0, c.self.invariant.1)
+    c.tell.ensures.fallen c.collect-made.ensures.kept c.collect-made.ensures.call c.collect-made.ensures.keeps (c.self.invariant.0, c.self.invariant.1, c.self.invariant.4)
     in (
       both.0,
       both.1,
@@ -44,6 +48,7 @@ invariant_of-self g c =
       holding_made caller 0 c.self.inside.ledger (opened_held c.self.inside.ledger.base c.self.inside.start) _ _ c.self.invariant.1 c.self.invariant.2.named c.self.invariant.3 c.collect-made.new.self _ c.collect-made.result brings
           (sweep_on_spares caller c.self.inside.ledger c.args.moment (sweep_in c.args.closing) _ (told_inside _ _ c.self.view_is (sweep_in c.args.closing) c.requires.told))
           (subst (λ (s : State). AreLinked s.commits) c.catalogue.ensures c.commits_are_linked.ensures) c.collect-made.ensures.call,
+      both.2,
     )
 
 pub returns : goal.returns

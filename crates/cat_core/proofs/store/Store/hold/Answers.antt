@@ -4,6 +4,7 @@ use Rattle.cat_model.specs.Book.{Book}
 use Rattle.cat_model.specs.Drafts.{Names}
 use Rattle.cat_model.specs.State.{State}
 use Rattle.cat_core.specs.Stored.{AreKnown}
+use Rattle.cat_core.proofs.Behind.{behind_held}
 use Rattle.cat_core.proofs.Held.{held_for, holds, sound_held, state_seen, step_held}
 use Rattle.cat_core.proofs.Lasting.{holding_held, noted_as}
 use Rattle.cat_core.proofs.UnderWay.{headed_inside, linked_inside, names_known, opened_inside, swept_held, swept_noted}
@@ -25,4 +26,6 @@ invariant_of-self-2 g c =
           (ap (λ (b : Book). b.state) c.take.ensures) (ap (λ (b : Book). b.log) c.take.ensures) (ap (λ (b : Book). b.base) c.take.ensures) held
           (c.requires.place ∙ sym (ap (λ (s : State). s.place) (state_seen _ _ c.self.view_is)))
           (noted_as c.note.new.sweep c.self.inside.sweep _ _ _ _ _ c.in_ok-note.ensures.ok c.as_slice.ensures.value c.as_slice-2.ensures.value names),
+      behind_held g.K.Keeper c.self.inside.start c.self.inside.ledger c.take.new.self c.self.inside.keeper _ _ (held_for c.args.ticket command) _ c.self.inside.sweep c.note.new.sweep c.note.result
+          c.self.invariant.4 c.self.invariant.1 c.self.invariant.0.payloads (search rules) held (ap (λ (b : Book). b.base) c.take.ensures) c.note.ensures.ok c.note.ensures.err,
     )

@@ -1,5 +1,6 @@
 use Rattle.std.proofs.Common.{rules}
 use Rattle.cat_core.specs.Stored.{opened_held}
+use Rattle.cat_core.proofs.Behind.{behind_over}
 use Rattle.cat_core.proofs.Held.{at_least, none_held}
 use Rattle.cat_core.proofs.Lasting.{holding_over}
 use Rattle.cat_core.proofs.UnderWay.{swept_none}
@@ -11,4 +12,5 @@ invariant_of-result g c = (
   none_held (opened_held c.args.ledger.base c.args.start) c.args.ledger _ (search rules) c.requires.sound,
   swept_none c.args.ledger _ (search rules),
   holding_over c.args.ledger _ (search rules),
+  behind_over g.K.Keeper (opened_held c.args.ledger.base c.args.start) c.args.keeper _ (search rules),
 )

@@ -1,5 +1,5 @@
 use Rattle.std.proofs.Common.{refl, rules}
-use Rattle.cat_core.proofs.Ending.{drops_it, closes_it, ended_down, ended_made, ended_short, logged_it, marked_it, may_it, up_it, walked_it}
+use Rattle.cat_core.proofs.Ending.{drops_it, closes_it, ended_down, ended_made, ended_short, logged_it, marked_it, may_it, since_it, up_it, walked_it}
 use Rattle.cat_core.proofs.Lasting.{told_it}
 use Rattle.cat_core.proofs.Making.{up_seen}
 use Rattle.cat_core.proofs.store.Store.swept.Goals as goal
@@ -40,6 +40,10 @@ collect-requires-clause-logged g c κs within =
 pub collect-requires-clause-told : goal.collect-requires-clause-told
 collect-requires-clause-told g c κs within =
     told_it c.args.self.now c.shut-closing.new.self c.requires.is_open.0 c.shut-closing.result c.requires.is_open.1 c.shut-closing.ensures.closing c.shut-closing.ensures.shut c.is_sound.ensures.holding
+
+pub collect-requires-clause-since : goal.collect-requires-clause-since
+collect-requires-clause-since g c κs within =
+    since_it c.args.self.now c.shut-closing.new.self c.requires.is_open.0 c.shut-closing.result c.requires.is_open.1 c.shut-closing.ensures.closing c.shut-closing.ensures.shut g.K.Keeper.start c.shut-closing.ensures.since
 
 pub collect-requires-clause-marked : goal.collect-requires-clause-marked
 collect-requires-clause-marked g c κs within =
