@@ -5,6 +5,7 @@ mod Owned
 mod Turning
 mod Goings
 mod Endings
+mod Settlings
 mod Refusals
 mod Stages
 mod Told

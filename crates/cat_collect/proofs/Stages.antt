@@ -13,7 +13,7 @@ use Rattle.cat_model.specs.declared.refusal.Refused.{Refused}
 use Rattle.cat_model.specs.Drafts.{nothing_open}
 use Rattle.cat_model.specs.State.{State}
 use Rattle.cat_collect.specs.Turns.{Comes, DrainsIn, DropsIn, Going, Holds, IsOpenIn, LeavesIn, OpensSweep, is_nothing, out_of_memory}
-use Rattle.cat_collect.proofs.Endings.{drops}
+use Rattle.cat_collect.proofs.Settlings.{drops}
 use Rattle.cat_model.specs.Turns.{place_after}
 use Rattle.cat_collect.proofs.Goings.{begins, begins_held, begins_open, drained_goes, nothing_added, now_marked, now_open, still_goes, still_open, walked_view}
 

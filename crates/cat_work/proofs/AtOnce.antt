@@ -21,7 +21,7 @@ use Rattle.cat_work.specs.MarkLaws.{but_fault, no_draft_still, refers_mark}
 use Rattle.cat_work.specs.Passes.{IsAlone, book_of, state_of}
 use Rattle.cat_work.specs.Turns.{Comes, Turned}
 use Rattle.cat_work.proofs.Callings.{call_brings, call_draft}
-use Rattle.cat_work.proofs.Endings.{refuses_open}
+use Rattle.cat_work.proofs.Ended.{refuses_open}
 use Rattle.cat_work.proofs.Telling.{AloneAt, Numbered, alone_err, alone_ok, answers_ok, book_found, causes, gone_at_once, grew_in, left_by_turn}
 use Rattle.cat_work.proofs.Trails.{place_at}
 use Rattle.cat_model.specs.Turns.{Opened, place_after}

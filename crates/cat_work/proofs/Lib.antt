@@ -8,6 +8,7 @@ mod Opened
 mod Trails
 mod Telling
 mod Endings
+mod Ended
 mod Turning
 mod Unopened
 mod AtOnce

@@ -2,7 +2,7 @@ use Rattle.std.proofs.Common.{Err, sym, subst, ◌∙◌}
 use Rattle.cat_desk.specs.Pass.{known, seen, turn_of}
 use Rattle.cat_model.specs.declared.refusal.Refused.{Refused}
 use Rattle.cat_collect.specs.Turns.{Comes}
-use Rattle.cat_collect.proofs.Endings.{settles}
+use Rattle.cat_collect.proofs.Settlings.{settles}
 use Rattle.cat_collect.proofs.Told.{known_on, turned_on}
 use Rattle.cat_model.specs.Turns.{place_after}
 use Rattle.cat_collect.proofs.collecting.collect_at.Goals as goal

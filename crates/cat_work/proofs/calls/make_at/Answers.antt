@@ -1,7 +1,8 @@
 use Rattle.std.proofs.Common.{rules, ◌≡◌, ℕ, refl, subst, ◌∙◌}
 use Rattle.cat_desk.specs.Pass.{known, seen, turn_of}
 use Rattle.cat_work.specs.Turns.{Going}
-use Rattle.cat_work.proofs.Endings.{begins, comes_early, comes_late, goes_on}
+use Rattle.cat_work.proofs.Endings.{begins, goes_on}
+use Rattle.cat_work.proofs.Ended.{comes_early, comes_late}
 use Rattle.cat_work.proofs.Unopened.{begins_none, knows_all, known_on, turned_on}
 use Rattle.cat_model.specs.Turns.{place_after}
 use Rattle.cat_work.proofs.calls.make_at.Goals as goal
