@@ -15,7 +15,8 @@ use Rattle.cat_cli.specs.Opening.{Counted, CountedKnown, IsStored}
 use Rattle.cat_cli.specs.Runs.{Checks, ChecksKnown, Opens, Seen}
 use Rattle.cat_cli.specs.Surviving.{IsBegun, KeepsThrough, LeavesLog, Spared, StandsAs, images_at, images_of}
 use Rattle.cat_cli.proofs.Opened.{begins_at, left_at}
-use Rattle.cat_cli.proofs.Surviving.{ended_at, spared_at, spared_counting, tells_of}
+use Rattle.cat_cli.proofs.Placed.{ended_at, spared_at, tells_of}
+use Rattle.cat_cli.proofs.Surviving.{spared_counting}
 use Rattle.cat_serve.proofs.Told.{some_is, not_none}
 
 stands_both : (told after : Option (List ℕ)) (payloads : List (List ℕ)) → IfSome told (λ bytes. recovered bytes ≡ Ok payloads) → IfSome after (IsJournalOf payloads) → StandsFor told after

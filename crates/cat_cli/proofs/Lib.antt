@@ -3,6 +3,7 @@ pub mod Starting
 pub mod Left
 pub mod Opened
 pub mod Surviving
+pub mod Placed
 pub mod Refused
 pub mod Ran
 pub mod Counted
@@ -14,4 +15,5 @@ pub mod ToldFaults
 pub mod HostedStores
 pub mod ServedRuns
 pub mod Gathered
+pub mod GatheredRuns
 pub mod Commands

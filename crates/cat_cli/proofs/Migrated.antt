@@ -14,7 +14,7 @@ use Rattle.cat_cli.specs.Runs.{Migrates, MigratesKnown, MigratesSo, Seen}
 use Rattle.cat_cli.specs.Surviving.{StandsAs, images_at, images_of}
 use Rattle.cat_cli.proofs.Counted.{opens_there}
 use Rattle.cat_cli.proofs.Opened.{left_at}
-use Rattle.cat_cli.proofs.Surviving.{tells_of}
+use Rattle.cat_cli.proofs.Placed.{tells_of}
 
 -- by the status; the disks' count of faults is as it was
 ends : (fell level : Type 0) (s : Seen) (book : Book) (line : List ℕ) (status : Status) → level → Migrates s.journal s.left s.images book → line ≡ migrated_line book.state.place → Counted line s.written status s.held s.before s.now → MigratesSo fell level s status

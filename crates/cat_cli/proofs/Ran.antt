@@ -19,7 +19,8 @@ use Rattle.cat_serve.specs.SessionLaws.{log_grows}
 use Rattle.cat_cli.specs.Stores.{RunsKnown}
 use Rattle.cat_cli.specs.Surviving.{IsBegun, KeepsThrough, LeavesLog, StandsAs, Survives, bases_between, images_at, images_of}
 use Rattle.cat_cli.proofs.Opened.{begins_at, left_at}
-use Rattle.cat_cli.proofs.Surviving.{payloads_are, survives, survives_at, tells_of}
+use Rattle.cat_cli.proofs.Placed.{survives_at, tells_of}
+use Rattle.cat_cli.proofs.Surviving.{payloads_are, survives}
 use Rattle.cat_cli.proofs.Unbased.{counts_between, told_bases}
 
 -- the entries of a log that grew

@@ -10,7 +10,7 @@ use Rattle.cat_cli.specs.Opening.{IsReason, RefusedKnown}
 use Rattle.cat_cli.specs.Runs.{RefusesSo}
 use Rattle.cat_cli.specs.Surviving.{Spared, StandsAs, images_at, images_of}
 use Rattle.cat_cli.proofs.Opened.{EndsAtFault, reason_at, refuses_known, stands_back, stands_untouched}
-use Rattle.cat_cli.proofs.Surviving.{spared_at, spared_untouched, tells_of}
+use Rattle.cat_cli.proofs.Placed.{spared_at, spared_untouched, tells_of}
 
 -- what an answer is known to be
 pub of_ok : {T E : Type 0} (r : Result T E) (x : T) (P : T → Type 0) (Q : E → Type 0) → r ≡ Ok x → MatchResult r P Q → P x

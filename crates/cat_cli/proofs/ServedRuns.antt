@@ -23,7 +23,7 @@ use Rattle.cat_cli.proofs.Counted.{opens_there}
 use Rattle.cat_cli.proofs.HostedStores.{comes_on}
 use Rattle.cat_cli.proofs.Opened.{EndsAtFault, begins_at, no_fault, reason_at, stands_back, stands_untouched}
 use Rattle.cat_cli.proofs.Refused.{never_opened, refused_there}
-use Rattle.cat_cli.proofs.Surviving.{spared_at, spared_untouched, survives_at, tells_of}
+use Rattle.cat_cli.proofs.Placed.{spared_at, spared_untouched, survives_at, tells_of}
 
 -- ---- by the status
 

@@ -1,13 +1,14 @@
 -- From what is watched of a keeper to what a crash leaves of the journal of a run.
-use Rattle.std.proofs.Common.{◌≡◌, ◌⊎◌, ℕ, suc, ◌+◌, ◌-◌, ◌≤◌, ◌<◌, Bool, true, false, List, [], ◌∷◌, ◌++◌, drop, length, take, nat_le, Option, Some, None, Result, Ok, Err, refl, sym, ◌∙◌, ap, subst, inl, inr, ⊎_elim, arith, length-append}
-use Rattle.std.specs.Prelude.{◌↔◌, IfSome, ⊤, option_map}
+use Rattle.std.proofs.Common.{◌≡◌, ◌⊎◌, ℕ, suc, ◌+◌, ◌-◌, ◌≤◌, ◌<◌, Bool, true, false, List, [], ◌∷◌, ◌++◌, drop, length, take, nat_le, Option, Some, None, Result, Ok, Err, refl, sym, ◌∙◌, ap, subst, inl, inr, ⊎_elim, le_refl, arith, length-append}
+use Rattle.std.specs.Prelude.{IfSome, ⊤, option_map}
+use Rattle.std.proofs.Math.Seq.{take-length}
 use Rattle.std.proofs.lemmas.Bool.Decides.{nat_tests}
 use Rattle.std.proofs.lemmas.List.{append-nil, length-drop, length-map, length-take-le, take-append-drop, take-append-le, take_all, take_at}
 use Rattle.cat_checks.specs.Histories.{IsLegalFrom}
 use Rattle.cat_core.specs.RecordLaws.{goes_plain, legal_front, stands_now}
-use Rattle.cat_core.specs.Records.{StandFlown, StandFor, StandThrough}
+use Rattle.cat_core.specs.Opening.{OpenThrough, Opens}
+use Rattle.cat_core.specs.Records.{StandFor, StandThrough}
 use Rattle.cat_io.specs.Crashes.{Only, Told}
-use Rattle.cat_io.specs.Places.{IsHanded, stood, taken}
 use Rattle.cat_journal.specs.declared.fault.OpenFault.{OpenFault}
 use Rattle.cat_journal.specs.Frames.{payloads, payloads_in, recovered}
 use Rattle.cat_journal.specs.Held.{outcome, outcome_of}
@@ -22,8 +23,7 @@ use Rattle.cat_model.specs.Limits.{program_limits}
 use Rattle.cat_model.specs.Mark.{FailedAppend}
 use Rattle.cat_model.specs.Turns.{Opened}
 use Rattle.cat_state.specs.Kept.{spelling, spellings}
-use Rattle.cat_cli.specs.Journals.{TellsAs, told_at}
-use Rattle.cat_cli.specs.Surviving.{AreAll, AreKept, AreOnTheWay, EndsSo, Grown, Images, IsBegun, IsEarlier, IsOnTheWay, LeavesLog, Spared, StandsAs, Survives, images_at, images_of}
+use Rattle.cat_cli.specs.Surviving.{AreAll, AreOnTheWay, EndsSo, FlownOpen, Images, IsBegun, IsEarlier, IsOnTheWay, LeavesLog, Spared, Survives, images_of}
 
 take_past : {A : Type 0} (xs ys : List A) (m : ℕ) → take (length xs + m) (xs ++ ys) ≡ xs ++ take m ys
 take_past {A} [] ys m = let n : length {A = A} [] + m ≡ m = omega arith in ap (λ (k : ℕ). take k ys) n
@@ -36,7 +36,7 @@ payloads_are bytes ps is = ap payloads_in is
 
 -- ---- fronts of payloads that stand for a log
 
-module _ (had : List (List ℕ)) (o : Opened) (limits : Limits) (log added : List LogEntry) (payloads : List (List ℕ)) (on : GoOn had payloads) (through : StandThrough o (log ++ added) payloads) (legal : IsLegalFrom o (log ++ added)) (total : o.payloads ≡ length had) (entries : entries_of had ≡ spellings log)
+module _ (had : List (List ℕ)) (o : Opened) (limits : Limits) (log added : List LogEntry) (payloads : List (List ℕ)) (on : GoOn had payloads) (through : StandThrough o (log ++ added) payloads) (again : OpenThrough o payloads) (legal : IsLegalFrom o (log ++ added)) (total : o.payloads ≡ length had) (entries : entries_of had ≡ spellings log)
     (opened : opened_by limits o.payloads o.faults (base_of had) ≡ Some o) (bases : ℕ) (counted : base_count payloads ≡ base_count had + bases) where
   least : length had ≤ length payloads
   least = omega (arith, ap length on.1, length-append had on.0)
@@ -98,12 +98,13 @@ module _ (had : List (List ℕ)) (o : Opened) (limits : Limits) (log added : Lis
         count = m;
         within = omega (arith, within, length-append log added, parts);
         stand = stand;
+        opens = again n (omega (arith, total, many)) most;
         few = no_more_bases n;
         plain = plain_front n m many stand;
       }
 
   -- so does what a crash leaves
-  pub on_the_way : (flying : Option (List ℕ)) (c : List ℕ) → IfSome flying (λ p. StandFlown o (log ++ added) p (payloads ++ p ∷ [])) → IsFrontOf (length had) (with_flying payloads flying) (outcome c) → IsOnTheWay (record { had = had; opened = o; begun = log; added = added; bases = bases; flying = flying }) c
+  pub on_the_way : (flying : Option (List ℕ)) (c : List ℕ) → IfSome flying (λ p. FlownOpen o (log ++ added) p (payloads ++ p ∷ [])) → IsFrontOf (length had) (with_flying payloads flying) (outcome c) → IsOnTheWay (record { had = had; opened = o; begun = log; added = added; bases = bases; flying = flying }) c
   on_the_way None c flown front = (take front.0 payloads, front.3, inl (stands_on None front.0 front.1 front.2))
   on_the_way (Some p) c flown front = by (nat_le front.0 (length payloads)) refl
     where
@@ -117,6 +118,10 @@ module _ (had : List (List ℕ)) (o : Opened) (limits : Limits) (log added : Lis
       by false is =
           let lt : length payloads < front.0 = grind (arith, nat_tests, is) in
           (payloads ++ p ∷ [], front.3 ∙ ap (λ (l : List (List ℕ)). Some l) (take_all front.0 (payloads ++ p ∷ []) (omega (arith, lt, long))), inr (payloads, refl, all_there (Some p), flown))
+
+pub both_of : {A : Type 0} (P Q : A → Type 0) (x : Option A) → IfSome x P → IfSome x Q → IfSome x (λ a. P a × Q a)
+both_of P Q None p q = tt
+both_of P Q (Some a) p q = (p, q)
 
 -- what is in flight, by what the mark tells of it
 pub flown_by : (in_flight : Option (List ℕ)) (fault : Option FailedAppend) (P : List ℕ → Type 0) → in_flight ≡ option_map (λ (x : FailedAppend). x.payload) fault → ((x : FailedAppend) → fault ≡ Some x → P x.payload) → IfSome in_flight P
@@ -163,9 +168,10 @@ module _ (since : ℕ) (had : List (List ℕ)) (early : List ℕ → Type 0) (mo
     payloads = leaves.payloads;
     are = record {
       stand = subst (λ (l : List LogEntry). StandFor o l leaves.payloads) all (stands_now o whole leaves.payloads leaves.stand);
+      opens = subst (Opens o.state.limits) (take-length leaves.payloads) (leaves.opens (length leaves.payloads) leaves.stand.many (le_refl (length leaves.payloads)));
       all = by journal same from.total from.counts;
     };
-    flown = subst (λ (l : List LogEntry). IfSome flying (λ p. StandFlown o l p (leaves.payloads ++ p ∷ []))) all leaves.flown;
+    flown = subst (λ (l : List LogEntry). IfSome flying (λ p. FlownOpen o l p (leaves.payloads ++ p ∷ []))) all leaves.flown;
     holds = leaves.holds;
     ends = λ c there. leaves.last c (are c there);
   }
@@ -174,7 +180,7 @@ module _ (since : ℕ) (had : List (List ℕ)) (early : List ℕ → Type 0) (mo
       by None same total counts = tt
       by (Some bytes) same total counts =
           let on : GoOn ps leaves.payloads = subst (λ (l : List (List ℕ)). GoOn l leaves.payloads) same leaves.goes_on in
-          all_there ps o program_limits log added leaves.payloads on (subst (λ (l : List LogEntry). StandThrough o l leaves.payloads) all leaves.stand) (subst (IsLegalFrom o) all leaves.legal) total from.entries from.opened bases (counts leaves.payloads leaves.are on) flying
+          all_there ps o program_limits log added leaves.payloads on (subst (λ (l : List LogEntry). StandThrough o l leaves.payloads) all leaves.stand) leaves.opens (subst (IsLegalFrom o) all leaves.legal) total from.entries from.opened bases (counts leaves.payloads leaves.are on) flying
 
   pub survives : (journal left : Option (List ℕ)) (ps : List (List ℕ)) → IsBegun since had early journal moment before → IfSome journal (λ bytes. recovered bytes ≡ Ok ps) → IfSome journal (λ bytes. o.payloads ≡ length ps) → entries_of ps ≡ spellings log → opened_by program_limits o.payloads o.faults (base_of ps) ≡ Some o → CountsSo journal ps
       → IfSome left (LeavesLog since had early after left_since o whole kept flying)
@@ -195,8 +201,8 @@ module _ (since : ℕ) (had : List (List ℕ)) (early : List ℕ → Type 0) (mo
         at_the_end = ends_so (Some bytes) (record { before = before; after = after; since = left_since moment }) ps now (λ c there. there) same (record { total = total; entries = entries; opened = opened; counts = counts }) leaves;
         at_any_moment = λ c there. ⊎_elim
             (λ was. inl (begins.early_to c was))
-            (λ front. inr (on_the_way ps o program_limits log added leaves.payloads on (subst (λ (l : List LogEntry). StandThrough o l leaves.payloads) all leaves.stand) (subst (IsLegalFrom o) all leaves.legal) total entries opened bases (counts leaves.payloads leaves.are on) flying c
-            (subst (λ (l : List LogEntry). IfSome flying (λ p. StandFlown o l p (leaves.payloads ++ p ∷ []))) all leaves.flown)
+            (λ front. inr (on_the_way ps o program_limits log added leaves.payloads on (subst (λ (l : List LogEntry). StandThrough o l leaves.payloads) all leaves.stand) leaves.opens (subst (IsLegalFrom o) all leaves.legal) total entries opened bases (counts leaves.payloads leaves.are on) flying c
+            (subst (λ (l : List LogEntry). IfSome flying (λ p. FlownOpen o l p (leaves.payloads ++ p ∷ []))) all leaves.flown)
             (subst (λ (l : List (List ℕ)). IsFrontOf (length l) (with_flying leaves.payloads flying) (outcome c)) same front)))
             (leaves.each c (subst (λ (t : ℕ). left_since t c) (sym begins.since_is) there));
       }
@@ -211,22 +217,23 @@ outcome_ok (Ok l) ps e = ap (λ (x : List (List ℕ)). Ok x) (same l ps e)
 outcome_ok (Err f) ps e = cc
 
 module _ (since : ℕ) (had : List (List ℕ)) (early may_leave : List ℕ → Type 0) (left_since : ℕ → List ℕ → Type 0) (o : Opened) (log : List LogEntry) (moment : ℕ) where
-  at_rest : (ps : Option (List (List ℕ))) (told : Option (List ℕ)) → IsLegalFrom o log → IfSome told (λ bytes. 16 < length bytes) → IfSome ps (StandThrough o log) → Told ps told (λ l bytes. recovered bytes ≡ Ok l) → Only told may_leave
+  at_rest : (ps : Option (List (List ℕ))) (told : Option (List ℕ)) → IsLegalFrom o log → IfSome told (λ bytes. 16 < length bytes) → IfSome ps (StandThrough o log) → IfSome ps (OpenThrough o) → Told ps told (λ l bytes. recovered bytes ≡ Ok l) → Only told may_leave
       → IfSome ps (IsWatchedSo outcome since had early None moment left_since) → IfSome told (LeavesLog since had early may_leave left_since o log ps None)
-  at_rest ps None legal headed stands t only w = tt
-  at_rest None (Some bytes) legal headed stands t only w = absurd t
-  at_rest (Some l) (Some bytes) legal headed stands t only w = record { payloads = l; are = refl; goes_on = w.goes_on; stand = stands; legal = legal; flown = tt; holds = (t, headed); last = only; each = w.each }
+  at_rest ps None legal headed stands again t only w = tt
+  at_rest None (Some bytes) legal headed stands again t only w = absurd t
+  at_rest (Some l) (Some bytes) legal headed stands again t only w = record { payloads = l; are = refl; goes_on = w.goes_on; stand = stands; opens = again; legal = legal; flown = tt; holds = (t, headed); last = only; each = w.each }
 
-  torn : (ps : Option (List (List ℕ))) (told : Option (List ℕ)) (p : List ℕ) → IsLegalFrom o log → IfSome told (λ bytes. 16 < length bytes) → IfSome ps (StandThrough o log) → IfSome ps (λ l. StandFlown o log p (l ++ p ∷ [])) → Told ps told (λ l bytes. WithOrWithout l p (outcome bytes))
+  torn : (ps : Option (List (List ℕ))) (told : Option (List ℕ)) (p : List ℕ) → IsLegalFrom o log → IfSome told (λ bytes. 16 < length bytes) → IfSome ps (StandThrough o log) → IfSome ps (OpenThrough o) → IfSome ps (λ l. FlownOpen o log p (l ++ p ∷ [])) → Told ps told (λ l bytes. WithOrWithout l p (outcome bytes))
       → IfSome ps (λ l. (c : List ℕ) → may_leave c → WithOrWithout l p (outcome c))
       → IfSome ps (IsWatchedSo outcome since had early (Some p) moment left_since) → IfSome told (LeavesLog since had early may_leave left_since o log ps (Some p))
-  torn ps None p legal headed are flown t each w = tt
-  torn None (Some bytes) p legal headed are flown t each w = absurd t
-  torn (Some l) (Some bytes) p legal headed are flown t each w = record {
+  torn ps None p legal headed are again flown t each w = tt
+  torn None (Some bytes) p legal headed are again flown t each w = absurd t
+  torn (Some l) (Some bytes) p legal headed are again flown t each w = record {
     payloads = l;
     are = refl;
     goes_on = w.goes_on;
     stand = are;
+    opens = again;
     legal = legal;
     flown = flown;
     holds = ⊎_elim (λ e. inl (outcome_ok (recovered bytes) l e, headed)) (λ e. inr (outcome_ok (recovered bytes) (l ++ p ∷ []) e, headed)) t;
@@ -235,15 +242,15 @@ module _ (since : ℕ) (had : List (List ℕ)) (early may_leave : List ℕ → T
   }
 
   -- the disk of a keeper, whether its appends succeeded or one failed
-  pub leaves_log : (ps : Option (List (List ℕ))) (told : Option (List ℕ)) (down : Option ℕ) (in_flight : Option (List ℕ)) → IsLegalFrom o log → IfSome told (λ bytes. 16 < length bytes) → IfSome ps (StandThrough o log) → IfSome in_flight (λ p. IfSome ps (λ l. StandFlown o log p (l ++ p ∷ [])))
+  pub leaves_log : (ps : Option (List (List ℕ))) (told : Option (List ℕ)) (down : Option ℕ) (in_flight : Option (List ℕ)) → IsLegalFrom o log → IfSome told (λ bytes. 16 < length bytes) → IfSome ps (StandThrough o log) → IfSome ps (OpenThrough o) → IfSome in_flight (λ p. IfSome ps (λ l. FlownOpen o log p (l ++ p ∷ [])))
       → (down ≡ None → Told ps told (λ l bytes. recovered bytes ≡ Ok l)) → (down ≡ None → Only told may_leave)
       → ((p : List ℕ) → in_flight ≡ Some p → Told ps told (λ l bytes. WithOrWithout l p (outcome bytes)))
       → ((p : List ℕ) → in_flight ≡ Some p → IfSome ps (λ l. (c : List ℕ) → may_leave c → WithOrWithout l p (outcome c)))
       → (in_flight ≡ None → down ≡ None)
       → IfSome ps (IsWatchedSo outcome since had early in_flight moment left_since)
       → IfSome told (LeavesLog since had early may_leave left_since o log ps in_flight)
-  leaves_log ps told down None legal headed stands flown rests only flies each up w = at_rest ps told legal headed stands (rests (up refl)) (only (up refl)) w
-  leaves_log ps told down (Some p) legal headed are flown rests only flies each up w = torn ps told p legal headed are flown (flies p refl) (each p refl) w
+  leaves_log ps told down None legal headed stands again flown rests only flies each up w = at_rest ps told legal headed stands again (rests (up refl)) (only (up refl)) w
+  leaves_log ps told down (Some p) legal headed are again flown rests only flies each up w = torn ps told p legal headed are again flown (flies p refl) (each p refl) w
 
 -- a keeper on a disk is let go
 module _ {D J : Type 0} (told : D → Option (List ℕ)) (may_leave : D → List ℕ → Type 0) (moment : D → ℕ) (left_since : D → ℕ → List ℕ → Type 0) (disk_of : J → D) (kept : J → Option (List (List ℕ))) (flying : J → Option (List ℕ))
@@ -251,15 +258,15 @@ module _ {D J : Type 0} (told : D → Option (List ℕ)) (may_leave : D → List
   abbrev pub WatchedOn : J → D → Type 0
   WatchedOn j disk = IfSome (kept j) (IsWatchedSo outcome since had early (flying j) (moment disk) (left_since disk))
 
-  pub leaves_of : (o : Opened) (log : List LogEntry) (down : J → Option ℕ) (again : D) (j : J) → again ≡ disk_of j → IsLegalFrom o log → IfSome (told again) (λ bytes. 16 < length bytes) → IfSome (kept j) (StandThrough o log) → IfSome (flying j) (λ p. IfSome (kept j) (λ l. StandFlown o log p (l ++ p ∷ [])))
+  pub leaves_of : (o : Opened) (log : List LogEntry) (down : J → Option ℕ) (again : D) (j : J) → again ≡ disk_of j → IsLegalFrom o log → IfSome (told again) (λ bytes. 16 < length bytes) → IfSome (kept j) (StandThrough o log) → IfSome (kept j) (OpenThrough o) → IfSome (flying j) (λ p. IfSome (kept j) (λ l. FlownOpen o log p (l ++ p ∷ [])))
       → (down j ≡ None → Told (kept j) (told again) (λ l bytes. recovered bytes ≡ Ok l)) → (down j ≡ None → Only (told again) (may_leave again))
       → ((p : List ℕ) → flying j ≡ Some p → Told (kept j) (told again) (λ l bytes. WithOrWithout l p (outcome bytes)))
       → ((p : List ℕ) → flying j ≡ Some p → IfSome (kept j) (λ l. (c : List ℕ) → may_leave again c → WithOrWithout l p (outcome c)))
       → (flying j ≡ None → down j ≡ None)
       → WatchedOn j (disk_of j)
       → IfSome (told again) (LeavesLog since had early (may_leave again) (left_since again) o log (kept j) (flying j))
-  leaves_of o log down again j is legal headed are flown rests only flies each up w =
-      leaves_log since had early (may_leave again) (left_since again) o log (moment again) (kept j) (told again) (down j) (flying j) legal headed are flown rests only flies each up (subst (WatchedOn j) (sym is) w)
+  leaves_of o log down again j is legal headed are opening flown rests only flies each up w =
+      leaves_log since had early (may_leave again) (left_since again) o log (moment again) (kept j) (told again) (down j) (flying j) legal headed are opening flown rests only flies each up (subst (WatchedOn j) (sym is) w)
 
 -- ---- where no session was held
 
@@ -315,89 +322,3 @@ module _ (since : ℕ) (had : List (List ℕ)) (early : List ℕ → Type 0) (mo
       whole c front =
           let all : take front.0 leaves.payloads ≡ leaves.payloads = take_all front.0 leaves.payloads (omega (arith, front.1, ap length had_is, ap length same)) in
           outcome_ok (recovered c) ps (front.3 ∙ ap (λ (x : List (List ℕ)). Some x) (all ∙ same)) ∙ sym recovers
-
--- ---- the place of the disk
-
--- what is said of the moments of a disk is said of one that is the same
-moved : (t t' left : Option (List ℕ)) (before before' since since' : List ℕ → Type 0) (Q : List ℕ → List ℕ → Type 0) → t' ≡ t → ((c : List ℕ) → before c → before' c) → ((c : List ℕ) → since' c → since c)
-    → IfSome t (λ bytes. IfSome left (λ now. (c : List ℕ) → since c → IsEarlier before t c ⊎ Q bytes c))
-    → IfSome t' (λ bytes. IfSome left (λ now. (c : List ℕ) → since' c → IsEarlier before' t' c ⊎ Q bytes c))
-moved t t' left before before' since since' Q same earlier later h =
-    subst (λ (x : Option (List ℕ)). IfSome x (λ bytes. IfSome left (λ now. (c : List ℕ) → since' c → IsEarlier before' x c ⊎ Q bytes c))) (sym same) (mapped t left h)
-  where
-    mapped : (x l : Option (List ℕ)) → IfSome x (λ bytes. IfSome l (λ now. (c : List ℕ) → since c → IsEarlier before x c ⊎ Q bytes c)) → IfSome x (λ bytes. IfSome l (λ now. (c : List ℕ) → since' c → IsEarlier before' x c ⊎ Q bytes c))
-    mapped None l k = tt
-    mapped (Some bytes) None k = tt
-    mapped (Some bytes) (Some now) k = λ c there. ⊎_elim (λ was. inl (⊎_elim (λ e. inl (earlier c e)) (λ few. inr few) was)) (λ q. inr q) (k c (later c there))
-
--- what is left at the end is said of a journal that told the same
-as_told : (journal other left : Option (List ℕ)) (a b : Images) (g : Grown) → other ≡ journal → ((c : List ℕ) → b.after c → a.after c) → IfSome left (EndsSo journal a g) → IfSome left (EndsSo other b g)
-as_told journal other None a b g same after ends = tt
-as_told journal other (Some bytes) a b g same after ends = record {
-  payloads = ends.payloads;
-  are = subst (λ (j : Option (List ℕ)). AreKept j g ends.payloads) (sym same) ends.are;
-  flown = ends.flown;
-  holds = ends.holds;
-  ends = λ c there. ends.ends c (after c there);
-}
-
-module _ {D : Type 0} (told : D → Option (List ℕ)) (may_leave : D → List ℕ → Type 0) (moment : D → ℕ) (left_since : D → ℕ → List ℕ → Type 0) where
-  none_stands : (disk : D) → ◌≡◌ {A = Option D} None (Some disk) → ⊥
-  none_stands disk e = cc
-
-  stood_is : (a b : D) → ◌≡◌ {A = Option D} (Some a) (Some b) → a ≡ b
-  stood_is a b e = cc
-
-  -- a disk that was handed out is the one that stood at its path, but for its count
-  pub stands_as : (handed : D → D) → ((d : D) → told (handed d) ≡ told d) → ((d : D) (c : List ℕ) → may_leave (handed d) c ↔ may_leave d c) → ((d : D) → moment (handed d) ≡ moment d)
-      → (place : Option (Option D)) (disk : D) → IfSome place (IsHanded handed disk) → StandsAs told may_leave moment place disk
-  stands_as handed tells leaves moments None disk is = tt
-  stands_as handed tells leaves moments (Some None) disk is = absurd (none_stands is.0 is.1)
-  stands_as handed tells leaves moments (Some (Some d)) disk is =
-      let e : d ≡ is.0 = stood_is d is.0 is.1 in
-      record {
-        tells = ap told e ∙ sym (tells is.0) ∙ ap told (sym is.2);
-        leaves = λ c left. subst (λ x. may_leave x c) (sym e) ((leaves is.0 c).0 (subst (λ x. may_leave x c) is.2 left));
-        moment_is = ap moment e ∙ sym (moments is.0) ∙ ap moment (sym is.2);
-      }
-
-  pub tells_of : (place : Option (Option D)) (disk : D) → StandsAs told may_leave moment place disk → TellsAs told place disk
-  tells_of None disk is = tt
-  tells_of (Some None) disk is = absurd is
-  tells_of (Some (Some d)) disk is = is.tells
-
-  pub survives_at : (place : Option (Option D)) (disk again : D) (g : Grown) → StandsAs told may_leave moment place disk → Survives (told disk) (told again) (images_of may_leave moment left_since disk again) g
-      → Survives (told_at told place) (told_at told (stood again (taken place))) (images_at may_leave moment left_since place (stood again (taken place))) g
-  survives_at None disk again g is s = record { at_the_end = tt; at_any_moment = tt }
-  survives_at (Some None) disk again g is s = absurd is
-  survives_at (Some (Some d)) disk again g is s = record {
-    at_the_end = as_told (told disk) (told d) (told again) (images_of may_leave moment left_since disk again) (images_of may_leave moment left_since d again) g is.tells (λ c there. there) s.at_the_end;
-    at_any_moment =
-        moved (told disk) (told d) (told again) (may_leave disk) (may_leave d) (left_since again (moment disk)) (left_since again (moment d)) (λ bytes c. IsOnTheWay g c)
-        is.tells is.leaves (λ c there. subst (λ (t : ℕ). left_since again t c) is.moment_is there) s.at_any_moment;
-  }
-
-  -- what is left at the end of a run that adds nothing
-  pub ended_at : (place : Option (Option D)) (disk again : D) → StandsAs told may_leave moment place disk → IfSome (told again) (λ bytes. (c : List ℕ) → may_leave again c → c ≡ bytes)
-      → IfSome (told_at told (stood again (taken place))) (λ bytes. (c : List ℕ) → (images_at may_leave moment left_since place (stood again (taken place))).after c → c ≡ bytes)
-  ended_at None disk again is ends = tt
-  ended_at (Some None) disk again is ends = absurd is
-  ended_at (Some (Some d)) disk again is ends = ends
-
-  pub spared_at : (place : Option (Option D)) (disk again : D) → StandsAs told may_leave moment place disk → Spared (told disk) (told again) (images_of may_leave moment left_since disk again)
-      → Spared (told_at told place) (told_at told (stood again (taken place))) (images_at may_leave moment left_since place (stood again (taken place)))
-  spared_at None disk again is s = tt
-  spared_at (Some None) disk again is s = absurd is
-  spared_at (Some (Some d)) disk again is s =
-      moved (told disk) (told d) (told again) (may_leave disk) (may_leave d) (left_since again (moment disk)) (left_since again (moment d)) (λ bytes c. recovered c ≡ recovered bytes)
-      is.tells is.leaves (λ c there. subst (λ (t : ℕ). left_since again t c) is.moment_is there) s
-
-  -- no disk was opened
-  pub spared_untouched : ((d : D) (c : List ℕ) → left_since d (moment d) c → may_leave d c) → (place : Option (Option D)) → Spared (told_at told place) (told_at told place) (images_at may_leave moment left_since place place)
-  spared_untouched only_now None = tt
-  spared_untouched only_now (Some None) = tt
-  spared_untouched only_now (Some (Some disk)) = untouched (told disk)
-    where
-      untouched : (t : Option (List ℕ)) → Spared t t (images_of may_leave moment left_since disk disk)
-      untouched None = tt
-      untouched (Some bytes) = λ c there. inl (inl (only_now disk c there))

@@ -2,6 +2,7 @@
 use Rattle.std.specs.Prelude.{◌≡◌, ◌⊎◌, ℕ, ◌+◌, ◌-◌, ◌≤◌, List, [], ◌∷◌, ◌++◌, length, take, reverse, Option, Some, None, IfSome}
 use Rattle.cat_io.specs.Crashes.{none_known}
 use Rattle.cat_checks.specs.Histories.{IsLegalFrom}
+use Rattle.cat_core.specs.Opening.{OpenThrough, Opens}
 use Rattle.cat_core.specs.Records.{StandFlown, StandFor, StandThrough}
 use Rattle.cat_journal.specs.Frames.{payloads, recovered}
 use Rattle.cat_journal.specs.Held.{outcome}
@@ -49,6 +50,10 @@ StandsAs told may_leave moment (Some (Some there)) disk = IsAsStood told may_lea
 
 -- ---- what a crash leaves
 
+-- payloads whose last one was in flight stand for the log, or for an entry more, and are opened
+abbrev pub FlownOpen : Opened → List LogEntry → List ℕ → List (List ℕ) → Type 0
+FlownOpen o log p ps = StandFlown o log p ps × Opens o.state.limits ps
+
 -- the bytes are what might have been left before; or a new journal is being made, and they are no more than it has
 abbrev pub IsEarlier : (List ℕ → Type 0) → Option (List ℕ) → List ℕ → Type 0
 IsEarlier before journal c = before c ⊎ ((journal ≡ Some []) × (length c ≤ 17))
@@ -68,12 +73,13 @@ bases_between (Some before) (Some now) = now - before
 bases_between (Some before) None = 0
 bases_between None now = 0
 
--- payloads go on from those that there were, and stand for all that was there, and a front of what was added; they have no more bases than were made, and where they have none more, the front's entries are all that stands behind those that there were
+-- payloads go on from those that there were, stand for all that was there, and a front of what was added, and are opened; they have no more bases than were made, and where they have none more, the front's entries are all that stands behind those that there were
 pub record AreOnTheWay (g : Grown) (ps : List (List ℕ)) : Type 0 where
   pub goes_on : GoOn g.had ps
   pub count : ℕ
   pub within : count ≤ length g.added
   pub stand : StandFor g.opened (g.begun ++ take count g.added) ps
+  pub opens : Opens g.opened.state.limits ps
   pub few : base_count ps ≤ base_count g.had + g.bases
   pub plain : base_count ps ≡ base_count g.had → ps ≡ g.had ++ spellings (take count g.added)
 
@@ -84,10 +90,10 @@ pub record AreAll (g : Grown) (ps : List (List ℕ)) : Type 0 where
   pub count : base_count ps ≡ base_count g.had + g.bases
   pub plain : g.bases ≡ 0 → ps ≡ g.had ++ spellings g.added
 
--- behind such as stand for all stands the one in flight, and with it they do too, or stand for an entry more
+-- behind such as stand for all stands the one in flight, and with it they do too, or stand for an entry more, and are opened
 abbrev pub AreFlown : Grown → Option (List ℕ) → List (List ℕ) → Type 0
 AreFlown g None ps = ⊥
-AreFlown g (Some p) ps = (qs : List (List ℕ)) × (ps ≡ qs ++ p ∷ []) × AreAll g qs × StandFlown g.opened (g.begun ++ g.added) p ps
+AreFlown g (Some p) ps = (qs : List (List ℕ)) × (ps ≡ qs ++ p ∷ []) × AreAll g qs × FlownOpen g.opened (g.begun ++ g.added) p ps
 
 -- they recover to these, or to those
 abbrev pub IsOnTheWay : Grown → List ℕ → Type 0
@@ -98,20 +104,21 @@ abbrev pub EndsAt : List (List ℕ) → Option (List ℕ) → List ℕ → List 
 EndsAt payloads None bytes c = c ≡ bytes
 EndsAt payloads (Some p) bytes c = WithOrWithout payloads p (outcome c)
 
--- payloads stand for all, and are so where the journal told what it had
+-- payloads stand for all, are opened, and are so where the journal told what it had
 pub record AreKept (journal : Option (List ℕ)) (g : Grown) (payloads : List (List ℕ)) : Type 0 where
   pub stand : StandFor g.opened (g.begun ++ g.added) payloads
+  pub opens : Opens g.opened.state.limits payloads
   pub all : IfSome journal (λ bytes. AreAll g payloads)
 
--- at the end it leaves the payloads that the journal has, which are kept so; with the one in flight they stand for as much, or for an entry more
+-- at the end it leaves the payloads that the journal has, which are kept so; with the one in flight they stand for as much, or for an entry more, and are opened too
 pub record EndsSo (journal : Option (List ℕ)) (images : Images) (g : Grown) (bytes : List ℕ) : Type 0 where
   pub payloads : List (List ℕ)
   pub are : AreKept journal g payloads
-  pub flown : IfSome g.flying (λ p. StandFlown g.opened (g.begun ++ g.added) p (payloads ++ p ∷ []))
+  pub flown : IfSome g.flying (λ p. FlownOpen g.opened (g.begun ++ g.added) p (payloads ++ p ∷ []))
   pub holds : Holds payloads g.flying bytes
   pub ends : (c : List ℕ) → images.after c → EndsAt payloads g.flying bytes c
 
--- What a crash leaves of a journal. At the end all that was there and all that was added; at each moment of the run all that was there and some front of what was added, or what one might have left before the run, or no more than a new journal has. Where an append or a checkpoint failed its payload counts as the last, which a crash may leave or not.
+-- What a crash leaves of a journal, which is opened again. At the end all that was there and all that was added; at each moment of the run all that was there and some front of what was added, or what one might have left before the run, or no more than a new journal has. Where an append or a checkpoint failed its payload counts as the last, which a crash may leave or not.
 pub record Survives (journal left : Option (List ℕ)) (images : Images) (g : Grown) : Type 0 where
   pub at_the_end : IfSome left (EndsSo journal images g)
   pub at_any_moment : IfSome journal (λ bytes. IfSome left (λ now. (c : List ℕ) → images.since c → IsEarlier images.before journal c ⊎ IsOnTheWay g c))
@@ -134,14 +141,15 @@ pub record IsBegun (since : ℕ) (had : List (List ℕ)) (early : List ℕ → T
   pub early_from : (c : List ℕ) → IsEarlier may_leave told c → early c
   pub early_to : (c : List ℕ) → early c → IsEarlier may_leave told c
 
--- the bytes hold a legal log that a keeper of these payloads keeps, which go on from those that there were; and what a crash leaves of it, and might have left since a moment
+-- the bytes hold a legal log that a keeper of these payloads keeps, which go on from those that there were, and are opened; and what a crash leaves of it, and might have left since a moment
 pub record LeavesLog (since : ℕ) (had : List (List ℕ)) (early may_leave : List ℕ → Type 0) (left_since : ℕ → List ℕ → Type 0) (o : Opened) (log : List LogEntry) (kept : Option (List (List ℕ))) (flying : Option (List ℕ)) (bytes : List ℕ) : Type 0 where
   pub payloads : List (List ℕ)
   pub are : kept ≡ Some payloads
   pub goes_on : GoOn had payloads
   pub stand : StandThrough o log payloads
+  pub opens : OpenThrough o payloads
   pub legal : IsLegalFrom o log
-  pub flown : IfSome flying (λ p. StandFlown o log p (payloads ++ p ∷ []))
+  pub flown : IfSome flying (λ p. FlownOpen o log p (payloads ++ p ∷ []))
   pub holds : Holds payloads flying bytes
   pub last : (c : List ℕ) → may_leave c → EndsAt payloads flying bytes c
   pub each : (c : List ℕ) → left_since since c → early c ⊎ IsFrontOf (length had) (with_flying payloads flying) (outcome c)

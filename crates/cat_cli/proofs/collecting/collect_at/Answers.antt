@@ -1,10 +1,10 @@
 use Rattle.std.proofs.Common.{rules, ◌≡◌, ◌<◌, inl, inr, refl, ◌∙◌}
 use Rattle.cat_cli.specs.Journals.{DisksFell}
-use Rattle.cat_cli.proofs.Gathered.{gathers}
+use Rattle.cat_cli.proofs.GatheredRuns.{gathers}
 use Rattle.cat_cli.proofs.Opened.{disk_fell, rose_first}
 use Rattle.cat_cli.proofs.Refused.{of_err, of_ok}
 use Rattle.cat_cli.proofs.ServedRuns.{none_opened, refused_back}
-use Rattle.cat_cli.proofs.Surviving.{stands_as}
+use Rattle.cat_cli.proofs.Placed.{stands_as}
 use Rattle.cat_cli.proofs.collecting.collect_at.Goals as goal
 
 pub returns-in-Ok-done-clause-collects : goal.returns-in-Ok-done-clause-collects

@@ -1,6 +1,6 @@
 use Rattle.std.proofs.Common.{◌≡◌, Option, Some, inr, refl, sym, ◌∙◌}
 use Rattle.cat_policy.specs.declared.policy.Policy.{Policy}
-use Rattle.cat_cli.proofs.Gathered.{never_heard, never_read, never_usage}
+use Rattle.cat_cli.proofs.GatheredRuns.{never_heard, never_read, never_usage}
 use Rattle.cat_cli.proofs.ServedRuns.{out_of_memory}
 use Rattle.cat_cli.proofs.collecting.gc.Goals as goal
 

@@ -1,5 +1,5 @@
 use Rattle.std.proofs.Common.{rules}
-use Rattle.cat_cli.proofs.Gathered.{limit_told, swept_told}
+use Rattle.cat_cli.proofs.GatheredRuns.{limit_told, swept_told}
 use Rattle.cat_cli.proofs.collecting.tell_collected.Goals as goal
 
 pub returns-in-Limit-clause-told : goal.returns-in-Limit-clause-told

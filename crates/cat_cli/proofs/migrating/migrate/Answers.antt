@@ -3,7 +3,7 @@ use Rattle.cat_cli.specs.Journals.{DisksFell}
 use Rattle.cat_cli.proofs.Migrated.{migrated}
 use Rattle.cat_cli.proofs.Opened.{disk_fell, rose_first}
 use Rattle.cat_cli.proofs.Refused.{never_opened, of_err, of_ok, refused_there}
-use Rattle.cat_cli.proofs.Surviving.{stands_as}
+use Rattle.cat_cli.proofs.Placed.{stands_as}
 use Rattle.cat_cli.proofs.migrating.migrate.Goals as goal
 
 pub returns-in-Ok-line-clause-migrated : goal.returns-in-Ok-line-clause-migrated

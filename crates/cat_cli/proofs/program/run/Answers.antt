@@ -5,7 +5,7 @@ use Rattle.cat_serve.specs.ReadingLaws.{some_readings}
 use Rattle.cat_cli.proofs.Commands.{has_journal, is_command, lacks_journal, lacks_policy, no_collection, none_asked, refused_policy}
 use Rattle.cat_cli.proofs.Opened.{stands_untouched}
 use Rattle.cat_cli.proofs.ServedRuns.{out_of_memory}
-use Rattle.cat_cli.proofs.Surviving.{spared_untouched}
+use Rattle.cat_cli.proofs.Placed.{spared_untouched}
 use Rattle.cat_cli.proofs.program.run.Goals as goal
 
 same_journal : (a b : List ℕ) → ◌≡◌ {A = Option Task} (Some (script a)) (Some (script b)) → a ≡ b

@@ -4,7 +4,7 @@ use Rattle.cat_serve.specs.ReadingLaws.{some_readings}
 use Rattle.cat_cli.proofs.Opened.{disk_fell, rose_first, rose_there}
 use Rattle.cat_cli.proofs.Ran.{says}
 use Rattle.cat_cli.proofs.Refused.{never_opened, of_err, of_ok, refused_there}
-use Rattle.cat_cli.proofs.Surviving.{stands_as}
+use Rattle.cat_cli.proofs.Placed.{stands_as}
 use Rattle.cat_cli.proofs.scripting.script.Goals as goal
 
 pub returns-in-Ok-held-clause-replies : goal.returns-in-Ok-held-clause-replies

@@ -3,7 +3,7 @@ use Rattle.cat_cli.specs.Journals.{DisksFell, RoseBy}
 use Rattle.cat_cli.proofs.Opened.{disk_fell, rose_first, rose_there}
 use Rattle.cat_cli.proofs.Refused.{of_err, of_ok}
 use Rattle.cat_cli.proofs.ServedRuns.{none_opened, refused_back, serves_there}
-use Rattle.cat_cli.proofs.Surviving.{stands_as}
+use Rattle.cat_cli.proofs.Placed.{stands_as}
 use Rattle.cat_cli.proofs.serving.serve.Goals as goal
 
 pub returns-in-Ok-ended-clause-served : goal.returns-in-Ok-ended-clause-served
