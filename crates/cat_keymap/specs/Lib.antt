@@ -5,10 +5,12 @@ pub mod Shared
 pub mod Parents
 pub mod Ordered
 pub mod Parts
+pub mod SetLaws
 pub mod KeyListLaws
 pub mod Range
 pub mod Among
 pub mod MapsAt
 pub mod Walking
 pub mod Unlike
+pub mod FormedLaws
 pub mod Forming
