@@ -21,7 +21,7 @@ use Rattle.cat_checks.specs.AlikeSteps.{AreCalledAlike, attempt_alike}
 use Rattle.cat_checks.specs.AlikeSweeps.{ArePastsAlike, AreRecent, recent_taken, sweep_alike}
 use Rattle.cat_checks.specs.Histories.{AreFrom, AreLegal, after_entry}
 use Rattle.cat_checks.specs.HistoryLaws.{EndsCourse, entry_ends, past_more}
-use Rattle.cat_checks.specs.LeadingLaws.{legal_place}
+use Rattle.cat_checks.specs.ReplayedLaws.{legal_place}
 use Rattle.cat_checks.specs.Legal.{IsLegal, are_spelled_alike, draft_after, draft_is_new, draft_may_come, has_its_draft, is_just, is_legal, may_be_done, may_be_swept, most_patterns, next_book, next_from, or_at, read_next, replayed, replayed_action, replayed_call}
 
 -- ---- what an entry brings

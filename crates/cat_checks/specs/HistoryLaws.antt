@@ -24,7 +24,7 @@ use Rattle.cat_model.specs.Step.{Turn, opening, step}
 use Rattle.cat_model.specs.Sweeps.{step_sweep, sweep_call, swept_by}
 use Rattle.cat_model.specs.Turns.{Opened}
 use Rattle.cat_checks.specs.Histories.{AreFrom, AreLegal, IsLegalFrom, after_entry, begun, book_after, book_at}
-use Rattle.cat_checks.specs.LeadingLaws.{legal_place, replayed_later, replayed_limits, replayed_upholds}
+use Rattle.cat_checks.specs.ReplayedLaws.{legal_place, replayed_later, replayed_limits, replayed_upholds}
 use Rattle.cat_checks.specs.Legal.{draft_after, draft_is_above, draft_is_new, draft_may_come, replayed_action}
 use Rattle.cat_checks.specs.Upheld.{Upholds}
 pub use Rattle.cat_checks.specs.LeadingLaws.{later_on, later_self, step_later}

@@ -4,6 +4,7 @@ pub mod LegalLaws
 pub mod Histories
 pub mod GivenLaws
 pub mod LeadingLaws
+pub mod ReplayedLaws
 pub mod AcceptedLaws
 pub mod HistoryLaws
 pub mod Upheld

@@ -1,6 +1,6 @@
 -- The roots that a store gives of its open sweep.
 use Rattle.std.proofs.Common.{◌≡◌, ◌≢◌, ℕ, ◌+◌, ◌-◌, ◌≤◌, List, [], ◌∷◌, ◌++◌, length, take, drop, reverse, Option, Some, None, true, refl, sym, ap, ◌∙◌, subst, arith}
-use Rattle.std.proofs.lemmas.List.{length-drop, take-append-drop}
+use Rattle.std.proofs.lemmas.List.{length-drop, length-take-le, take-append-drop}
 use Rattle.std.specs.Option.{option_map}
 use Rattle.std.specs.Prelude.{IfOk, IfSome, Result, Ok, Err}
 use Rattle.sha2.specs.Sha256.{sha256}
@@ -20,8 +20,8 @@ use Rattle.cat_core.specs.declared.sweeping.Sweep.{Sweep}
 use Rattle.cat_core.specs.declared.tickets.OpenSweep.{OpenSweep}
 use Rattle.cat_core.specs.Noting.{names_of_drafts}
 use Rattle.cat_core.specs.declared.tickets.Ticket.{Ticket}
-use Rattle.cat_core.specs.Stored.{IsSound, IsUnderWay, IsUp, Stored, is_headed, opening_at, sweep_held}
-use Rattle.cat_core.specs.Sweeps.{Completes, IsSweepOpening, drained_on, first_roots, given_by, kept_by, next_sweep, opened_sweep, roots_since, sweep_opening, with_sweep}
+use Rattle.cat_core.specs.Stored.{HasFronts, IsSound, IsUnderWay, IsUp, Stored, is_headed, log_of, opening_at, sweep_held}
+use Rattle.cat_core.specs.Sweeps.{Completes, IsSweepOpening, drained_on, first_roots, given_by, kept_by, names_behind, next_sweep, opened_sweep, roots_since, sweep_opening, with_sweep}
 use Rattle.cat_core.proofs.Completing.{completes_first, completes_rest}
 use Rattle.cat_core.proofs.Since.{AreLegalBack, legal_backwards, places_back, state_at}
 use Rattle.cat_core.proofs.UnderWay.{ends_sound}
@@ -69,6 +69,27 @@ roots_ok {K} {E} s x same start left_open held it (Ok roots) entries commits con
     roots_complete s x same held it roots is sweep
     (subst (λ (r : Roots). Completes s.book.state.commits (given_by s.book (sweep_held it)) r (kept_by s.book (sweep_held it))) (sym own) (since_completes s.book start left_open it sound under are headed)) o there
 
+-- the names that were not given yet are those behind the ones that were
+rest_is : (s : OpenSweep) → HasFronts s → rest_of s ≡ names_behind (sweep_held s)
+rest_is s fronts = λ i. record { commits = drop (sym (length-take-le s.given_commits s.commits.items fronts.commits) i) s.commits.items; contents = drop (sym (length-take-le s.given_contents s.contents.items fronts.contents) i) s.contents.items }
+
+-- they are the heads made and the names given since, as it is seen
+pub roots_seen : {K E : Type 0} (s x : Stored K) → s ≡ x → (held : Option OpenSweep) (it : OpenSweep) (r : Result Roots E) (entries : List LogEntry) (commits contents : List Hash) → held ≡ Some it → s.left_open.sweep ≡ option_map sweep_held held
+    → IfSome held (IsUnderWay s.book) → IfOk r (λ roots. roots ≡ roots_since it.policy entries (record { commits = commits; contents = contents }))
+    → entries ≡ drop it.drained (reverse s.book.log) → commits ≡ drop it.given_commits it.commits.items → contents ≡ drop it.given_contents it.contents.items
+    → (o : drafts.OpenSweep) → x.left_open.sweep ≡ Some o → IfOk r (λ roots. roots ≡ roots_since o.policy (drop o.drained (log_of x)) (names_behind o))
+roots_seen {K} {E} s x same held it (Err e) entries commits contents is sweep way ok entries_are commits_are contents_are o there = tt
+roots_seen {K} {E} s x same held it (Ok roots) entries commits contents is sweep way ok entries_are commits_are contents_are o there =
+    let under : IsUnderWay s.book it = subst (λ (h : Option OpenSweep). IfSome h (IsUnderWay s.book)) is way in
+    let own : sweep_held it ≡ o = some_same (sweep_held it) o (sym (ap (option_map sweep_held) is) ∙ sym sweep ∙ ap (λ (z : Stored K). z.left_open.sweep) same ∙ there) in
+    ok
+    ∙ (λ i. roots_since it.policy (entries_are i) (record { commits = commits_are i; contents = contents_are i }))
+    ∙ ap (roots_since it.policy (drop it.drained (reverse s.book.log))) (rest_is it under.fronts)
+    ∙ (λ i. roots_since (own i).policy (drop (own i).drained (log_of (same i))) (names_behind (own i)))
+  where
+    some_same : (a b : drafts.OpenSweep) → ◌≡◌ {A = Option drafts.OpenSweep} (Some a) (Some b) → a ≡ b
+    some_same a b e = cc
+
 -- as it is opened
 pub first_completes : (book : Book) (left_open : List drafts.OpenDraft) (opening : Opening) (policy : Resolved) → opening.place ≡ book.state.place
     → Completes book.state.commits [] (first_roots policy book.state.references (names_of_drafts left_open)) (kept_by book (opened_sweep book left_open opening policy))
@@ -94,6 +115,7 @@ begun_is {K} caller s x same s' held sweep roots view up none ticket number its 
       opening = opening_is;
       roots_are = subst (λ (r : Roots). Completes s.book.state.commits [] r (kept_by s.book (opened_sweep s.book s.left_open.drafts (sweep_opening sweep) held.policy))) (sym first)
           (first_completes s.book s.left_open.drafts (sweep_opening sweep) held.policy (ap (λ (o : Opening). o.place) opening_is));
+      roots_from = first;
       view_is = view_is;
       after = after ∙ ap (with_sweep s) held_is;
     }

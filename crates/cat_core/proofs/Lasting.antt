@@ -4,7 +4,7 @@ use Rattle.std.specs.List.{flat_map, list_all, list_any}
 use Rattle.std.specs.Option.{option_map}
 use Rattle.std.specs.Prelude.{find}
 use Rattle.sha2.specs.Sha256.{sha256}
-use Rattle.cat_checks.specs.LeadingLaws.{legal_place, replayed_later}
+use Rattle.cat_checks.specs.ReplayedLaws.{legal_place, replayed_later}
 use Rattle.cat_decisions.specs.AddedLaws.{entries_later}
 use Rattle.cat_graph.specs.GraphLaws.{same_is, same_self}
 use Rattle.cat_graph.specs.Linked as linked

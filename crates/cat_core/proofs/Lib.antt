@@ -9,6 +9,7 @@ pub mod Completing
 pub mod Taking
 pub mod Collecting
 pub mod UnderWay
+pub mod SweepsOn
 pub mod Shutting
 pub mod Giving
 pub mod Ending
@@ -41,6 +42,7 @@ pub mod Replaying
 pub mod Relogged
 pub mod Following
 pub mod Led
+pub mod Reckoned
 pub mod Reopened
 pub mod Resumed
 pub mod Swept

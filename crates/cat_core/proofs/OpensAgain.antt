@@ -25,7 +25,7 @@ use Rattle.cat_core.specs.Opening.{OpenThrough, Opens, led_base, led_by, led_fro
 use Rattle.cat_core.specs.Records.{IsBaseAt, StandFlown, StandFor, StandThrough, state_at}
 use Rattle.cat_core.specs.RecordLaws.{legal_front, starts_there}
 use Rattle.cat_core.specs.Stored.{Stored, log_of}
-use Rattle.cat_core.proofs.Led.{counted_alike}
+use Rattle.cat_core.proofs.Reckoned.{counted_alike}
 use Rattle.cat_core.proofs.Resumed.{resumed}
 use Rattle.cat_core.proofs.StartKept.{log_start}
 

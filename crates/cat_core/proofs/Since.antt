@@ -5,7 +5,7 @@ use Rattle.std.specs.List.{flat_map, list_all, list_any}
 use Rattle.sha2.specs.Sha256.{sha256}
 use Rattle.cat_checks.specs.Histories.{AreLegal, begun, book_at}
 use Rattle.cat_checks.specs.HistoryLaws.{book_more, course_is, legal_back, legal_front}
-use Rattle.cat_checks.specs.LeadingLaws.{legal_place, replayed_later}
+use Rattle.cat_checks.specs.ReplayedLaws.{legal_place, replayed_later}
 use Rattle.cat_checks.specs.Legal.{IsLegal, draft_after, replayed_action, replayed_by, replayed_call, turn_of}
 use Rattle.cat_frames.specs.Entries.{of_nobody}
 use Rattle.cat_graph.specs.Linked.{AreLinked}

@@ -27,7 +27,7 @@ use Rattle.cat_graph.specs.Linked.{AreLinked}
 use Rattle.cat_tables.specs.ReferenceLaws.{and_true, both_true}
 use Rattle.cat_checks.specs.Histories.{AreLegal, after_entry, book_after}
 use Rattle.cat_checks.specs.KeptMaps.{ActionHasMaps, HasItsMaps, HaveMaps}
-use Rattle.cat_checks.specs.LeadingLaws.{replayed_upholds}
+use Rattle.cat_checks.specs.ReplayedLaws.{replayed_upholds}
 use Rattle.cat_checks.specs.Legal.{IsLegal, draft_after, draft_is_new, has_its_draft, is_just, is_legal, may_be_done, replayed_action, replayed_by, replayed_call, turn_of}
 use Rattle.cat_checks.specs.Upheld.{HasMain, Upholds}
 use Rattle.cat_checks.specs.WithinLaws.{is_within_by, within_is}

@@ -7,7 +7,7 @@ use Rattle.std.proofs.Math.Nat.{max-zero}
 use Rattle.std.specs.List.{list_all, list_any}
 use Rattle.sha2.specs.Sha256.{sha256}
 use Rattle.cat_codes.specs.ListLaws.{and_true}
-use Rattle.cat_checks.specs.LeadingLaws.{replayed_later}
+use Rattle.cat_checks.specs.ReplayedLaws.{replayed_later}
 use Rattle.cat_checks.specs.Legal.{draft_after, has_its_draft, may_be_done, may_be_swept, most_patterns, opens_one, replayed_action, replayed_by, replayed_call, turn_of}
 use Rattle.cat_graph.specs.Linked.{AreLinked, is_known}
 use Rattle.cat_mark.specs.Marks.{is_marked}

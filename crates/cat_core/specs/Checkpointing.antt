@@ -28,7 +28,7 @@ base_bytes s = checkpoint_spelling (checkpoint_at s.opened (log_of s) s.book.sta
 abbrev pub based : {K : Type 0} → Stored K → K → Stored K
 based s keeper = record s { keeper = keeper; mark = record (s.mark) { base = s.book.state.place; bases = option_map (λ (n : ℕ). n + 1) s.mark.bases } }
 
--- it may be made: nothing has failed, the journal has bases, and no sweep is open
+-- it may be made: nothing has failed, the journal's format may have bases, and no sweep is open
 pub record MayBase {K : Type 0} (s : Stored K) : Type 0 where
   pub up : IsUp s
   pub newer : s.mark.format ≡ 2

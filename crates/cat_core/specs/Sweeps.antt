@@ -38,7 +38,7 @@ use Rattle.cat_state.specs.Kept.{Leaves}
 use Rattle.cat_core.specs.Drafts.{Refers}
 use Rattle.cat_core.specs.Kept.{KeepsTold}
 use Rattle.cat_core.specs.Noting.{names_of_drafts}
-use Rattle.cat_core.specs.Stored.{IsDownAt, IsUp, Stored}
+use Rattle.cat_core.specs.Stored.{IsDownAt, IsUp, Stored, log_of}
 use Rattle.cat_core.specs.Sweeping.{name_in, saved_on}
 
 -- ---- names
@@ -121,12 +121,13 @@ opened_sweep book drafts opening policy = record { opening = opening; policy = p
 abbrev pub with_sweep : {K : Type 0} → Stored K → OpenSweep → Stored K
 with_sweep s o = record s { mark = record (s.mark) { sweep = Some o.opening }; left_open = record (s.left_open) { sweep = Some o } }
 
--- none was open, and this one is, with roots that say all that it has to keep
+-- none was open, and this one is, with roots that say all that it has to keep: the heads of all references, each under its cutoff, and the names that open drafts gave
 pub record IsSweepOpening {K : Type 0} (caller : ℕ) (policy : Resolved) (s s' : Stored K) (sweep : Sweep) (roots : Roots) (view : State) : Type 0 where
   pub up : IsUp s
   pub none : s.left_open.sweep ≡ None
   pub opening : sweep_opening sweep ≡ record { number = next_sweep s.mark; caller = caller; place = s.book.state.place }
   pub roots_are : Completes s.book.state.commits [] roots (kept_by s.book (opened_sweep s.book s.left_open.drafts (sweep_opening sweep) policy))
+  pub roots_from : roots ≡ first_roots policy s.book.state.references (names_of_drafts s.left_open.drafts)
   pub view_is : view ≡ s.book.state
   pub after : s' ≡ with_sweep s (opened_sweep s.book s.left_open.drafts (sweep_opening sweep) policy)
 
@@ -151,11 +152,16 @@ IsSweeping s sweep = (o : OpenSweep) × (s.left_open.sweep ≡ Some o) × (o.ope
 abbrev pub drained_on : Book → OpenSweep → OpenSweep
 drained_on book o = record o { drained = length book.log; given = o.names }
 
--- its caller is given what was missing
+-- the names that its caller was not given yet, which stand behind those that it was
+abbrev pub names_behind : OpenSweep → Names
+names_behind o = record { commits = drop (length o.given.commits) o.names.commits; contents = drop (length o.given.contents) o.names.contents }
+
+-- its caller is given what was missing: the heads that the entries made that it was not given yet, each under its cutoff, and the names behind those that it was given
 pub record IsDrained {K : Type 0} (s s' : Stored K) (roots : Roots) (view : State) : Type 0 where
   pub sweep : OpenSweep
   pub is : s.left_open.sweep ≡ Some sweep
   pub roots_are : Completes s.book.state.commits (given_by s.book sweep) roots (kept_by s.book sweep)
+  pub roots_from : roots ≡ roots_since sweep.policy (drop sweep.drained (log_of s)) (names_behind sweep)
   pub view_is : view ≡ s.book.state
   pub after : s' ≡ record s { left_open = record (s.left_open) { sweep = Some (drained_on s.book sweep) } }
 

@@ -76,10 +76,11 @@ impl<K: Keeper> Store<K> {
     }
 
     /// Writes the state into the journal, which goes on from it: opened again, the log starts
-    /// there. It makes no entry, and the log in memory stays whole. `OldFormat` exactly where the
-    /// journal's format has no checkpoints, and then `SweepOpen` exactly where a sweep is open. `Ok`
-    /// acknowledges it; after a `Fault` the journal may go on from it or not, and each later call is
-    /// refused as `Down` at the count of faults then.
+    /// there. It makes no entry, and the log in memory stays whole. Where the store isn't down, want
+    /// of memory aside: `OldFormat` exactly where the journal's format has no checkpoints, and
+    /// otherwise `SweepOpen` exactly where a sweep is open. `Ok` acknowledges it; after a `Fault` the
+    /// journal may go on from it or not, and each later call is refused as `Down` at the count of
+    /// faults then.
     #[tactic(auto, using(cat_keeper::specs::KeeperLaws::old_format))]
     pub fn checkpoint(&mut self, alloc: Global, caller: u32) -> Result<Told, Refused>
         ensures checkpoints { Checkpoints caller self.old self.new result }

@@ -18,7 +18,7 @@ use cat_state::view::View;
 use std::alloc::Global;
 
 /// A call that has opened a draft, which stays open until it is settled or dropped. What its draft
-/// names stays in the catalogue until then.
+/// names, and was there at some moment since its opening, stays in the catalogue until then.
 pub struct Draft<'a> {
     pub(crate) number: u64,
     pub(crate) caller: u32,

@@ -91,8 +91,8 @@ impl<K: Keeper> Store<K> {
         Ok(())
     }
 
-    /// Opens a draft for a call, with a view of the catalogue as it is. What its draft names is
-    /// kept until the draft is closed.
+    /// Opens a draft for a call, with a view of the catalogue as it is. What its draft names, and
+    /// was there at some moment since its opening, is kept until the draft is closed.
     pub fn open_draft<'a>(
         &mut self,
         alloc: Global,

@@ -174,7 +174,8 @@ impl<K: Keeper> Store<K> {
     /// Executes every entry of the keeper again that stands behind its base: the store of the
     /// catalogue that they lead to, from the base's, or from the empty one. `Illegal` of the base's
     /// place exactly where no log may start from it: where it isn't as each catalogue is that
-    /// entries lead to, or passes a limit. With each fault the keeper comes back.
+    /// entries lead to, or passes one of the limits of references, of the log, of commits, of keys
+    /// or of contents. With each fault the keeper comes back.
     pub fn open(alloc: Global, keeper: K, limits: Limits) -> Result<Store<K>, (K, StoreFault)>
         requires log { limits.log ≤ 4294967295 }
         requires commits { limits.commits ≤ 4294967295 }
@@ -317,8 +318,8 @@ impl<K: Keeper> Store<K> {
 
     /// What holds of the keeper: its payloads stand for the log, and the mark tells of its bases and
     /// of its failed append or rebase. With the payload that this left in flight they stand for the
-    /// log, or for it and one entry more. They are opened again, so and at each length that they had
-    /// since the log was opened.
+    /// log, or for it and one entry more. With it or without it they are opened again, and so they
+    /// are at each length that they had since the log was opened.
     pub fn log_is_kept(&self)
         ensures payloads { IfSome (K.told self.now.keeper)
             (StandThrough self.now.opened (log_of self.now)) }

@@ -1,4 +1,5 @@
-//! Sweeps: opened in one turn, marked outside any, and settled or dropped in a later turn.
+//! Sweeps: opened in one turn, and settled or dropped in a later one. Their roots are told, so that
+//! they may be marked outside any turn.
 
 ghost use Rattle.std.specs.Prelude.{◌≡◌, ◌≤◌, None, Some, IfErr, IfOk, IsTrue, OnErr, drop, length};
 ghost use Rattle.sha2.specs.Sha256.{sha256};
@@ -13,8 +14,8 @@ ghost use Rattle.cat_model.specs.Turns.{Acts};
 ghost use Rattle.cat_state.specs.Kept.{Leaves};
 ghost use Rattle.cat_core.specs.Kept.{IsTold, KeepsTold};
 ghost use Rattle.cat_core.specs.Lasting.{AreLasting, HasAllNames};
-ghost use Rattle.cat_core.specs.Stored.{IsUp, snap};
-ghost use Rattle.cat_core.specs.Sweeps.{AreAllMarked, AreGiven, Closes, Completes, Drops, IsDrained, IsOpened, IsSettledSweep, IsSweepOpening, IsSweeping, NotSwept, Sweeps, called_sweep, drained_on, given_by, kept_by, next_sweep, sweep_in, sweep_on};
+ghost use Rattle.cat_core.specs.Stored.{IsUp, log_of, snap};
+ghost use Rattle.cat_core.specs.Sweeps.{AreAllMarked, AreGiven, Closes, Completes, Drops, IsDrained, IsOpened, IsSettledSweep, IsSweepOpening, IsSweeping, NotSwept, Sweeps, called_sweep, drained_on, given_by, kept_by, names_behind, next_sweep, roots_since, sweep_in, sweep_on};
 
 use crate::closing::{Closing, close_sweep};
 use crate::rooting::{commits_named, contents_named, first_roots, roots_since};
@@ -119,8 +120,9 @@ impl<K: Keeper> Store<K> {
     }
 
     /// Opens a sweep, under the next number of sweeps. It answers the roots of all that the sweep
-    /// has to keep as yet, and a view of the catalogue to mark it on. `SweepOpen` exactly where one
-    /// is open.
+    /// has to keep as yet, which are the heads of all references and what open drafts name, and a
+    /// view of the catalogue to mark it on. `SweepOpen`, where the store isn't down, exactly where
+    /// one is open, want of memory aside.
     pub fn open_sweep(
         &mut self,
         alloc: Global,
@@ -153,10 +155,14 @@ impl<K: Keeper> Store<K> {
     /// The roots of what the open sweep has to keep beside what its caller was given.
     fn roots_since(&self, alloc: Global) -> Result<Roots, NoMemory>
         requires { IsOpened self.now.left_open.sweep }
-        ensures { (o : OpenSweepValue) → self.now.left_open.sweep ≡ Some o
+        ensures completes { (o : OpenSweepValue) → self.now.left_open.sweep ≡ Some o
             → IfOk result
             (λ roots. Completes self.now.book.state.commits (given_by self.now.book o) roots
             (kept_by self.now.book o)) }
+        ensures from { (o : OpenSweepValue) → self.now.left_open.sweep ≡ Some o
+            → IfOk result
+            (λ roots. roots
+            ≡ roots_since o.policy (drop o.drained (log_of self.now)) (names_behind o)) }
     {
         self.knows_heads();
         let Some(open) = &self.sweep else {
@@ -192,8 +198,8 @@ impl<K: Keeper> Store<K> {
     }
 
     /// The roots of what the sweep has to keep beside what they were given before, and a view of
-    /// the catalogue: what entries made since, and what drafts named. Where memory runs out,
-    /// nothing was given.
+    /// the catalogue: the heads that entries made since, and what drafts named since, and no others.
+    /// Where memory runs out, nothing was given.
     pub fn drain(&mut self, alloc: Global, sweep: &Sweep) -> Result<(Roots, View), NoMemory>
         requires is_open { IsSweeping self.old sweep.now }
         ensures drained { IfOk result (λ t. IsDrained self.old self.new t.0 t.1) }

@@ -7,19 +7,18 @@ use mathlib.Core.Logic.{dite}
 use native.Mathlib.Decide.{ℕ_discrete}
 use lib.ListN.{get_elem?}
 use lib.Seq.{set-get_or}
-use Rattle.atomic_table.specs.Table.{State, Me, keeps, takes, gives, stepped, Allows}
-use Rattle.atomic_table.proofs.Lists.{set_else, set_here, one_turn}
+use Rattle.atomic_table.specs.Table.{State, Me, keeps, takes, stepped, Allows}
+use Rattle.atomic_table.proofs.Lists.{set_else, one_turn}
 use Rattle.cat_model.specs.declared.log_entry.LogEntry.{LogEntry}
-use Rattle.cat_model.specs.Drafts.{Open, open_of, StaysOpen, LeavesOthers}
-use Rattle.cat_model.specs.Mark.{Mark, Grows, Later}
-use Rattle.cat_model.specs.Turns.{Opened, Adds, place_after}
-use Rattle.cat_model.specs.TurnLaws.{grows_self, grows_on, stays_self, stays_on}
+use Rattle.cat_model.specs.Drafts.{Open, open_of, StaysOpen}
+use Rattle.cat_model.specs.Mark.{Mark, Grows}
+use Rattle.cat_model.specs.Turns.{Opened, place_after}
 use Rattle.cat_desk.specs.Sight.{Origin, Stage, Idle, Making, Waiting, Called, Holding, Leaving, Part, no_part, View}
-use Rattle.cat_desk.specs.Log.{IsAmong, WasGiven, Follows, Missed, Since}
+use Rattle.cat_desk.specs.Log.{Follows, Missed, Since}
 use Rattle.cat_desk.specs.Marks.{Linked, IsGiven, AreGiven}
-use Rattle.cat_desk.specs.Rule.{Place, home, out, IsLive, IsBusy, IsServed, IsAlone, IsMaking, IsUnborn, tickets_of, total, queue, weight, numbers_of, IsPart, Fits, Turned, SomeoneSaw, Stands, Kept, at_stage, waiting, knowing, drew, called, served, met, still, unnumbered, finding, leaving, Begins, Found, TookAt, took, gave}
-use Rattle.cat_desk.proofs.Logs.{missed_none, missed_follows, missed_more, adds_longer, since_more, since_next}
-use Rattle.cat_desk.proofs.Marks.{linked_self, linked_more, given_more, are_given_more}
+use Rattle.cat_desk.specs.Rule.{Place, home, out, IsLive, IsBusy, IsServed, IsAlone, IsMaking, IsUnborn, tickets_of, total, queue, weight, IsPart, Fits, Turned, SomeoneSaw, Stands, Kept, at_stage, waiting, knowing, drew, called, served, met, still, unnumbered, finding, Begins, Found, TookAt, took}
+use Rattle.cat_desk.proofs.Logs.{missed_none, missed_follows, since_next}
+use Rattle.cat_desk.proofs.Marks.{linked_self}
 use Rattle.cat_desk.proofs.Totals.{total_set, total_le, two_of}
 use Rattle.cat_desk.proofs.Standing.{stands_stay, stands_at, home_at, unborn_at}
 use Rattle.cat_desk.proofs.Seats.{alone_served, making_served, served_busy, busy_live, one_ticket, is_live, served_ticket, set_there, same_some, behind, three_words, seats_stay, same_view}
@@ -42,10 +41,10 @@ module _ {V : Type 0} (log : V → List LogEntry) (opened : V → Opened) (legal
   Fit s r j d = Fits (opened key, log key) r.all r.tickets (word_at s 2) r.next r.keeper r.owner r.named (IsUnborn r.place) r.last r.marks r.opens j d
 
   -- only one seat has the turn
-  other_turn : (s : St) (r : Rule s) (j me : ℕ) (d : View) → j ≢ me → r.owner (word_at s 2) ≡ me → Fit s r j d → ¬ IsServed d.stage
+  pub other_turn : (s : St) (r : Rule s) (j me : ℕ) (d : View) → j ≢ me → r.owner (word_at s 2) ≡ me → Fit s r j d → ¬ IsServed d.stage
   other_turn s r j me d ne turn f sv = ne (sym (f.in_line.has_ticket (served_busy d.stage sv)).2 ∙ (ap r.owner (f.in_line.served sv) ∙ turn))
 
-  my_turn : (s : St) (r : Rule s) (me : ℕ) (v : View) → Fit s r me v → IsServed v.stage → r.owner (word_at s 2) ≡ me
+  pub my_turn : (s : St) (r : Rule s) (me : ℕ) (v : View) → Fit s r me v → IsServed v.stage → r.owner (word_at s 2) ≡ me
   my_turn s r me v f sv = ap r.owner (sym (f.in_line.served sv)) ∙ (f.in_line.has_ticket (served_busy v.stage sv)).2
 
   turned_below : (s : St) (r : Rule s) (st : Stage) → IsAlone st → Turned s.views (r.owner (word_at s 2)) st → word_at s 2 < r.tickets
@@ -65,7 +64,7 @@ module _ {V : Type 0} (log : V → List LogEntry) (opened : V → Opened) (legal
       (λ ne. (t.0, t.1, set_else s.views id t.0 w ne ∙ t.2, t.3, t.4, t.5))
 
   -- a step by which the seat id comes to the view w
-  step_to : (s : St) (r : Rule s) (id : ℕ) (v w : View) (ws : List ℕ) (hs : List (Maybe (Option V))) (all : List LogEntry) (tickets : ℕ) (owner : ℕ → ℕ) (place : Place V) (last : ℕ) (marks : ℕ → Mark) (opens : Open)
+  pub step_to : (s : St) (r : Rule s) (id : ℕ) (v w : View) (ws : List ℕ) (hs : List (Maybe (Option V))) (all : List LogEntry) (tickets : ℕ) (owner : ℕ → ℕ) (place : Place V) (last : ℕ) (marks : ℕ → Mark) (opens : Open)
       → ((a b : ℕ) → a ≤ b → b ≤ last → Grows (marks a) (marks b)) → (marks 0 ≡ mark key) → ((j : ℕ) → j ≤ last → IsGiven r.next (mark key) (marks j)) → AreGiven r.next opens → get_elem? s.views id ≡ some v → IsLive w.stage → weight w ≡ weight v
       → length ws ≡ 67 → get_or ws 0 0 ≡ place_after (opened key) all → place_after (opened key) all < 4294967296 → get_or ws 1 0 ≡ tickets % 18446744073709551616 → (total queue (set s.views id w) + get_or ws 2 0 ≡ tickets) → legal (opened key) all → Since r.next (log key) all
       → Fits (opened key, log key) all tickets (get_or ws 2 0) r.next r.keeper owner r.named (IsUnborn place) last marks opens id w
@@ -101,7 +100,7 @@ module _ {V : Type 0} (log : V → List LogEntry) (opened : V → Opened) (legal
     stands = stands;
   }
 
-  queue_stays : (s : St) (r : Rule s) (id : ℕ) (v w : View) → get_elem? s.views id ≡ some v → tickets_of w.stage ≡ tickets_of v.stage → total queue (set s.views id w) + word_at s 2 ≡ r.tickets
+  pub queue_stays : (s : St) (r : Rule s) (id : ℕ) (v w : View) → get_elem? s.views id ≡ some v → tickets_of w.stage ≡ tickets_of v.stage → total queue (set s.views id w) + word_at s 2 ≡ r.tickets
   queue_stays s r id v w here same = let moved : total queue (set s.views id w) + tickets_of v.stage ≡ total queue s.views + tickets_of w.stage = total_set queue s.views id v w here in let was : total queue s.views + word_at s 2 ≡ r.tickets = r.queued in omega arith
 
   -- the first three words, and those behind them
@@ -109,10 +108,10 @@ module _ {V : Type 0} (log : V → List LogEntry) (opened : V → Opened) (legal
   parted s r = let wide : length s.words ≡ 67 = r.wide in three_words s.words (omega arith)
 
   -- whatever the first three are, there are as many words
-  as_wide : (s : St) (r : Rule s) → length (word_at s 0 ∷ word_at s 1 ∷ word_at s 2 ∷ behind s.words) ≡ 67
+  pub as_wide : (s : St) (r : Rule s) → length (word_at s 0 ∷ word_at s 1 ∷ word_at s 2 ∷ behind s.words) ≡ 67
   as_wide s r = sym (ap (λ (ws : List ℕ). length ws) (parted s r)) ∙ r.wide
 
-  rebuilt : (s : St) (r : Rule s) (i n : ℕ) (hs : List (Maybe (Option V))) (vs : List View)
+  pub rebuilt : (s : St) (r : Rule s) (i n : ℕ) (hs : List (Maybe (Option V))) (vs : List View)
       → Rule record { words = set (word_at s 0 ∷ word_at s 1 ∷ word_at s 2 ∷ behind s.words) i n; homes = hs; views = vs } → Rule record { words = set s.words i n; homes = hs; views = vs }
   rebuilt s r i n hs vs k = subst (λ (ws : List ℕ). Rule record { words = set ws i n; homes = hs; views = vs }) (sym (parted s r)) k
 
@@ -323,89 +322,6 @@ module _ {V : Type 0} (log : V → List LogEntry) (opened : V → Opened) (legal
         taken s r id me.1 v None v.seen v.known v.mark v.found v.turn v.parts here sv (f.in_line.alone a) f.saw.least f.saw.most (f.marked.mark ∙ ap r.marks (f.marked.current a)) (f.marked.whole (f.marked.current a)) (f.marked.current a) f.parts,
         subst (TookAt log opened legal mark left_open me (at_stage v Holding, (0, None) ∷ me.1)) (sym is) (ap (λ l. (0, None) ∷ l) none_held, refl),
       )
-
-  given : (s : St) (r : Rule s) (id : ℕ) (v : View) (n : ℕ) (x : V) → 0 < length s.homes → get_elem? s.views id ≡ some v → v.stage ≡ Holding → Adds v.number v.seen (log x) → legal (opened key) (log x) → opened x ≡ opened key → Later v.number v.mark (mark x) → LeavesOthers v.number v.found (left_open x) → n ≡ place_after (opened x) (log x) → n < 4294967296
-      → Rule (stepped s 0 n id ((0, Some x) ∷ []) (leaving v (opened x) (log x) (mark x) (left_open x)) gives)
-  given s r id v n x some_slot here is adds ok from later others_open count small = let w : View = leaving v (opened x) (log x) (mark x) (left_open x) in let here_is : place_after (opened x) (log x) ≡ place_after (opened key) (log x) = ap (λ (o : Opened). place_after o (log x)) from in let sv : IsServed v.stage = subst IsServed (sym is) tt in
-      let a : IsAlone v.stage = subst IsAlone (sym is) tt in
-      let f = r.each id v here (subst IsLive (sym is) tt) in let turn = my_turn s r id v f sv in
-      let own = f.numbered.own_numbers v.number (inl refl) in let was : WasGiven r.next v.number = own.1 in
-      let more : Adds v.number r.all (log x) = subst (λ l. Adds v.number l (log x)) (f.in_line.alone a) adds in
-      let more_since : Since r.next (log key) (log x) = since_more v.number r.next (log key) r.all (log x) was r.since more in
-      let longer : length r.all ≤ length (log x) = adds_longer v.number r.all (log x) more in
-      let last : v.turn ≡ r.last = f.marked.current a in let t : ℕ = v.turn + 1 in let marks : ℕ → Mark = λ k. cond (eqb k t) (mark x) (r.marks k) in
-      let new_at : marks t ≡ mark x = ap (λ b. cond b (mark x) (r.marks t)) (eq-eqb t t refl) in
-      let old_at : (k : ℕ) → k ≢ t → marks k ≡ r.marks k = λ k ne. ap (λ b. cond b (mark x) (r.marks k)) (ne_eqb k t ne) in
-      let moved : Later v.number (r.marks r.last) (mark x) = subst (λ m. Later v.number m (mark x)) (f.marked.mark ∙ ap r.marks last) later in
-      let moved_open : LeavesOthers v.number r.opens (left_open x) = subst (λ l. LeavesOthers v.number l (left_open x)) (f.marked.whole last) others_open in
-      let below : (k : ℕ) → k ≤ t → k ≢ t → k ≤ r.last = λ k le ne. omega arith in
-      let grows : (i j : ℕ) → i ≤ j → j ≤ t → Grows (marks i) (marks j) = λ i j le under. dite (ℕ_discrete j t)
-      (λ e. subst (λ (z : ℕ). Grows (marks i) (marks z)) (sym e) (subst (λ z. Grows (marks i) z) (sym new_at) (dite (ℕ_discrete i t)
-      (λ d. subst (λ (z : ℕ). Grows (marks z) (mark x)) (sym d) (subst (λ z. Grows z (mark x)) (sym new_at) (grows_self (mark x))))
-      (λ nd. let low : i ≤ r.last = below i (omega arith) nd in subst (λ z. Grows z (mark x)) (sym (old_at i nd)) (grows_on (r.marks i) (r.marks r.last) (mark x) (r.grows i r.last low (le_refl r.last)) moved.grows)))))
-      (λ ne. let low : j ≤ r.last = below j under ne in let not_i : i ≢ t = λ e. omega arith in
-      subst (λ (z : Mark × Mark). Grows z.0 z.1) (λ q. (sym (old_at i not_i) q, sym (old_at j ne) q)) (r.grows i j le low)) in
-      let given_at : (j : ℕ) → j ≤ t → IsGiven r.next (mark key) (marks j) = λ j under. dite (ℕ_discrete j t)
-      (λ e. subst (λ (z : ℕ). IsGiven r.next (mark key) (marks z)) (sym e) (subst (IsGiven r.next (mark key)) (sym new_at) (given_more v.number r.next (mark key) (r.marks r.last) (mark x) was (r.mark_given r.last (le_refl r.last)) moved)))
-      (λ ne. subst (IsGiven r.next (mark key)) (sym (old_at j ne)) (r.mark_given j (below j under ne))) in
-      rebuilt s r 0 n (set s.homes 0 (some (Some x))) (set s.views id w) (step_to s r id v w (n ∷ word_at s 1 ∷ word_at s 2 ∷ behind s.words) (set s.homes 0 (some (Some x))) (log x) r.tickets r.owner (home x) t marks (left_open x)
-      grows (old_at 0 (λ e. omega arith) ∙ r.first_mark) given_at
-      (are_given_more v.number r.next r.opens (left_open x) was.1 r.opens_given moved_open) here tt refl
-      (as_wide s r) (count ∙ here_is) (omega (arith, count, here_is, small)) r.drawn (queue_stays s r id v w here (sym (ap tickets_of is))) ok more_since
-      record {
-        saw = record { based = f.saw.based; since = more_since; missed = λ n is. missed_none n r.next (log x); least = omega (arith, here_is); most = omega (arith, here_is) };
-        numbered = record { own_numbers = f.numbered.own_numbers; stands_for = f.numbered.stands_for; may_give = f.numbered.may_give };
-        in_line = record { has_ticket = λ _. f.in_line.has_ticket (served_busy v.stage sv); served = λ _. f.in_line.served sv; alone = λ y. absurd y; making = λ y. absurd y };
-        marked = record { turn = le_refl t; mark = sym new_at; linked = λ n is j low high. let from : t ≤ j = low in let to : j ≤ t = high in let same : j ≡ t = omega arith in subst (Linked n (mark x)) (sym new_at ∙ ap marks (sym same)) (linked_self n (mark x)); own = stays_self (open_of v.number (left_open x)); whole = λ _. refl; current = λ y. absurd y };
-        parts = (λ n is. absurd is, λ n is. absurd is);
-      }
-      (λ j d other at alive. let g = r.each j d at alive in let most : d.known ≤ place_after (opened key) r.all = g.saw.most in
-      let apart : (m : ℕ) → IsAmong m (numbers_of d) → m ≢ v.number = λ m is e. other (sym (g.numbered.own_numbers m is).0 ∙ (ap r.named e ∙ own.0)) in let before : d.turn ≤ r.last = g.marked.turn in record {
-        saw = record {
-          based = g.saw.based;
-          since = g.saw.since;
-          missed = λ m is. missed_more v.number m r.next d.seen r.all (log x) (apart m is) was (g.saw.missed m is) more;
-          least = g.saw.least;
-          most = omega arith;
-        };
-        numbered = g.numbered;
-        in_line = record {
-          has_ticket = g.in_line.has_ticket;
-          served = g.in_line.served;
-          alone = λ y. absurd (other_turn s r j id d other turn g (alone_served d.stage y));
-          making = λ m. other_turn s r j id d other turn g (making_served d.stage m);
-        };
-        marked = record {
-          turn = omega arith;
-          mark = g.marked.mark ∙ sym (old_at d.turn (λ e. omega arith));
-          linked = λ m is j low high. dite (ℕ_discrete j t)
-              (λ e. subst (λ (z : ℕ). Linked m d.mark (marks z)) (sym e) (subst (Linked m d.mark) (sym new_at) (linked_more v.number m d.mark (r.marks r.last) (mark x) (apart m is) (g.marked.linked m is r.last before (le_refl r.last)) moved)))
-              (λ ne. subst (Linked m d.mark) (sym (old_at j ne)) (g.marked.linked m is j low (below j high ne)));
-          own = stays_on d.own (open_of d.number r.opens) (open_of d.number (left_open x)) g.marked.own (moved_open d.number (apart d.number (inl refl)));
-          whole = λ e. absurd (omega arith);
-          current = λ y. absurd (other_turn s r j id d other turn g (alone_served d.stage y));
-        };
-        parts = g.parts;
-      })
-      (id, w, set_there s.views id w v here, tt, refl, refl)
-      (set_here s.homes 0 (some (Some x)) some_slot, refl, from, sym new_at, refl))
-
-  inside : List (ℕ × Option V) → V → V
-  inside [] d = d
-  inside ((k, Some x) ∷ xs) d = x
-  inside ((k, None) ∷ xs) d = d
-
-  pub gives_value : (slots id : ℕ) (me : M) (n : ℕ) (x : V) → slots ≡ 1 → me.1 ≡ (0, Some x) ∷ [] → me.0.stage ≡ Holding → Adds me.0.number me.0.seen (log x) → legal (opened key) (log x) → opened x ≡ opened key → Later me.0.number me.0.mark (mark x) → LeavesOthers me.0.number me.0.found (left_open x) → n ≡ place_after (opened x) (log x) → n < 4294967296
-      → Allows Rule slots id me 0 (λ _. n) (λ _. gave log opened mark left_open me)
-  unfolding inside
-  gives_value slots id me n x one held is adds ok from later others count small = subst (λ (c : List (ℕ × Option V)). Allows Rule slots id (me.0, c) 0 (λ _. n) (λ _. gave log opened mark left_open (me.0, c))) (sym held)
-      (λ s r len here below. (
-        leaving me.0 (opened x) (log x) (mark x) (left_open x),
-        gives,
-        tt,
-        given s r id me.0 n x (omega arith) here is adds ok from later others count small,
-        λ y e. (ap (λ (z : V). leaving me.0 (opened z) (log z) (mark z) (left_open z)) (ap (λ l. inside l x) e), refl),
-      ))
 
   pub serves : (slots id : ℕ) (me : M) (n : ℕ) → me.0.stage ≡ Leaving → n ≡ me.0.ticket + 1 → Allows Rule slots id me 2 (λ _. n) (λ _. served me)
   serves slots id me n is next s r len here below = let v : View = me.0 in let w : View = at_stage v Idle in let sv : IsServed v.stage = subst IsServed (sym is) tt in

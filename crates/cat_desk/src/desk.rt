@@ -349,7 +349,7 @@ impl Pass {
         self.number
     }
 
-    /// Reads the place after the log, and knows of it from now on.
+    /// A place that the log had come to, not before the known one, which is known from now on.
     pub fn meet<V: Logged>(&mut self, desk: &Desk<V>) -> u32
         requires { IsFree desk.now self.old }
         ensures free { Keeps desk.now self.old self.new }

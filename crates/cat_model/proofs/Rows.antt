@@ -15,6 +15,7 @@ pub mod Merging
 pub mod Transplanting
 pub mod Again
 pub mod Sweeping
+pub mod SweepLimits
 pub mod Collecting
 pub mod Checkpointing
 pub mod Back

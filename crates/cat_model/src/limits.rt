@@ -37,7 +37,7 @@ impl Limits {
     ghost use Rattle.std.specs.Prelude.{◌≡◌};
     ghost use Rattle.cat_model.specs.Limits.{program_limits};
 
-    /// The program's limits; no catalogue has greater ones.
+    /// The program's limits; of no catalogue are the log's or the commits' greater.
     pub fn program() -> Limits
         ensures { result ≡ program_limits }
     {

@@ -21,7 +21,7 @@ use std::alloc::Global;
 
 impl Ledger {
     /// Makes a change whose entry is kept already: that of a log which is executed again. Where it
-    /// fails, the catalogue may be the spare one.
+    /// fails, nothing is said of the ledger.
     fn remake(
         &mut self,
         alloc: Global,

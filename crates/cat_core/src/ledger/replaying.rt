@@ -72,8 +72,8 @@ impl Ledger {
         }
     }
 
-    /// Makes the call of an entry of a log again, in its own draft. Where memory runs out, its
-    /// catalogue may be the spare one.
+    /// Makes the call of an entry of a log again, in its own draft. Where it is refused, or memory
+    /// runs out, nothing is said of the ledger.
     pub fn replay(
         &mut self,
         alloc: Global,

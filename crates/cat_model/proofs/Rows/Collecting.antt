@@ -28,7 +28,8 @@ use Rattle.cat_model.specs.declared.refusal.Missing.TheVariants as missing
 use Rattle.cat_model.specs.declared.reply.Reply.TheVariants as replies
 use Rattle.cat_model.proofs.Rows.Script.{script}
 use Rattle.cat_model.proofs.Rows.Words.{Request, Short, quick, clock, main, dev, create, from_hash, read, after, said, done, gives, stands, not, t1, m1, empty, limited, ample}
-use Rattle.cat_model.proofs.Rows.Sweeping.{always, c1, c2, first_three, heads, held, kept_for_a_while, left_in, m2, m3, main_by_two, swept}
+use Rattle.cat_model.proofs.Rows.Sweeping.{always, c1, c2, first_three, heads, held, left_in, m2, m3, main_by_two, swept}
+use Rattle.cat_model.proofs.Rows.SweepLimits.{kept_for_a_while}
 
 -- ---- words
 

@@ -1,7 +1,8 @@
 use Rattle.std.proofs.Common.{arith, ◌+◌, ◌∙◌, sym, ap, subst}
 use Rattle.std.proofs.lemmas.Result.{err_from_is_err_and}
 use Rattle.cat_core.specs.Opening.{IsLedSoFar}
-use Rattle.cat_core.proofs.Led.{StartsAt, all_read, begun_faults, fault_of, next_added, next_refused, no_fault, none_read, starts_at, stays_on}
+use Rattle.cat_core.proofs.Led.{StartsAt, all_read, begun_faults, fault_of, no_fault, none_read, starts_at}
+use Rattle.cat_core.proofs.Reckoned.{next_added, next_refused, stays_on}
 use Rattle.cat_core.proofs.opening.led_to.Goals as goal
 
 pub returns-clause-led : goal.returns-clause-led

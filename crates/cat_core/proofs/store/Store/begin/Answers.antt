@@ -4,7 +4,7 @@ use Rattle.cat_core.proofs.Behind.{behind_begun}
 use Rattle.cat_core.proofs.Giving.{begun_is}
 use Rattle.cat_core.proofs.Held.{at_least, log_seen}
 use Rattle.cat_core.proofs.Lasting.{holding_begun}
-use Rattle.cat_core.proofs.UnderWay.{last_inside, swept_begun}
+use Rattle.cat_core.proofs.SweepsOn.{last_inside, swept_begun}
 use Rattle.cat_core.proofs.store.Store.begin.Goals as goal
 
 pub invariant_of-self : goal.invariant_of-self

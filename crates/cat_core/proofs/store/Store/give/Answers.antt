@@ -7,7 +7,7 @@ use Rattle.cat_core.proofs.Behind.{behind_begun}
 use Rattle.cat_core.proofs.Giving.{given_is, none_seen}
 use Rattle.cat_core.proofs.Held.{at_least, log_seen}
 use Rattle.cat_core.proofs.Lasting.{holding_given}
-use Rattle.cat_core.proofs.UnderWay.{swept_given}
+use Rattle.cat_core.proofs.SweepsOn.{swept_given}
 use Rattle.cat_core.proofs.store.Store.give.Goals.{in-Some, in_default}
 use Rattle.cat_core.proofs.store.Store.give.Goals as goal
 

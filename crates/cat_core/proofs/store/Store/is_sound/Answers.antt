@@ -2,7 +2,8 @@ use Rattle.std.proofs.Common.{refl}
 use Rattle.cat_core.specs.Stored.{opened_held}
 use Rattle.cat_core.proofs.Held.{form_seen}
 use Rattle.cat_core.proofs.Lasting.{holding_seen}
-use Rattle.cat_core.proofs.UnderWay.{marked, may_close}
+use Rattle.cat_core.proofs.UnderWay.{marked}
+use Rattle.cat_core.proofs.SweepsOn.{may_close}
 use Rattle.cat_core.proofs.store.Store.is_sound.Goals as goal
 
 pub returns-clause-sweep : goal.returns-clause-sweep

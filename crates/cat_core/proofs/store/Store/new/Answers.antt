@@ -1,4 +1,4 @@
-use Rattle.cat_core.proofs.Led.{empty_held}
+use Rattle.cat_core.proofs.Reckoned.{empty_held}
 use Rattle.cat_core.proofs.Reopened.{sound_new}
 use Rattle.cat_core.proofs.store.Store.new.Goals as goal
 

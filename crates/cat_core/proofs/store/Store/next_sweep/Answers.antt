@@ -1,4 +1,4 @@
-use Rattle.cat_core.proofs.UnderWay.{next_is}
+use Rattle.cat_core.proofs.SweepsOn.{next_is}
 use Rattle.cat_core.proofs.store.Store.next_sweep.Goals as goal
 
 pub returns-clause-next : goal.returns-clause-next

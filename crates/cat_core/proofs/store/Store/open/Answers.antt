@@ -1,5 +1,5 @@
 use Rattle.std.proofs.Common.{◌+◌, [], length, reverse, sym, ◌∙◌, ap, arith}
-use Rattle.cat_core.proofs.Led.{opened_payloads}
+use Rattle.cat_core.proofs.Reckoned.{opened_payloads}
 use Rattle.cat_core.proofs.Reopened.{sound_led}
 use Rattle.cat_core.proofs.Resumed.{log_resumed}
 use Rattle.std.proofs.lemmas.List.{length-map, length-reverse}

@@ -1,5 +1,5 @@
 use Rattle.std.proofs.Common.{refl}
-use Rattle.cat_core.proofs.UnderWay.{knows_names}
+use Rattle.cat_core.proofs.SweepsOn.{knows_names}
 use Rattle.cat_core.proofs.store.Store.sweep_is_told.Goals as goal
 
 pub returns-clause-known : goal.returns-clause-known

@@ -5,7 +5,8 @@ use Rattle.cat_desk.specs.Pass.{DeskId, mark_in, turn_in}
 use Rattle.cat_model.specs.Turns.{Adds}
 use Rattle.cat_model.specs.Mark.{Later}
 use Rattle.cat_model.specs.Drafts.{LeavesOthers}
-use Rattle.cat_desk.proofs.Keeps.{gives_value, rings, serves}
+use Rattle.cat_desk.proofs.Gives.{gives_value}
+use Rattle.cat_desk.proofs.Keeps.{rings, serves}
 use Rattle.cat_desk.proofs.desk.Desk.leave.Goals as goal
 
 pub store-requires : goal.store-requires
