@@ -2,7 +2,7 @@
 use Rattle.std.proofs.Common.{◌≡◌, ◌<◌, ◌+◌, ◌^◌, ℕ, List, [], ◌∷◌, ◌++◌, length, Result, Ok, Err, Option, Some, None, sym, ◌∙◌, ap, subst}
 use Rattle.std.specs.Prelude.{IfSome, OnOk}
 use Rattle.cat_io.specs.Crashes.{put, Torn, Told, Only}
-use Rattle.cat_journal.specs.Frames.{form_gate, is_newer, payloads, payloads_in, frame, unread, IsAtRest, MayHoldOneMore}
+use Rattle.cat_journal.specs.Frames.{form_gate, is_newer, payloads, payloads_in, frame, framed_at, unread, IsAtRest, MayHoldOneMore}
 use Rattle.cat_journal.specs.AtRest.{gate_of_front}
 use Rattle.cat_journal.proofs.Steps.{at_rest_behind, before_at_rest, IsStaged, staged, opening, added}
 
@@ -48,3 +48,15 @@ done None (Some middle) new gate p piece (Ok u) rest fits short is one two = abs
 done (Some before) None new gate p piece (Ok u) rest fits short is one two = absurd one
 done (Some before) (Some middle) None gate p piece (Ok u) rest fits short is one two = absurd two
 done (Some before) (Some middle) (Some after) gate p piece (Ok u) rest fits short is one two = add gate p piece before middle after rest fits short is one two
+
+pub two_writes : {T E : Type 0} (told mid new : Option (List ℕ)) (gate : ℕ) (p piece : List ℕ) (r : Result T E) → piece ≡ frame p ++ 0 ∷ []
+    → Told told mid (λ before after. after ≡ put (gate + 1) piece before) → OnOk r (Told mid new (λ before after. after ≡ put gate (1 ∷ []) before))
+    → OnOk r (Told told new (λ before after. after ≡ framed_at gate p before))
+two_writes told mid new gate p piece (Err e) is one two = tt
+two_writes None None None gate p piece (Ok u) is one two = tt
+two_writes None None (Some after) gate p piece (Ok u) is one two = absurd two
+two_writes None (Some middle) new gate p piece (Ok u) is one two = absurd one
+two_writes (Some before) None new gate p piece (Ok u) is one two = absurd one
+two_writes (Some before) (Some middle) None gate p piece (Ok u) is one two = absurd two
+two_writes (Some before) (Some middle) (Some after) gate p piece (Ok u) is one two =
+    two ∙ ap (λ (l : List ℕ). put gate (1 ∷ []) l) (one ∙ ap (λ (l : List ℕ). put (gate + 1) l before) is)

@@ -10,7 +10,7 @@ use Rattle.cat_keeper.specs.Bases.{base_place, base_with_base, base_with_entry, 
 use Rattle.cat_keeper.specs.KeeperLaws.{told_is}
 use Rattle.cat_keeper.specs.Keeping.{WithOrWithout}
 use Rattle.cat_journal.specs.declared.points.Points.{Points}
-use Rattle.cat_journal.specs.Frames.{form_gate, is_newer, payloads, payloads_in, recovered, payload_of, frame, spelled, starts_of, unread, IsAtRest, MayHoldOneMore}
+use Rattle.cat_journal.specs.Frames.{form_gate, is_newer, payloads, payloads_in, recovered, payload_of, frame, framed_at, spelled, starts_of, unread, with_frame, IsAtRest, MayHoldOneMore}
 use Rattle.cat_journal.specs.Held.{ArePlaced, first_payloads, held_count, Holds, IsHeld, IsSafe, IsTorn, outcome}
 use Rattle.cat_journal.specs.AtRest.{gate_of_front, length-frame, payload_of-frame, recovered-at_rest}
 use Rattle.cat_journal.specs.Laws.{torn_images, torn_outcome}
@@ -156,6 +156,14 @@ module _ (x x' : Points) (p : List ℕ) (more : held_count x' ≡ held_count x +
       take_all (held_count x') (payloads b) (omega (arith, count_new a b safe grows))
       ∙ grows.0
       ∙ ap (λ (ps : List (List ℕ)). ps ++ p ∷ []) (sym (take_all (held_count x) (payloads a) (omega (arith, safe.count))))
+
+-- the gate at which it was written is the first closed one of the bytes
+pub exact_ok : (n gate : ℕ) (images : List ℕ → Type 0) (p : List ℕ) (told told' : Option (List ℕ)) → IfSome told (IsSafe n gate images)
+    → Told told told' (λ old new. new ≡ framed_at gate p old) → Told told told' (λ old new. new ≡ with_frame p old)
+exact_ok n gate images p None None safe is = tt
+exact_ok n gate images p None (Some b) safe is = absurd is
+exact_ok n gate images p (Some a) None safe is = absurd is
+exact_ok n gate images p (Some a) (Some b) safe is = is ∙ ap (λ (at : ℕ). framed_at at p a) safe.rest.size
 
 -- of the format's gate
 pub formed_ok : (format_of : ℕ → ℕ) (format end : ℕ) (p : List ℕ) (told told' : Option (List ℕ)) → IfSome told (λ b. format_of (form_gate b) ≡ format) → Told told told' (Grows end p) → IfSome told' (λ b. format_of (form_gate b) ≡ format)

@@ -3,6 +3,7 @@ use Rattle.std.specs.Prelude.{◌≡◌, ◌≢◌, ℕ, zero, suc, ◌+◌, ◌
 use Rattle.std.specs.Int.{w32, from_be_bytes, to_be_bytes}
 use Rattle.std.specs.Option.{option_map}
 use Rattle.std.specs.Str.{bytes_eq}
+use Rattle.cat_io.specs.Crashes.{put}
 use Rattle.cat_frames.specs.CheckpointLaws.{is_whole_checkpoint}
 use Rattle.cat_frames.specs.Payload.{has_reading}
 use Rattle.cat_keeper.specs.Bases.{base_end}
@@ -144,6 +145,18 @@ frame p = to_be_bytes w32 (length p) ++ p
 abbrev pub spelled : List (List ℕ) → List ℕ
 spelled [] = []
 spelled (p ∷ ps) = 1 ∷ (frame p ++ spelled ps)
+
+-- the bytes after two writes: a payload's frame behind a gate, with the next gate closed, and then the gate, open
+abbrev pub framed_at : ℕ → List ℕ → List ℕ → List ℕ
+framed_at gate p old = put gate (1 ∷ []) (put (gate + 1) (frame p ++ 0 ∷ []) old)
+
+-- where the first closed gate of a journal's bytes stands
+abbrev pub closed_gate : List ℕ → ℕ
+closed_gate bytes = 16 + length (spelled (payloads bytes))
+
+-- a journal's bytes with one more payload, and nothing else written
+abbrev pub with_frame : List ℕ → List ℕ → List ℕ
+with_frame p old = framed_at (closed_gate old) p old
 
 -- each has a length that four bytes tell
 abbrev pub are_framed : List (List ℕ) → Bool

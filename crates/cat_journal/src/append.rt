@@ -3,7 +3,7 @@ ghost use Rattle.std.specs.Prelude.{ℕ, List, [], ◌∷◌, ◌++◌, ◌≡�
 ghost use Rattle.cat_io.specs.Causes.{HasCause};
 ghost use Rattle.cat_io.specs.Crashes.{put, Torn, Told, Only};
 ghost use Rattle.cat_io.specs.Crashes.{LeavesOnly};
-ghost use Rattle.cat_journal.specs.Frames.{form_gate, is_newer, payloads, frame, unread, IsAtRest, MayHoldOneMore};
+ghost use Rattle.cat_journal.specs.Frames.{form_gate, is_newer, payloads, frame, framed_at, unread, IsAtRest, MayHoldOneMore};
 
 use cat_io::{Disk, Failed};
 
@@ -23,7 +23,8 @@ pub(crate) fn persist<D: Disk>(disk: &mut D, at: u64, bytes: &[u8]) -> Result<()
     disk.sync()
 }
 
-/// Writes a frame behind the closed gate, with the next gate closed, and then opens the gate.
+/// Writes a frame behind the closed gate, with the next gate closed, and then opens the gate. Nothing
+/// else is written.
 pub(crate) fn append_frame<D: Disk>(
     disk: &mut D,
     gate: u64,
@@ -39,6 +40,9 @@ pub(crate) fn append_frame<D: Disk>(
     requires short { length payload.now < 2 ^ 32 }
     requires spelled { bytes.now ≡ frame payload.now ++ 0 ∷ [] }
     ensures stays { Told (D.told disk.old) (D.told disk.new) (λ old new. ⊤) }
+    ensures written { OnOk result
+        (Told (D.told disk.old) (D.told disk.new)
+        (λ old new. new ≡ framed_at gate payload.now old)) }
     ensures added { OnOk result
         (Told (D.told disk.old) (D.told disk.new)
         (λ old new. (payloads new ≡ payloads old ++ payload.now ∷ [])

@@ -57,9 +57,10 @@ fn spell(out: &mut Vec<u8>, payload: &[u8])
 impl<D: Disk + Send> Journal<D> {
     ghost use Rattle.cat_journal.specs.Journals.{journal_disk};
 
-    /// Opens the journal on a disk, and makes a new one where the disk is empty. Where that fails,
-    /// an empty disk may have any bytes, up to the 17 of a new journal. Nothing is written to a
-    /// disk that has bytes. Once the journal is open, a crash leaves just what its disk reads.
+    /// Opens the journal on a disk, and makes a new one where the disk is empty. Where its disk
+    /// fails, an empty disk may have any bytes, up to the 17 of a new journal; where the journal is
+    /// refused for anything else, the bytes are as they were. Nothing is written to a disk that has
+    /// bytes. Once the journal is open, a crash leaves just what its disk reads.
     pub fn open(alloc: Global, disk: D) -> Result<Journal<D>, (D, OpenFault)>
         ensures payloads { IfOk result
             (λ j. Told (D.told disk) (⟦<Journal<D> as Keeper>⟧.told j)
@@ -79,6 +80,8 @@ impl<D: Disk + Send> Journal<D> {
         ensures empty { IfErr result
             (λ e. Told (D.told disk) (D.told e.0)
             (λ before after. before ≡ [] → length after ≤ 17)) }
+        ensures unspoiled { IfErr result
+            (λ e. e.1 ≢ OpenFault.Fault → Told (D.told disk) (D.told e.0) (λ b a. a ≡ b)) }
         ensures unwritten { IfSome (D.told disk) (λ bytes. 0 < length bytes → MatchResult result
             (λ j. OnlyReads D.told D.may_leave D.moment D.left_since disk (journal_disk j))
             (λ e. OnlyReads D.told D.may_leave D.moment D.left_since disk e.0)) }
@@ -152,13 +155,15 @@ impl<D: Disk + Send> Journal<D> {
         }
     }
 
-    /// The disk, which has more bytes than a header. What it reads opens again with the payloads
-    /// that are kept, and after an append that failed maybe with that one too; and so does what a
-    /// crash leaves.
+    /// The disk, which has more bytes than a header, and among them the gate of the journal's
+    /// format. What it reads opens again with the payloads that are kept, and after an append or a
+    /// rebase that failed maybe with that one too; and so does what a crash leaves.
     pub fn into_disk(self) -> D
         ensures disk { result ≡ journal_disk self }
         ensures faults { D.faults result ≡ ⟦<Journal<D> as Keeper>⟧.faults self }
         ensures headed { IfSome (D.told result) (λ bytes. 16 < length bytes) }
+        ensures format { IfSome (D.told result)
+            (λ b. format_by (form_gate b) ≡ ⟦<Journal<D> as Keeper>⟧.form self) }
         ensures payloads { ⟦<Journal<D> as Keeper>⟧.down self ≡ None
             → Told (⟦<Journal<D> as Keeper>⟧.told self) (D.told result)
             (λ ps bytes. recovered bytes ≡ Ok ps) }
@@ -177,10 +182,16 @@ impl<D: Disk + Send> Journal<D> {
 }
 
 impl<D: Disk + Send> Keeper for Journal<D> {
-    ghost use Rattle.std.specs.Prelude.{ℕ, List, ◌≡◌, ◌-◌, length, vec_len, vec_capacity, nat_lt, if◌then◌else◌};
+    ghost use Rattle.std.specs.Prelude.{ℕ, List, [], ◌∷◌, ◌++◌, None, Some, true, ◌≡◌, ◌≤◌, ◌<◌, ◌+◌, ◌-◌, ◌^◌, ◌↔◌, length, vec_len, vec_capacity, nat_lt, if◌then◌else◌, IsErrOf, IfSome, OnOk, OnErr};
     ghost use Rattle.std.specs.Option.{option_map};
-    ghost use Rattle.cat_journal.specs.Frames.{payload_of};
+    ghost use Rattle.cat_io.specs.Crashes.{LeavesOnly, Told};
+    ghost use Rattle.cat_frames.specs.CheckpointLaws.{is_whole_checkpoint};
+    ghost use Rattle.cat_frames.specs.Payload.{has_reading};
+    ghost use Rattle.cat_keeper.specs.Bases.{base_place};
+    ghost use Rattle.cat_keeper.specs.Keeping.{HasKeepCause, WithOrWithout};
+    ghost use Rattle.cat_journal.specs.Frames.{payload_of, with_frame};
     ghost use Rattle.cat_journal.specs.Held.{first_payloads, held_count, outcome};
+    ghost use Rattle.cat_journal.specs.Journals.{journal_disk, journal_payloads, journal_kept, journal_start, journal_form, journal_spare, journal_down, journal_in_flight, journal_images, journal_moment, journal_left, journal_bytes};
     ghost use Rattle.cat_keeper.specs.KeeperLaws.{none_flies, one_flies};
     ghost use Rattle.cat_journal.specs.Laws.{safe_images, kept_image, torn_images, begun_payloads, counted_payloads};
 
@@ -294,7 +305,53 @@ impl<D: Disk + Send> Keeper for Journal<D> {
         Ok(())
     }
 
-    fn append(&mut self, bytes: &[u8]) -> Result<(), KeepFault> {
+    /// Where it answers `Ok`, it has written the frame behind the first closed gate, with the next gate
+    /// closed, and then that gate, open; and nothing else.
+    fn append(&mut self, bytes: &[u8]) -> Result<(), KeepFault>
+        requires room { length bytes.now ≤ journal_spare self.old }
+        requires reading { has_reading bytes.now ≡ true }
+        requires short { length bytes.now < 2 ^ 32 }
+        requires few { journal_kept self.old < 4294967295 }
+        ensures added { OnOk result
+            (Told (journal_payloads D.told self.old) (journal_payloads D.told self.new)
+            (λ old new. new ≡ old ++ bytes.now ∷ [])) }
+        ensures kept { OnOk result (journal_kept self.new ≡ journal_kept self.old + 1) }
+        ensures first { journal_start self.new ≡ journal_start self.old }
+        ensures format { journal_form self.new ≡ journal_form self.old }
+        ensures up { OnOk result (journal_down self.new ≡ None) }
+        ensures not_added { OnErr result
+            (Told (journal_payloads D.told self.old) (journal_payloads D.told self.new)
+            (λ old new. new ≡ old)) }
+        ensures not_kept { OnErr result (journal_kept self.new ≡ journal_kept self.old) }
+        ensures failed { IsErrOf result KeepFault.Fault
+            → (journal_down self.old ≡ None)
+            × (journal_down self.new ≡ Some (D.faults (journal_disk self.new)))
+            × (journal_in_flight self.new ≡ Some bytes.now) }
+        ensures is_down { (c : ℕ)
+            → IsErrOf result (KeepFault.Down c) ↔ (journal_down self.old ≡ Some c) }
+        ensures stays_down { (c : ℕ) → journal_down self.old ≡ Some c
+            → (journal_down self.new ≡ Some c)
+            × (journal_in_flight self.new ≡ journal_in_flight self.old) }
+        ensures idle { (c : ℕ) → journal_down self.old ≡ Some c
+            → LeavesOnly (journal_moment D.moment) (journal_left D.left_since) self.old self.new
+            (journal_images D.may_leave self.old) }
+        ensures cause { HasKeepCause (D.faults (journal_disk self.old))
+            (D.faults (journal_disk self.new)) result }
+        ensures no_memory_taken { IsErrOf result KeepFault.NoMemory → ⊥ }
+        ensures any_moment { journal_down self.old ≡ None
+            → LeavesOnly (journal_moment D.moment) (journal_left D.left_since) self.old self.new
+            (λ c. IfSome (journal_payloads D.told self.old) (λ ps. WithOrWithout ps bytes.now c)) }
+        ensures images { journal_down self.old ≡ None
+            → LeavesOnly (journal_moment D.moment) (journal_bytes D.left_since) self.old self.new
+            (λ b. IfSome (journal_payloads D.told self.old)
+            (λ ps. WithOrWithout ps bytes.now (outcome b))) }
+        ensures same_images { (c : ℕ) → journal_down self.old ≡ Some c
+            → LeavesOnly (journal_moment D.moment) (journal_bytes D.left_since) self.old self.new
+            (D.may_leave (journal_disk self.old)) }
+        ensures exact { OnOk result
+            (Told (D.told (journal_disk self.old)) (D.told (journal_disk self.new))
+            (λ old new. new ≡ with_frame bytes.now old)) }
+    {
         if let Some(count) = self.down {
             return Err(KeepFault::Down(count));
         }
@@ -313,9 +370,58 @@ impl<D: Disk + Send> Keeper for Journal<D> {
         }
     }
 
-    fn rebase(&mut self, place: u32, bytes: &[u8]) -> Result<(), KeepFault> {
-        if let Some(count) = self.down {
-            return Err(KeepFault::Down(count));
+    /// Where it answers `Ok`, it has written the frame behind the first closed gate, with the next gate
+    /// closed, and then that gate, open; and nothing else.
+    fn rebase(&mut self, place: u32, bytes: &[u8]) -> Result<(), KeepFault>
+        requires room { length bytes.now ≤ journal_spare self.old }
+        requires reading { is_whole_checkpoint bytes.now ≡ true }
+        requires place { base_place bytes.now ≡ place }
+        requires short { length bytes.now < 2 ^ 32 }
+        requires format { journal_form self.old ≡ 2 }
+        ensures added { OnOk result
+            (Told (journal_payloads D.told self.old) (journal_payloads D.told self.new)
+            (λ old new. new ≡ old ++ bytes.now ∷ [])) }
+        ensures kept { OnOk result (journal_kept self.new ≡ 0) }
+        ensures first { OnOk result (journal_start self.new ≡ place) }
+        ensures format { journal_form self.new ≡ journal_form self.old }
+        ensures up { OnOk result (journal_down self.new ≡ None) }
+        ensures not_added { OnErr result
+            (Told (journal_payloads D.told self.old) (journal_payloads D.told self.new)
+            (λ old new. new ≡ old)) }
+        ensures not_kept { OnErr result
+            ((journal_kept self.new ≡ journal_kept self.old)
+            × (journal_start self.new ≡ journal_start self.old)) }
+        ensures failed { IsErrOf result KeepFault.Fault
+            → (journal_down self.old ≡ None)
+            × (journal_down self.new ≡ Some (D.faults (journal_disk self.new)))
+            × (journal_in_flight self.new ≡ Some bytes.now) }
+        ensures is_down { (c : ℕ)
+            → IsErrOf result (KeepFault.Down c) ↔ (journal_down self.old ≡ Some c) }
+        ensures stays_down { (c : ℕ) → journal_down self.old ≡ Some c
+            → (journal_down self.new ≡ Some c)
+            × (journal_in_flight self.new ≡ journal_in_flight self.old) }
+        ensures idle { (c : ℕ) → journal_down self.old ≡ Some c
+            → LeavesOnly (journal_moment D.moment) (journal_left D.left_since) self.old self.new
+            (journal_images D.may_leave self.old) }
+        ensures cause { HasKeepCause (D.faults (journal_disk self.old))
+            (D.faults (journal_disk self.new)) result }
+        ensures no_memory_taken { IsErrOf result KeepFault.NoMemory → ⊥ }
+        ensures any_moment { journal_down self.old ≡ None
+            → LeavesOnly (journal_moment D.moment) (journal_left D.left_since) self.old self.new
+            (λ c. IfSome (journal_payloads D.told self.old) (λ ps. WithOrWithout ps bytes.now c)) }
+        ensures images { journal_down self.old ≡ None
+            → LeavesOnly (journal_moment D.moment) (journal_bytes D.left_since) self.old self.new
+            (λ b. IfSome (journal_payloads D.told self.old)
+            (λ ps. WithOrWithout ps bytes.now (outcome b))) }
+        ensures same_images { (c : ℕ) → journal_down self.old ≡ Some c
+            → LeavesOnly (journal_moment D.moment) (journal_bytes D.left_since) self.old self.new
+            (D.may_leave (journal_disk self.old)) }
+        ensures exact { OnOk result
+            (Told (D.told (journal_disk self.old)) (D.told (journal_disk self.new))
+            (λ old new. new ≡ with_frame bytes.now old)) }
+    {
+        if let Some(faults) = self.down {
+            return Err(KeepFault::Down(faults));
         }
         spell(&mut self.frame, bytes);
         match append_frame(&mut self.disk, self.points.end, bytes, &self.frame) {

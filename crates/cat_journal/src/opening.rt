@@ -1,5 +1,5 @@
 //! Opening a journal's file, which an empty one is made.
-ghost use Rattle.std.specs.Prelude.{ℕ, List, [], ◌++◌, ◌≡◌, ◌<◌, ◌≤◌, ◌+◌, ◌^◌, length, Ok, IsErr, IfOk, IfSome, OnOk, MatchResult, if◌then◌else◌};
+ghost use Rattle.std.specs.Prelude.{ℕ, List, [], ◌++◌, ◌≡◌, ◌≢◌, ◌<◌, ◌≤◌, ◌+◌, ◌^◌, length, Ok, IsErr, IfErr, IfOk, IfSome, OnOk, MatchResult, if◌then◌else◌};
 ghost use Rattle.cat_io.specs.Crashes.{LeavesOnly, Told, Only};
 ghost use Rattle.cat_journal.specs.Frames.{form_gate, is_newer, new_journal, max_entries};
 ghost use Rattle.cat_journal.specs.Held.{held_count};
@@ -84,6 +84,7 @@ fn create<D: Disk>(alloc: Global, disk: &mut D) -> Result<(Points, bool), OpenFa
     ensures empty { IsErr result
         → Told (D.told disk.old) (D.told disk.new)
         (λ before after. before ≡ [] → length after ≤ 17) }
+    ensures fault { IfErr result (λ e. e ≡ OpenFault.Fault) }
     ensures images { IfSome (D.told disk.old)
         (λ _. LeavesOnly D.moment D.left_since disk.old disk.new (λ c. length c ≤ 17)) }
     ensures durable { OnOk result (Only (D.told disk.new) (D.may_leave disk.new)) }
@@ -110,6 +111,8 @@ pub(crate) fn load<D: Disk>(alloc: Global, disk: &mut D) -> Result<(Points, bool
     ensures empty { IsErr result
         → Told (D.told disk.old) (D.told disk.new)
         (λ before after. before ≡ [] → length after ≤ 17) }
+    ensures unspoiled { IfErr result
+        (λ e. e ≢ OpenFault.Fault → Told (D.told disk.old) (D.told disk.new) (λ b a. a ≡ b)) }
     ensures durable { OnOk result (Only (D.told disk.new) (D.may_leave disk.new)) }
     ensures images { IfSome (D.told disk.old)
         (OpensOnly D.may_leave D.moment D.left_since disk.old disk.new) }

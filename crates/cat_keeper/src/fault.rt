@@ -10,7 +10,7 @@ pub enum KeepFault {
     /// A fault, which was counted.
     #[error("the keeper failed")]
     Fault,
-    /// An append failed before, at this count of faults.
+    /// An append or a rebase failed before, at this count of faults.
     #[error("an append failed before, at {0} faults")]
     Down(u64),
     /// Memory ran out.

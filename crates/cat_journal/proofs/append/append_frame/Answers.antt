@@ -1,6 +1,6 @@
 use Rattle.std.proofs.Common.{length}
 use Rattle.cat_keeper.specs.Moments.{weaker, followed}
-use Rattle.cat_journal.proofs.Adding.{first_images, second_images, done}
+use Rattle.cat_journal.proofs.Adding.{first_images, second_images, done, two_writes}
 use Rattle.cat_journal.proofs.append.append_frame.Goals as goal
 
 pub returns-in_err-persist-clause-any_moment : goal.returns-in_err-persist-clause-any_moment
@@ -17,3 +17,7 @@ returns-clause-any_moment g c =
 pub returns-clause-added : goal.returns-clause-added
 returns-clause-added g c =
     done _ _ _ c.args.gate c.args.payload.now c.args.bytes.now _ c.requires.at_rest c.requires.reading c.requires.short c.requires.spelled c.in_ok-persist.ensures.written c.persist-2.ensures.written
+
+pub returns-clause-written : goal.returns-clause-written
+returns-clause-written g c =
+    two_writes _ _ _ c.args.gate c.args.payload.now c.args.bytes.now _ c.requires.spelled c.in_ok-persist.ensures.written c.persist-2.ensures.written

@@ -4,7 +4,7 @@ use Rattle.cat_keeper.specs.Kinds.{entry_is_no_checkpoint}
 use Rattle.cat_journal.specs.declared.journal.Journal.{Journal}
 use Rattle.cat_journal.specs.Frames.{format_by}
 use Rattle.cat_journal.specs.Held.{held_count, outcome}
-use Rattle.cat_journal.proofs.Appended.{none_of, room_for, holds_entry, held_ok, safe_ok, added_ok, formed_ok, held_err, torn_err, same_err, formed_err, one_more_or_not, lifted, on_disk}
+use Rattle.cat_journal.proofs.Appended.{none_of, room_for, holds_entry, held_ok, safe_ok, added_ok, exact_ok, formed_ok, held_err, torn_err, same_err, formed_err, one_more_or_not, lifted, on_disk}
 use Rattle.cat_journal.proofs.Fitting.{entry_fits}
 use Rattle.cat_journal.proofs.journal.JournalKeeper.append.Goals as goal
 
@@ -70,6 +70,11 @@ returns-in-Ok-clause-added g c =
     let x = (record j.points { gates = c.push_reserved.new.self; end = j.points.end + (5 + length c.args.bytes.now) }) in
     let more : held_count x ≡ held_count j.points + 1 = omega (arith, ap length c.push_reserved.ensures.items, length-append j.points.gates.items (j.points.end ∷ [])) in
     added_ok j.points x c.args.bytes.now more refl (g.D.Disk.may_leave j.disk) (g.D.Disk.may_leave new) (g.D.Disk.told j.disk) (g.D.Disk.told new) was c.in-Ok.ensures.added
+
+pub returns-in-Ok-clause-exact : goal.returns-in-Ok-clause-exact
+returns-in-Ok-clause-exact g c =
+    let j = c.args.self.now in
+    exact_ok (held_count j.points) j.points.end (g.D.Disk.may_leave j.disk) c.args.bytes.now (g.D.Disk.told j.disk) (g.D.Disk.told c.append_frame.new.disk) (j.safe (none_of j.down c.in_default.not-Some)) c.in-Ok.ensures.written
 
 pub returns-in-Err-clause-not_added : goal.returns-in-Err-clause-not_added
 returns-in-Err-clause-not_added g c =
