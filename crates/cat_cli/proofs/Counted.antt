@@ -12,11 +12,13 @@ use Rattle.cat_cli.specs.declared.status.Status.TheVariants as statuses
 use Rattle.cat_cli.specs.Journals.{Begins, IsJournalOf, StandsFor, told_at}
 use Rattle.cat_cli.specs.Lines.{check_line}
 use Rattle.cat_cli.specs.Opening.{Counted, CountedKnown, IsStored}
-use Rattle.cat_cli.specs.Runs.{Checks, ChecksKnown, Opens, Seen}
-use Rattle.cat_cli.specs.Surviving.{IsBegun, KeepsThrough, LeavesLog, Spared, StandsAs, images_at, images_of}
+use Rattle.cat_cli.specs.Runs.{Checks, ChecksKnown, Opens, OpensStill, Seen}
+use Rattle.cat_cli.specs.Surviving.{IsBegun, IsStoodOn, KeepsThrough, LeavesLog, Spared, StandsAs, Unspoiled, images_at, images_of}
+use Rattle.cat_cli.specs.Unadded.{IsStillSo}
 use Rattle.cat_cli.proofs.Opened.{begins_at, left_at}
 use Rattle.cat_cli.proofs.Placed.{ended_at, spared_at, tells_of}
 use Rattle.cat_cli.proofs.Surviving.{spared_counting}
+use Rattle.cat_cli.proofs.Unspoiled.{are_left, let_go, unspoiled_back}
 use Rattle.cat_serve.proofs.Told.{some_is, not_none}
 
 stands_both : (told after : Option (List ℕ)) (payloads : List (List ℕ)) → IfSome told (λ bytes. recovered bytes ≡ Ok payloads) → IfSome after (IsJournalOf payloads) → StandsFor told after
@@ -80,8 +82,22 @@ module _ {D K : Type 0} (told : D → Option (List ℕ)) (may_leave : D → List
   unfolding opens opens_so
   spared = opens.crash
 
+-- and nothing was written: its keeper has the payloads that it was opened with
+module _ {D K : Type 0} (told : D → Option (List ℕ)) (may_leave : D → List ℕ → Type 0) (moment : D → ℕ) (left_since : D → ℕ → List ℕ → Type 0) (only_now : (d : D) (c : List ℕ) → left_since d (moment d) c → may_leave d c) (image : (d : D) (c : List ℕ) → told d ≡ Some c → may_leave d c)
+    (disk_of : K → D) (down : K → Option ℕ) (in_flight : K → Option (List ℕ)) (kept : K → Option (List (List ℕ))) (since : ℕ) (had : List (List ℕ)) (early : List ℕ → Type 0) (start count : ℕ) (past : ℕ → List ℕ → Type 0) (began : List ℕ → Type 0) (shape : ℕ → Type 0) (disk again : D) (store : Stored K)
+    (stored : IsStored (told disk) store.opened store.book (kept store.keeper) (down store.keeper)) (idle : in_flight store.keeper ≡ None)
+    (stood : IsStoodOn start count past began shape (told disk) (moment disk) (may_leave disk) (left_since disk))
+    (leaves : KeepsThrough since had early (may_leave again) (left_since again) kept in_flight store.keeper store.opened store.book (told again)) (back : again ≡ disk_of store.keeper) where
+  pub unspoiled : IfSome (kept store.keeper) (IsStillSo start count past began (in_flight store.keeper) (moment (disk_of store.keeper)) (may_leave (disk_of store.keeper)) (left_since (disk_of store.keeper)))
+      → Unspoiled (told disk) (told again) (images_of may_leave moment left_since disk again)
+  unspoiled still =
+      let_go told may_leave moment left_since start count past began shape disk stood only_now image again (kept store.keeper) (in_flight store.keeper) idle
+      (are_left since had early (may_leave again) (left_since again) store.opened (reverse store.book.log) (in_flight store.keeper) (told disk) (told again) (kept store.keeper) stored.payloads stored.begins.recovers leaves
+      (are_kept (told disk) (told again) (kept store.keeper) stored.payloads stored.are))
+      (subst (λ (d : D). IfSome (kept store.keeper) (IsStillSo start count past began (in_flight store.keeper) (moment d) (may_leave d) (left_since d))) (sym back) still)
+
 -- by the status; the disks' count of faults is as it was
-counts : (fell level : Type 0) (s : Seen) (book : Book) (line : List ℕ) (status : Status) → level → Opens s.journal s.left s.images book → line ≡ check_line book → Counted line s.written status s.held s.before s.now → Checks fell level s status
+counts : (fell level : Type 0) (s : Seen) (book : Book) (line : List ℕ) (status : Status) → level → OpensStill s.journal s.left s.images book → line ≡ check_line book → Counted line s.written status s.held s.before s.now → Checks fell level s status
 counts fell level s book line statuses.Done same opened is p = inl (book, opened, p ∙ ap (λ (l : List ℕ). s.written ++ l) is, same)
 counts fell level s book line statuses.WriteFault same opened is p =
     let front = subst (λ (l : List ℕ). Counted l s.written statuses.WriteFault s.held s.before s.now) is p in
@@ -111,9 +127,12 @@ module _ {D : Type 0} (told : D → Option (List ℕ)) (may_leave : D → List �
     crash = spared_at told may_leave moment left_since place disk again is o.crash;
   })
 
-  pub checks : (fell level : Type 0) (same : level) (line : List ℕ) (book : Book) (status : Status) (held after : Option (List ℕ)) (before now : ℕ) → Opens (told disk) (told again) (images_of may_leave moment left_since disk again) book
+  pub opens_still_there : (book : Book) → OpensStill (told disk) (told again) (images_of may_leave moment left_since disk again) book → OpensStill (told_at told place) (told_at told place') (images_at may_leave moment left_since place place') book
+  opens_still_there book o = record { opens = opens_there book o.opens; same = unspoiled_back told may_leave moment left_since place mid place' disk again is out back o.same }
+
+  pub checks : (fell level : Type 0) (same : level) (line : List ℕ) (book : Book) (status : Status) (held after : Option (List ℕ)) (before now : ℕ) → OpensStill (told disk) (told again) (images_of may_leave moment left_since disk again) book
       → line ≡ check_line book → CountedKnown line held status after before now → ChecksKnown fell level held status after before now (told_at told place) (told_at told place') (images_at may_leave moment left_since place place')
   checks fell level same line book status held after before now opened by tells w e =
       let x = tells w e in
       let s : Seen = record { written = w; held = x.0; before = before; now = now; journal = told_at told place; left = told_at told place'; images = images_at may_leave moment left_since place place' } in
-      (x.0, x.1, counts fell level s book line status same (opens_there book opened) by x.2)
+      (x.0, x.1, counts fell level s book line status same (opens_still_there book opened) by x.2)

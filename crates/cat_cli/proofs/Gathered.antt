@@ -37,6 +37,7 @@ use Rattle.cat_work.specs.Answers.{AnswersAlone, RefusesAlone, journal_in}
 use Rattle.cat_cli.specs.declared.collecting.Collected.{Collected}
 use Rattle.cat_cli.specs.declared.collecting.Collected.TheVariants as comes
 use Rattle.cat_cli.specs.Collecting.{Collects, ComesTo, IsAnswer, IsGathered, IsOwn, Means, MeansBy, collection}
+use Rattle.cat_cli.specs.Journals.{KeepsFormat}
 use Rattle.cat_cli.specs.Opening.{IsStored}
 use Rattle.cat_cli.specs.Surviving.{IsBegun, KeepsThrough, LeavesLog, images_of}
 use Rattle.cat_cli.proofs.Ran.{log_of}
@@ -299,7 +300,7 @@ module _ {D K : Type 0} (told : D → Option (List ℕ)) (may_leave : D → List
     (g : IsGathered in_flight policy ahead to_come old new what)
     (begun : IsBegun since had early (told disk) (moment disk) (may_leave disk))
     (bases : (old.mark.bases ≡ bases_in (kept old.keeper)) × (new.mark.bases ≡ bases_in (kept new.keeper)))
-    (leaves : KeepsThrough since had early (may_leave again) (left_since again) kept in_flight new.keeper new.opened new.book (told again)) where
+    (leaves : KeepsThrough since had early (may_leave again) (left_since again) kept in_flight new.keeper new.opened new.book (told again)) (shaped : KeepsFormat (told disk) (told again)) where
   pub collects : Collects policy ahead to_come (told disk) (told again) (images_of may_leave moment left_since disk again) what
   collects =
       let log : reverse new.book.log ≡ reverse old.book.log ++ g.added =
@@ -314,6 +315,7 @@ module _ {D K : Type 0} (told : D → Option (List ℕ)) (may_leave : D → List
         added = g.added;
         flying = in_flight new.keeper;
         comes_to = g.comes_to;
+        format_stays = shaped;
         legal = subst (IsLegalFrom old.opened) log g.legal;
         crash =
             survives since had early (moment disk) (may_leave disk) (may_leave again) (left_since again) old.opened (reverse old.book.log) g.added (reverse new.book.log) (kept new.keeper) (in_flight new.keeper) 0 log

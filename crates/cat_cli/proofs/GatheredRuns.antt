@@ -15,6 +15,7 @@ use Rattle.cat_cli.specs.Serving.{IsWritten, Sunk}
 use Rattle.cat_cli.specs.Surviving.{Images, StandsAs, Survives, images_at, images_of}
 use Rattle.cat_cli.proofs.Opened.{begins_at}
 use Rattle.cat_cli.proofs.Placed.{survives_at, tells_of}
+use Rattle.cat_cli.proofs.Unspoiled.{format_back}
 
 -- ---- by the status
 
@@ -156,6 +157,7 @@ module _ {D : Type 0} (told : D → Option (List ℕ)) (may_leave : D → List �
     flying = g.flying;
     comes_to = g.comes_to;
     legal = g.legal;
+    format_stays = format_back told place mid place' disk again (tells_of told may_leave moment left_since place disk is) out back g.format_stays;
     crash =
         subst (λ (q : Option (Option D)). Survives (told_at told place) (told_at told q) (images_at may_leave moment left_since place q) (grown g.payloads g.opened g.book g.added 0 g.flying)) (sym there)
         (survives_at told may_leave moment left_since place disk again (grown g.payloads g.opened g.book g.added 0 g.flying) is g.crash);

@@ -19,17 +19,20 @@ use Rattle.cat_work.specs.Passes.{IsReady, book_of, state_of}
 use Rattle.cat_serve.specs.declared.serving.Served.{Served}
 use Rattle.cat_serve.specs.declared.serving.Served.TheVariants as serveds
 use Rattle.cat_serve.specs.Sessions.{Readings}
-use Rattle.cat_serve.specs.Workers.{Ends as BothEnds, ServesAll}
+use Rattle.cat_serve.specs.Workers.{ComesBack, Ends as BothEnds, ServesAll}
 use Rattle.cat_cli.specs.Hosting.{Comes, CountStays, Heard, Hosts, IsAsBefore, IsListening, Service, WorksOn}
 use Rattle.cat_cli.specs.HostingLaws.{all_begin}
+use Rattle.cat_cli.specs.Journals.{KeepsFormat, opened_format}
 use Rattle.cat_cli.specs.Opening.{IsStored}
 use Rattle.cat_cli.specs.Serving.{Hosted, OpenedOnly, bases_made, flying_at}
-use Rattle.cat_cli.specs.Surviving.{IsBegun, KeepsThrough, LeavesLog, images_of}
+use Rattle.cat_cli.specs.Surviving.{IsBegun, IsStoodOn, KeepsThrough, LeavesLog, images_of}
+use Rattle.cat_cli.specs.Unadded.{IsStillSo}
 use Rattle.cat_cli.specs.Shares.{CallerWasTold, all_shares}
 use Rattle.cat_cli.proofs.Shares.{all_among, all_made, all_of}
 use Rattle.cat_cli.proofs.Counted.{opens_so}
 use Rattle.cat_cli.proofs.Surviving.{survives}
-use Rattle.cat_cli.proofs.Unbased.{counts_between, had_are, unbased}
+use Rattle.cat_cli.proofs.Unbased.{counts_between, had_are, told_bases, unbased}
+use Rattle.cat_cli.proofs.Unspoiled.{are_left, let_go}
 use Rattle.cat_cli.proofs.ToldFaults.{all_told}
 
 -- ---- by how serving ended
@@ -83,7 +86,7 @@ module _ {In Out : Type 0} (ends : BothEnds In Out) (service : Service) (a m b :
   pub comes : (paused : Type 0) (end : Served)
       → (end ≢ serveds.NoMemory → ServesAll ends desk service.attempts service.workers m.tells m.waiting b.waiting m.returned b.returned m.rejoined b.rejoined m.dealt b.dealt m.faults b.faults p ahead q now)
       → (end ≡ serveds.End → IsTrue m.tells → b.waiting ≡ [])
-      → (end ≡ serveds.NoMemory → Remembers p q × paused × (IsTrue m.tells → (b.waiting ≡ m.waiting) × (b.returned ≡ m.returned)))
+      → (end ≡ serveds.NoMemory → Remembers p q × paused × (IsTrue m.tells → (b.waiting ≡ m.waiting) × (b.returned ≡ m.returned) × ComesBack m.dealt m.rejoined b.rejoined))
       → (end ≡ serveds.ListenerFault → Rose m.faults b.faults) → (end ≢ serveds.ListenerFault → CountStays m.faults b.faults)
       → Comes (WorksOn ends service a b desk p ahead q now) (Remembers p q × paused) service a b end
   comes paused serveds.End serves done none cause same =
@@ -96,6 +99,7 @@ module _ {In Out : Type 0} (ends : BothEnds In Out) (service : Service) (a m b :
           listening = listening;
           waiting = λ t. (n.2 (still_tells t)).0 ∙ waiting;
           returned = λ t. (n.2 (still_tells t)).1 ∙ returned;
+          back = λ t. subst (λ (z : List (List (In × Out)) × List (List (In × Out))). ComesBack z.0 z.1 b.rejoined) (λ i. (dealt i, rejoined i)) (n.2 (still_tells t)).2;
           level = count_from (same none_began);
         },
       )
@@ -158,7 +162,11 @@ module _ {In Out D K : Type 0} (ends : BothEnds In Out) (service : Service) (a b
     (fallen : down new.keeper ≡ option_map (λ (x : FailedAppend). x.count) new.mark.fault)
     (flies : in_flight new.keeper ≡ option_map (λ (x : FailedAppend). x.payload) new.mark.fault)
     (bases : (old.mark.bases ≡ bases_in (kept old.keeper)) × (new.mark.bases ≡ bases_in (kept new.keeper)))
-    (leaves : KeepsThrough since had early (may_leave again) (left_since again) kept in_flight new.keeper new.opened new.book (told again)) where
+    (leaves : KeepsThrough since had early (may_leave again) (left_since again) kept in_flight new.keeper new.opened new.book (told again))
+    (only_now : (d : D) (c : List ℕ) → left_since d (moment d) c → may_leave d c) (image : (d : D) (c : List ℕ) → told d ≡ Some c → may_leave d c) (disk_of : K → D) (start count : ℕ) (past : ℕ → List ℕ → Type 0) (began : List ℕ → Type 0) (shape : ℕ → Type 0)
+    (stood : IsStoodOn start count past began shape (told disk) (moment disk) (may_leave disk) (left_since disk)) (back : again ≡ disk_of new.keeper)
+    (still : IfSome (kept new.keeper) (IsStillSo start count past began (in_flight new.keeper) (moment (disk_of new.keeper)) (may_leave (disk_of new.keeper)) (left_since (disk_of new.keeper))))
+    (marked : IfSome (told disk) (λ bytes. old.mark.format ≡ opened_format bytes) × (old.mark.base ≡ old.opened.state.place) × (old.mark.draft ≡ old.book.draft) × (old.mark.sweep ≡ None)) (shaped : KeepsFormat (told disk) (told again)) where
   abbrev Left : Opened → Option (List ℕ) → Type 0
   Left o flying = IfSome (told again) (LeavesLog since had early (may_leave again) (left_since again) o (reverse new.book.log) (kept new.keeper) flying)
 
@@ -187,6 +195,11 @@ module _ {In Out D K : Type 0} (ends : BothEnds In Out) (service : Service) (a b
         begun = h.begun;
         saw = h.saw;
         clean = clean;
+        formed = subst (λ (m : Mark). IfSome (told disk) (λ bytes. m.format ≡ opened_format bytes)) (sym h.mark_is) marked.0;
+        based = ap (λ (m : Mark). m.base) h.mark_is ∙ marked.1;
+        counted = told_bases (told disk) (kept old.keeper) stored.payloads (mark_of h.first).bases stored.are (ap (λ (m : Mark). m.bases) h.mark_is ∙ bases.0);
+        drafted = ap (λ (m : Mark). m.draft) h.mark_is ∙ marked.2;
+        unswept = ap (λ (m : Mark). m.sweep) h.mark_is ∙ marked.3;
         number_is = h.number_is;
         splits = h.splits;
         works = h.works;
@@ -201,6 +214,7 @@ module _ {In Out D K : Type 0} (ends : BothEnds In Out) (service : Service) (a b
             (told disk) (told again) stored.payloads begun stored.begins.recovers stored.begins.total stored.spelled stored.begins.opened
             (counts_between (told disk) (kept old.keeper) (kept new.keeper) stored.payloads (mark_of h.first).bases (mark_of h.last).bases stored.are (ap (λ (m : Mark). m.bases) h.mark_is ∙ bases.0) (sym h.bases_is ∙ bases.1))
             (subst (λ (o : Opened). Left o (flying_at h.last)) (h.opened_is ∙ h.opened) (subst (Left new.opened) flying leaves));
+        format_stays = shaped;
         cause = if_fault (mark_of h.last).fault (λ f. to f.count) (λ x is. counted x (h.fault_is ∙ is));
         told = if_fault (mark_of h.last).fault (λ f. CallerWasTold f (all_shares ends h.desk service.attempts h.works.serves)) (λ x is.
             all_told ends h.desk service.attempts h.works.serves x clean is (all_among ends h.desk service.attempts h.works.serves h.number_is h.splits x.caller (is_new x (h.marked.fault x is))));
@@ -220,9 +234,16 @@ module _ {In Out D K : Type 0} (ends : BothEnds In Out) (service : Service) (a b
       let idle : in_flight new.keeper ≡ None = flies ∙ ap (option_map (λ (x : FailedAppend). x.payload)) none in
       let left : IfSome (told again) (LeavesLog since had early (may_leave again) (left_since again) old.opened (reverse old.book.log) (kept new.keeper) None) =
       subst (λ (x : Book). IfSome (told again) (LeavesLog since had early (may_leave again) (left_since again) old.opened (reverse x.log) (kept new.keeper) None)) s.0.book
-      (subst (λ (o : Opened). Left o None) s.0.opened (subst (Left new.opened) idle leaves)) in (
+      (subst (λ (o : Opened). Left o None) s.0.opened (subst (Left new.opened) idle leaves)) in
+      let are = still_are (told again) left (ap (λ (m : Mark). m.bases) s.0.mark) in (
         old.book,
-        opens_so told may_leave moment left_since since had early disk again old.opened (reverse old.book.log) (kept new.keeper) stored.payloads old.book stored.begins begun left (still_are (told again) left (ap (λ (m : Mark). m.bases) s.0.mark)),
+        record {
+          opens = opens_so told may_leave moment left_since since had early disk again old.opened (reverse old.book.log) (kept new.keeper) stored.payloads old.book stored.begins begun left are;
+          same =
+              let_go told may_leave moment left_since start count past began shape disk stood only_now image again (kept new.keeper) (in_flight new.keeper) idle
+              (are_left since had early (may_leave again) (left_since again) old.opened (reverse old.book.log) None (told disk) (told again) (kept new.keeper) stored.payloads stored.begins.recovers left are)
+              (subst (λ (d : D). IfSome (kept new.keeper) (IsStillSo start count past began (in_flight new.keeper) (moment d) (may_leave d) (left_since d))) (sym back) still);
+        },
         s.1,
       )
 

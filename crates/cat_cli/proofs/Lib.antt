@@ -8,6 +8,7 @@ pub mod Refused
 pub mod Ran
 pub mod Counted
 pub mod Unbased
+pub mod Unspoiled
 pub mod Renewed
 pub mod Migrated
 pub mod Shares

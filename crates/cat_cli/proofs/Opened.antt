@@ -23,8 +23,8 @@ use Rattle.cat_cli.specs.declared.unopened.Unopened.{Unopened}
 use Rattle.cat_cli.specs.declared.unopened.Unopened.TheVariants as whys
 use Rattle.cat_cli.specs.Journals.{Begins, DisksFell, IsBack, RoseBy, StandsFor, TellsAs, told_at}
 use Rattle.cat_cli.specs.Opening.{FaultKnown, FaultTold, IsReason, IsStored, Refused, RefusedKnown, by_journal, by_store, is_unreadable}
-use Rattle.cat_cli.specs.Runs.{CountedBy, Refuses, RefusesSo, Seen, spares_disks}
-use Rattle.cat_cli.specs.Surviving.{Images, Spared}
+use Rattle.cat_cli.specs.Runs.{CountedBy, Refuses, RefusesSo, Seen, UnspoiledBy, spares_disks}
+use Rattle.cat_cli.specs.Surviving.{Images, Spared, Unspoiled}
 use Rattle.cat_serve.proofs.Told.{some_is, not_none}
 
 -- ---- counts of faults
@@ -178,13 +178,30 @@ refuses fell level s why statuses.ListenerFault reason cause spares ends p = abs
 refuses fell level s why statuses.Cut reason cause spares ends p = absurd p
 refuses fell level s why statuses.Limit reason cause spares ends p = absurd p
 
+-- nothing was written, unless a fault of the disk's is the reason
+unreadable_ends : (status : Status) → status ≡ statuses.Unreadable → (status ≡ statuses.DiskFault) ⊎ (status ≡ statuses.WriteFault) → ⊥
+unreadable_ends status is (inl e) = let wrong : statuses.Unreadable ≡ statuses.DiskFault = sym is ∙ e in absurd cc
+unreadable_ends status is (inr e) = let wrong : statuses.Unreadable ≡ statuses.WriteFault = sym is ∙ e in absurd cc
+
+pub unspoiled_by : (journal left : Option (List ℕ)) (images : Images) (why : Unopened) (status : Status) → EndsAtFault why status → ((why ≡ whys.Fault → ⊥) → Unspoiled journal left images) → UnspoiledBy journal left images status
+unspoiled_by journal left images why statuses.Unreadable ends same = same (λ is. unreadable_ends statuses.Unreadable refl (ends is))
+unspoiled_by journal left images why statuses.NoMemory ends same = same (λ is. ⊎_elim memory_is_no_fault memory_is_no_write (ends is))
+unspoiled_by journal left images why statuses.DiskFault ends same = tt
+unspoiled_by journal left images why statuses.WriteFault ends same = tt
+unspoiled_by journal left images why statuses.Done ends same = tt
+unspoiled_by journal left images why statuses.Usage ends same = tt
+unspoiled_by journal left images why statuses.ReadFault ends same = tt
+unspoiled_by journal left images why statuses.ListenerFault ends same = tt
+unspoiled_by journal left images why statuses.Cut ends same = tt
+unspoiled_by journal left images why statuses.Limit ends same = tt
+
 pub refuses_known : (fell level : Type 0) (why : Unopened) (status : Status) (held after journal left : Option (List ℕ)) (images : Images) (before now : ℕ) (w : List ℕ)
-    → IsReason journal why → (why ≡ whys.Fault → fell) → ((why ≡ whys.Fault → ⊥) → level) → EndsAtFault why status → StandsFor journal left → Spared journal left images → RefusedKnown why held status after before now → held ≡ Some w
+    → IsReason journal why → (why ≡ whys.Fault → fell) → ((why ≡ whys.Fault → ⊥) → level) → EndsAtFault why status → StandsFor journal left → Spared journal left images → ((why ≡ whys.Fault → ⊥) → Unspoiled journal left images) → RefusedKnown why held status after before now → held ≡ Some w
     → (h : List ℕ) × (after ≡ Some h) × RefusesSo fell level (record { written = w; held = h; before = before; now = now; journal = journal; left = left; images = images }) status
-refuses_known fell level why status held after journal left images before now w reason cause spares ends stands spared told e =
+refuses_known fell level why status held after journal left images before now w reason cause spares ends stands spared same told e =
     let x = told w e in
     let s : Seen = record { written = w; held = x.0; before = before; now = now; journal = journal; left = left; images = images } in
-    (x.0, x.1, (refuses fell level s why status reason cause spares ends x.2, stands, spared))
+    (x.0, x.1, (refuses fell level s why status reason cause spares ends x.2, stands, spared, unspoiled_by journal left images why status ends same))
 
 spares_fault : (status : Status) → spares_disks status ≡ true → status ≡ statuses.DiskFault → ⊥
 spares_fault status is e = let no : false ≡ true = subst (λ (st : Status). spares_disks st ≡ true) e is in clash no
@@ -235,6 +252,12 @@ none_down p None idle = refl
 none_down {A} {B} p (Some c) idle = let no : ◌≡◌ {A = Option B} (Some p) None = idle in cc
 
 -- ---- the place of the disk
+
+-- what is so of a disk's bytes is so of what its place tells
+pub told_there : {D : Type 0} (told : D → Option (List ℕ)) (place : Option (Option D)) (disk : D) (P : List ℕ → Type 0) → TellsAs told place disk → IfSome (told disk) P → IfSome (told_at told place) P
+told_there told None disk P is p = tt
+told_there told (Some None) disk P is p = absurd is
+told_there told (Some (Some d)) disk P is p = subst (λ (t : Option (List ℕ)). IfSome t P) (sym is) p
 
 module _ {D : Type 0} (told : D → Option (List ℕ)) where
   none_stands : (disk : D) → ◌≡◌ {A = Option D} None (Some disk) → ⊥

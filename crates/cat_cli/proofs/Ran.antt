@@ -11,17 +11,18 @@ use Rattle.cat_serve.specs.declared.ending.Session.TheVariants as ends
 use Rattle.cat_model.specs.Turns.{Opened}
 use Rattle.cat_cli.specs.declared.status.Status.{Status}
 use Rattle.cat_cli.specs.declared.status.Status.TheVariants as statuses
-use Rattle.cat_cli.specs.Journals.{Holds, IsBasedAt, IsJournalOf, TellsAs, opened_format, told_at}
+use Rattle.cat_cli.specs.Journals.{Holds, IsBasedAt, IsJournalOf, KeepsFormat, opened_format, told_at}
 use Rattle.cat_cli.specs.Opening.{IsStored, status_of}
 use Rattle.cat_cli.specs.Runs.{Answers, CountedBy, Ran, RanKnown, RanWell, SaysKnown, Seen, grown, spares_disks, start, tells_all}
 use Rattle.cat_serve.specs.Sessions.{Readings, ReadsOn, Fallen, Ends, journal_by, journal_from}
 use Rattle.cat_serve.specs.SessionLaws.{log_grows}
 use Rattle.cat_cli.specs.Stores.{RunsKnown}
 use Rattle.cat_cli.specs.Surviving.{IsBegun, KeepsThrough, LeavesLog, StandsAs, Survives, bases_between, images_at, images_of}
-use Rattle.cat_cli.proofs.Opened.{begins_at, left_at}
+use Rattle.cat_cli.proofs.Opened.{begins_at, left_at, told_there}
 use Rattle.cat_cli.proofs.Placed.{survives_at, tells_of}
 use Rattle.cat_cli.proofs.Surviving.{payloads_are, survives}
 use Rattle.cat_cli.proofs.Unbased.{counts_between, told_bases}
+use Rattle.cat_cli.proofs.Unspoiled.{format_back}
 
 -- the entries of a log that grew
 pub log_of : (before after news : List LogEntry) → after ≡ news ++ before → reverse after ≡ reverse before ++ reverse news
@@ -149,12 +150,6 @@ caused : (to to' : ℕ → Type 0) (fallen : Option Fallen) → ((c : ℕ) → t
 caused to to' None on cause = tt
 caused to to' (Some f) on cause = on f.count cause
 
--- what is so of a disk's bytes is so of what its place tells
-told_there : {D : Type 0} (told : D → Option (List ℕ)) (place : Option (Option D)) (disk : D) (P : List ℕ → Type 0) → TellsAs told place disk → IfSome (told disk) P → IfSome (told_at told place) P
-told_there told None disk P is p = tt
-told_there told (Some None) disk P is p = absurd is
-told_there told (Some (Some d)) disk P is p = subst (λ (t : Option (List ℕ)). IfSome t P) (sym is) p
-
 -- the last base of a journal at rest is the keeper's
 based_now : (since : ℕ) (had : List (List ℕ)) (early may_leave : List ℕ → Type 0) (left_since : ℕ → List ℕ → Type 0) (o : Opened) (log : List LogEntry) (left : Option (List ℕ)) (kept : Option (List (List ℕ))) (flying : Option (List ℕ)) (place : ℕ)
     → flying ≡ None → ((ps : List (List ℕ)) → kept ≡ Some ps → first_of ps ≡ place) → IfSome left (LeavesLog since had early may_leave left_since o log kept flying) → IfSome left (IsBasedAt place)
@@ -171,7 +166,7 @@ module _ {D K : Type 0} (told : D → Option (List ℕ)) (may_leave : D → List
     (begun : IsBegun since had early (told disk) (moment disk) (may_leave disk))
     (formed : IfSome (told disk) (λ bytes. old.mark.format ≡ opened_format bytes)) (place_is : old.mark.base ≡ old.opened.state.place)
     (bases : (old.mark.bases ≡ bases_in (kept old.keeper)) × (new.mark.bases ≡ bases_in (kept new.keeper))) (based : (ps : List (List ℕ)) → kept new.keeper ≡ Some ps → first_of ps ≡ new.mark.base)
-    (leaves : KeepsThrough since had early (may_leave again) (left_since again) kept in_flight new.keeper new.opened new.book (told again)) where
+    (leaves : KeepsThrough since had early (may_leave again) (left_since again) kept in_flight new.keeper new.opened new.book (told again)) (shaped : KeepsFormat (told disk) (told again)) where
   abbrev Left : Opened → Option (List ℕ) → Type 0
   Left o flying = IfSome (told again) (LeavesLog since had early (may_leave again) (left_since again) o (reverse new.book.log) (kept new.keeper) flying)
 
@@ -197,6 +192,7 @@ module _ {D K : Type 0} (told : D → Option (List ℕ)) (may_leave : D → List
           bases = old.mark.bases;
           counted = told_bases (told disk) (kept old.keeper) stored.payloads old.mark.bases stored.are bases.0;
           last = last;
+          format_stays = shaped;
           ends = subst (λ (n : ℕ). Ends x.0 (start (journal_from old.opened old.mark.format n old.mark.bases) old.book b w) end x.2 last unread) place_is x.5;
           added = reverse grew.0;
           grows = grew.1 ∙ ap (λ (l : List LogEntry). l ++ old.book.log) (sym (reverse-reverse grew.0));
@@ -242,18 +238,19 @@ module _ {D : Type 0} (told : D → Option (List ℕ)) (may_leave : D → List �
     crash =
         subst (λ (q : Option (Option D)). Survives (told_at told place) (told_at told q) (images_at may_leave moment left_since place q) (grown r.payloads r.opened r.book r.added (bases_between r.bases r.last.session.journal.bases) (option_map (λ (f : Fallen). f.payload) r.last.fallen))) (sym there)
         (survives_at told may_leave moment left_since place disk again (grown r.payloads r.opened r.book r.added (bases_between r.bases r.last.session.journal.bases) (option_map (λ (f : Fallen). f.payload) r.last.fallen)) is r.crash);
+    format_stays = format_back told place mid place' disk again (tells_of told may_leave moment left_since place disk is) out back r.format_stays;
     based = λ up. subst (λ (q : Option (Option D)). IfSome (told_at told q) (IsBasedAt r.last.session.journal.base)) (sym there) (left_at told place again (IsBasedAt r.last.session.journal.base) (r.based up));
     cause = caused to to' r.last.fallen on r.cause;
     reads_on = r.reads_on;
   }
 
   -- by the status; level is so where the disk didn't fail
-  pub says : (fell : Type 0) (to : ℕ → Type 0) (level : Type 0) (most : ℕ) (ahead ahead' : Option Readings) (bytes unread held after : Option (List ℕ)) (before now : ℕ) (end : End) (failed : Bool) (status : Status)
+  pub says : (fell : Type 0) (to : ℕ → Type 0) (level untouched : Type 0) (most : ℕ) (ahead ahead' : Option Readings) (bytes unread held after : Option (List ℕ)) (before now : ℕ) (end : End) (failed : Bool) (status : Status)
       → RanKnown (CountedBy most) ahead ahead' bytes unread held after before now (told disk) (told again) (images_of may_leave moment left_since disk again) end
       → status ≡ status_of end failed → ((c : ℕ) → CountedBy most c → to c) → (failed ≡ false → most ≡ 0) → (most ≡ 0 → level)
-      → SaysKnown fell to level ahead ahead' bytes unread held status after before now (told_at told place) (told_at told place') (images_at may_leave moment left_since place place')
+      → SaysKnown fell to level untouched ahead ahead' bytes unread held status after before now (told_at told place) (told_at told place') (images_at may_leave moment left_since place place')
   unfolding ran_there
-  says fell to level most ahead ahead' bytes unread held after before now end failed status known by on stays same b w e f =
+  says fell to level untouched most ahead ahead' bytes unread held after before now end failed status known by on stays same b w e f =
       let x = known b w e f in
       let s = There w x.2 before now in
       let run = ran_there (CountedBy most) to x.0 (ReadsOn ahead ahead') b unread w x.2 before now end on x.4 in

@@ -8,9 +8,10 @@ use Rattle.cat_cli.specs.declared.unopened.Unopened.TheVariants as whys
 use Rattle.cat_cli.specs.Journals.{StandsFor, told_at}
 use Rattle.cat_cli.specs.Opening.{IsReason, RefusedKnown}
 use Rattle.cat_cli.specs.Runs.{RefusesSo}
-use Rattle.cat_cli.specs.Surviving.{Spared, StandsAs, images_at, images_of}
+use Rattle.cat_cli.specs.Surviving.{Spared, StandsAs, Unspoiled, images_at, images_of}
 use Rattle.cat_cli.proofs.Opened.{EndsAtFault, reason_at, refuses_known, stands_back, stands_untouched}
 use Rattle.cat_cli.proofs.Placed.{spared_at, spared_untouched, tells_of}
+use Rattle.cat_cli.proofs.Unspoiled.{unspoiled_back}
 
 -- what an answer is known to be
 pub of_ok : {T E : Type 0} (r : Result T E) (x : T) (P : T → Type 0) (Q : E → Type 0) → r ≡ Ok x → MatchResult r P Q → P x
@@ -22,14 +23,15 @@ of_err r e P Q is p = subst (λ y. MatchResult y P Q) is p
 pub refused_there : {D : Type 0} (told : D → Option (List ℕ)) (may_leave : D → List ℕ → Type 0) (moment : D → ℕ) (left_since : D → ℕ → List ℕ → Type 0) (place mid place' : Option (Option D)) (disk again : D)
     → StandsAs told may_leave moment place disk → mid ≡ taken place → place' ≡ stood again mid
     → (fell level : Type 0) (why : Unopened) (status : Status) (held after : Option (List ℕ)) (before now : ℕ) (w : List ℕ)
-    → IsReason (told disk) why → StandsFor (told disk) (told again) → Spared (told disk) (told again) (images_of may_leave moment left_since disk again)
+    → IsReason (told disk) why → StandsFor (told disk) (told again) → Spared (told disk) (told again) (images_of may_leave moment left_since disk again) → ((why ≡ whys.Fault → ⊥) → Unspoiled (told disk) (told again) (images_of may_leave moment left_since disk again))
     → (why ≡ whys.Fault → fell) → ((why ≡ whys.Fault → ⊥) → level) → EndsAtFault why status → RefusedKnown why held status after before now → held ≡ Some w
     → (h : List ℕ) × (after ≡ Some h) × RefusesSo fell level (record { written = w; held = h; before = before; now = now; journal = told_at told place; left = told_at told place'; images = images_at may_leave moment left_since place place' }) status
-refused_there {D} told may_leave moment left_since place mid place' disk again is out back fell level why status held after before now w reason stands spared cause spares ends tells e =
+refused_there {D} told may_leave moment left_since place mid place' disk again is out back fell level why status held after before now w reason stands spared same cause spares ends tells e =
     refuses_known fell level why status held after (told_at told place) (told_at told place') (images_at may_leave moment left_since place place') before now w
     (reason_at told place disk why (tells_of told may_leave moment left_since place disk is) reason) cause spares ends
     (stands_back told place mid place' disk again (tells_of told may_leave moment left_since place disk is) out back stands)
     (subst (λ (q : Option (Option D)). Spared (told_at told place) (told_at told q) (images_at may_leave moment left_since place q)) (sym (back ∙ ap (stood again) out)) (spared_at told may_leave moment left_since place disk again is spared))
+    (λ other. unspoiled_back told may_leave moment left_since place mid place' disk again is out back (same other))
     tells e
 
 -- the disks refused to open the path
@@ -40,4 +42,5 @@ never_opened {D} told may_leave moment left_since only_now place place' same fel
     refuses_known fell level whys.Fault status held after (told_at told place) (told_at told place') (images_at may_leave moment left_since place place') before now w (λ is. absurd cc) (λ fault. cause) (λ other. absurd (other refl)) ends
     (subst (λ (q : Option (Option D)). StandsFor (told_at told place) (told_at told q)) (sym same) (stands_untouched (told_at told place)))
     (subst (λ (q : Option (Option D)). Spared (told_at told place) (told_at told q) (images_at may_leave moment left_since place q)) (sym same) (spared_untouched told may_leave moment left_since only_now place))
+    (λ other. absurd (other refl))
     tells e

@@ -3,6 +3,7 @@ use Rattle.std.proofs.Common.{◌≡◌, ◌≢◌, ℕ, ◌<◌, ◌≤◌, Lis
 use Rattle.std.specs.Prelude.{◌⊎◌}
 use Rattle.cat_desk.specs.Pass.{mark_of}
 use Rattle.cat_io.specs.Places.{stood, taken}
+use Rattle.cat_keeper.specs.Bases.{base_count}
 use Rattle.cat_model.specs.Mark.{FailedAppend}
 use Rattle.cat_serve.specs.declared.serving.Served.{Served}
 use Rattle.cat_serve.specs.declared.serving.Served.TheVariants as serveds
@@ -13,17 +14,18 @@ use Rattle.cat_cli.specs.declared.status.Status.TheVariants as statuses
 use Rattle.cat_cli.specs.declared.unopened.Unopened.{Unopened}
 use Rattle.cat_cli.specs.declared.unopened.Unopened.TheVariants as whys
 use Rattle.cat_cli.specs.Hosting.{Comes, Heard, Service}
-use Rattle.cat_cli.specs.Journals.{StandsFor, told_at}
+use Rattle.cat_cli.specs.Journals.{StandsFor, opened_format, told_at}
 use Rattle.cat_cli.specs.Opening.{EndsFor, IsReason, RefusedKnown}
 use Rattle.cat_cli.specs.Lines.{no_memory_line}
 use Rattle.cat_cli.specs.Runs.{CountedBy, TellsKnown, grown, spares_disks, spares_listener}
 use Rattle.cat_cli.specs.Serving.{Ended, Hosted, HostedWell, IsToldOf, OpenedOnly, RefusedFor, RefusesKnown, ServesKnown, Sunk, bases_made, flying_at, status_after}
-use Rattle.cat_cli.specs.Surviving.{Spared, StandsAs, Survives, images_at, images_of}
-use Rattle.cat_cli.proofs.Counted.{opens_there}
+use Rattle.cat_cli.specs.Surviving.{Spared, StandsAs, Survives, Unspoiled, images_at, images_of}
+use Rattle.cat_cli.proofs.Counted.{opens_still_there}
 use Rattle.cat_cli.proofs.HostedStores.{comes_on}
-use Rattle.cat_cli.proofs.Opened.{EndsAtFault, begins_at, no_fault, reason_at, stands_back, stands_untouched}
+use Rattle.cat_cli.proofs.Opened.{EndsAtFault, begins_at, no_fault, reason_at, stands_back, stands_untouched, told_there, unspoiled_by}
 use Rattle.cat_cli.proofs.Refused.{never_opened, refused_there}
 use Rattle.cat_cli.proofs.Placed.{spared_at, spared_untouched, survives_at, tells_of}
+use Rattle.cat_cli.proofs.Unspoiled.{format_back, unspoiled_back, unspoiled_untouched}
 
 -- ---- by the status
 
@@ -118,6 +120,7 @@ module _ {D : Type 0} (told : D → Option (List ℕ)) (may_leave : D → List �
     told = λ w e. let x = never_opened told may_leave moment left_since only_now place place' same fell level status k.held k.after k.before k.now w cause ends tells e in (x.0, x.1, x.2.0);
     stands = subst (λ (q : Option (Option D)). StandsFor (told_at told place) (told_at told q)) (sym same) (stands_untouched (told_at told place));
     spared = subst (λ (q : Option (Option D)). Spared (told_at told place) (told_at told q) (images_at may_leave moment left_since place q)) (sym same) (spared_untouched told may_leave moment left_since only_now place);
+    unspoiled = unspoiled_by (told_at told place) (told_at told place') (images_at may_leave moment left_since place place') whys.Fault status ends (λ other. absurd (other refl));
     still = still;
   }
 
@@ -131,6 +134,7 @@ out_of_memory told may_leave moment left_since only_now place fell level untouch
       told = λ w e. let x = tells w e in (x.0, x.1, (same, x.2));
       stands = stands_untouched (told_at told place);
       spared = spared_untouched told may_leave moment left_since only_now place;
+      unspoiled = unspoiled_untouched told may_leave moment left_since only_now place;
       still = still;
     })
 
@@ -142,19 +146,22 @@ module _ {D : Type 0} (told : D → Option (List ℕ)) (may_leave : D → List �
   there = back ∙ ap (stood again) out
 
   -- of its journal no catalogue was opened
-  pub refused_back : (fell level untouched : Type 0) (k : Sunk) (why : Unopened) (status : Status) → IsReason (told disk) why → StandsFor (told disk) (told again) → Spared (told disk) (told again) (images_of may_leave moment left_since disk again)
+  pub refused_back : (fell level untouched : Type 0) (k : Sunk) (why : Unopened) (status : Status) → IsReason (told disk) why → StandsFor (told disk) (told again) → Spared (told disk) (told again) (images_of may_leave moment left_since disk again) → (why ≢ whys.Fault → Unspoiled (told disk) (told again) (images_of may_leave moment left_since disk again))
       → (why ≡ whys.Fault → fell) → (why ≢ whys.Fault → level) → untouched → EndsAtFault why status → EndsFor why status → RefusedKnown why k.held status k.after k.before k.now
       → RefusesKnown fell level untouched k (told_at told place) (told_at told place') (images_at may_leave moment left_since place place') status
-  refused_back fell level untouched k why status reason stands spares cause same still ends by tells = record {
+  refused_back fell level untouched k why status reason stands spares sound cause same still ends by tells = record {
     cause = refused_for fell level (told_at told place) why status (reason_at told place disk why (tells_of told may_leave moment left_since place disk is) reason) cause same by;
-    told = λ w e. let x = refused_there told may_leave moment left_since place mid place' disk again is out back fell level why status k.held k.after k.before k.now w reason stands spares cause same ends tells e in (x.0, x.1, x.2.0);
+    told = λ w e. let x = refused_there told may_leave moment left_since place mid place' disk again is out back fell level why status k.held k.after k.before k.now w reason stands spares sound cause same ends tells e in (x.0, x.1, x.2.0);
     stands = stands_back told place mid place' disk again (tells_of told may_leave moment left_since place disk is) out back stands;
     spared = subst (λ (q : Option (Option D)). Spared (told_at told place) (told_at told q) (images_at may_leave moment left_since place q)) (sym there) (spared_at told may_leave moment left_since place disk again is spares);
+    unspoiled =
+        unspoiled_by (told_at told place) (told_at told place') (images_at may_leave moment left_since place place') why status ends
+        (λ other. unspoiled_back told may_leave moment left_since place mid place' disk again is out back (sound other));
     still = still;
   }
 
   opened_back : (paused : Type 0) → OpenedOnly paused (told disk) (told again) (images_of may_leave moment left_since disk again) → OpenedOnly paused (told_at told place) (told_at told place') (images_at may_leave moment left_since place place')
-  opened_back paused o = (o.0, opens_there told may_leave moment left_since place mid place' disk again is out back o.0 o.1, o.2)
+  opened_back paused o = (o.0, opens_still_there told may_leave moment left_since place mid place' disk again is out back o.0 o.1, o.2)
 
   -- or its journal was served from
   module _ {In Out : Type 0} (ends : BothEnds In Out) (service : Service) (a b : Heard (In × Out)) (ahead now : Option Readings) where
@@ -173,6 +180,11 @@ module _ {D : Type 0} (told : D → Option (List ℕ)) (may_leave : D → List �
       begun = h.begun;
       saw = h.saw;
       clean = h.clean;
+      formed = told_there told place disk (λ bytes. (mark_of h.first).format ≡ opened_format bytes) (tells_of told may_leave moment left_since place disk is) h.formed;
+      based = h.based;
+      counted = told_there told place disk (λ bytes. (mark_of h.first).bases ≡ Some (base_count h.payloads)) (tells_of told may_leave moment left_since place disk is) h.counted;
+      drafted = h.drafted;
+      unswept = h.unswept;
       number_is = h.number_is;
       splits = h.splits;
       works = h.works;
@@ -185,6 +197,7 @@ module _ {D : Type 0} (told : D → Option (List ℕ)) (may_leave : D → List �
       crash =
           subst (λ (q : Option (Option D)). Survives (told_at told place) (told_at told q) (images_at may_leave moment left_since place q) (grown h.payloads h.started h.book h.added (bases_made h.first h.last) (flying_at h.last))) (sym there)
           (survives_at told may_leave moment left_since place disk again (grown h.payloads h.started h.book h.added (bases_made h.first h.last) (flying_at h.last)) is h.crash);
+      format_stays = format_back told place mid place' disk again (tells_of told may_leave moment left_since place disk is) out back h.format_stays;
       cause = caused to to' (mark_of h.last).fault on h.cause;
       told = h.told;
     }

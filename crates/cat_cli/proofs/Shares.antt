@@ -83,7 +83,7 @@ module _ {In Out : Type 0} (ends : BothEnds In Out) (desk : DeskId) (attempts : 
         → AreMade added (shares_of ends desk attempts tells well dealt number p ahead q groups all)
     shares_made tells well dealt number ahead [] all = tt
     shares_made tells well dealt number ahead (group ∷ groups) (t, rest) =
-        (share_made (number + length groups) t.own t.now t.given group t.worked, shares_made tells well dealt number ahead groups rest)
+        (share_made (number + length groups) t.own t.now t.given t.served t.worked, shares_made tells well dealt number ahead groups rest)
 
   -- ---- whose it is
 

@@ -184,7 +184,7 @@ module _ {In Out : Type 0} (ends : BothEnds In Out) (desk : DeskId) (attempts : 
       shares_told : (tells : Bool) (well : Type 0) (dealt : List (List (In × Out))) (number : ℕ) (ahead : Option Readings) (groups : List (List (In × Out))) (all : AllWorked ends desk attempts tells well dealt number p ahead q groups)
           → IsAmong x.caller (numbers_of (shares_of ends desk attempts tells well dealt number p ahead q groups all)) → CallerWasTold x (shares_of ends desk attempts tells well dealt number p ahead q groups all)
       shares_told tells well dealt number ahead [] all none = absurd none
-      shares_told tells well dealt number ahead (group ∷ groups) (t, rest) (inl same) = inl (same, worker_told (number + length groups) t.own t.now t.given group t.worked same)
+      shares_told tells well dealt number ahead (group ∷ groups) (t, rest) (inl same) = inl (same, worker_told (number + length groups) t.own t.now t.given t.served t.worked same)
       shares_told tells well dealt number ahead (group ∷ groups) (t, rest) (inr among) = inr (shares_told tells well dealt number ahead groups rest among)
 
   -- ---- of all workers

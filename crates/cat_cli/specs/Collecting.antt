@@ -25,7 +25,7 @@ use Rattle.cat_cli.specs.declared.collecting.Collected.{Collected}
 use Rattle.cat_cli.specs.declared.collecting.Collected.TheVariants as comes
 use Rattle.cat_cli.specs.declared.status.Status.{Status}
 use Rattle.cat_cli.specs.declared.status.Status.TheVariants as statuses
-use Rattle.cat_cli.specs.Journals.{Begins}
+use Rattle.cat_cli.specs.Journals.{Begins, KeepsFormat}
 use Rattle.cat_cli.specs.Lines.{disk_fault_line, limit_line, no_memory_line, swept_line}
 use Rattle.cat_cli.specs.Runs.{TellsKnown, grown}
 use Rattle.cat_cli.specs.Serving.{IsWritten, RefusesKnown, Sunk}
@@ -106,7 +106,7 @@ pub record IsGathered {K : Type 0} (in_flight : K → Option (List ℕ)) (policy
 
 -- ---- on the journal
 
--- A collection was made on the catalogue of the journal, as it was opened, at the moment of one reading of the clock, and the journal keeps its entry, and has no base more: where the append failed, maybe. The log is legal, and begins with the one that was opened. Where no append failed, just the entry stands behind all that the journal had.
+-- A collection was made on the catalogue of the journal, as it was opened, at the moment of one reading of the clock, and the journal keeps its entry, and has no base more: where the append failed, maybe. The log is legal, and begins with the one that was opened. Where no append failed, just the entry stands behind all that the journal had. It has the format that it has once it is opened.
 pub record Collects (policy : Policy) (ahead to_come : Option (ℕ → ℕ)) (journal left : Option (List ℕ)) (images : Images) (what : Collected) : Type 0 where
   pub payloads : List (List ℕ)
   pub opened : Opened
@@ -119,6 +119,7 @@ pub record Collects (policy : Policy) (ahead to_come : Option (ℕ → ℕ)) (jo
   pub comes_to : ComesTo (collection book policy moment) what added flying
   pub legal : IsLegalFrom opened (reverse book.log ++ added)
   pub crash : Survives journal left images (grown payloads opened book added 0 flying)
+  pub format_stays : KeepsFormat journal left
 
 -- ---- a run
 

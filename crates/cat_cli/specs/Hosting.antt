@@ -10,7 +10,7 @@ use Rattle.cat_desk.specs.declared.pass.Pass.{Pass}
 use Rattle.cat_serve.specs.declared.serving.Served.{Served}
 use Rattle.cat_serve.specs.declared.serving.Served.TheVariants as serveds
 use Rattle.cat_serve.specs.Sessions.{Readings}
-use Rattle.cat_serve.specs.Workers.{Ends as BothEnds, ServesAll, first_split}
+use Rattle.cat_serve.specs.Workers.{ComesBack, Ends as BothEnds, ServesAll, first_split}
 use Rattle.cat_cli.specs.declared.serving.ServeOptions.{ServeOptions}
 
 -- ---- what is asked for, and what is seen of a listener
@@ -64,11 +64,12 @@ pub record IsListening {C : Type 0} (service : Service) (a b : Heard C) : Type 0
   pub out : IsTrue a.tells → b.out ≡ a.out
   pub twins : IsTrue a.tells → b.twins ≡ a.twins
 
--- and no connection was accepted
+-- and no connection was accepted; twins came back with what they were dealt
 pub record IsIdle {C : Type 0} (service : Service) (a b : Heard C) : Type 0 where
   pub listening : IsListening service a b
   pub waiting : IsTrue a.tells → b.waiting ≡ a.waiting
   pub returned : IsTrue a.tells → b.returned ≡ a.returned
+  pub back : IsTrue a.tells → ComesBack a.dealt a.rejoined b.rejoined
   pub level : CountStays a.faults b.faults
 
 -- or its own were all given, and no call of it or of a twin failed

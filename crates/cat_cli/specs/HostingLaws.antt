@@ -49,7 +49,7 @@ module _ {In Out : Type 0} (ends : BothEnds In Out) (desk : DeskId) (attempts : 
   groups_begin : (tells : Bool) (well : Type 0) (dealt : List (List (In × Out))) (number : ℕ) (p : Pass) (ahead : Option Readings) (q : Pass) (groups : List (List (In × Out))) (all : AllWorked ends desk attempts tells well dealt number p ahead q groups)
       → GroupsBegin tells well dealt number p ahead q groups all q
   groups_begin tells well dealt number p ahead q [] all = tt
-  groups_begin tells well dealt number p ahead q (group ∷ groups) (t, rest) = (worker_begins (number + length groups) p t.own q t.now t.given group t.worked, groups_begin tells well dealt number p ahead q groups rest)
+  groups_begin tells well dealt number p ahead q (group ∷ groups) (t, rest) = (worker_begins (number + length groups) p t.own q t.now t.given t.served t.worked, groups_begin tells well dealt number p ahead q groups rest)
 
   -- the last pass is the one which all others were joined to
   pub all_begin : (workers : ℕ) (tells : Bool) (waits waits_now back back_now : List (In × Out)) (groups groups_now dealt dealt_now : List (List (In × Out))) (faults faults_now : ℕ) (p : Pass) (ahead : Option Readings) (q : Pass) (now : Option Readings)

@@ -66,6 +66,10 @@ abbrev pub opened_format : List ℕ → ℕ
 opened_format [] = 2
 opened_format (byte ∷ bytes) = format_by (form_gate (byte ∷ bytes))
 
+-- a journal has the format that it had, or of an empty file that of a new one
+abbrev pub KeepsFormat : Option (List ℕ) → Option (List ℕ) → Type 0
+KeepsFormat journal left = IfSome journal (λ before. IfSome left (λ now. format_by (form_gate now) ≡ opened_format before))
+
 -- the last base of a journal of these bytes is of this place, which is 0 where there is none
 abbrev pub IsBasedAt : ℕ → List ℕ → Type 0
 IsBasedAt place bytes = first_of (payloads bytes) ≡ place
@@ -89,6 +93,10 @@ abbrev pub StandsFor : Option (List ℕ) → Option (List ℕ) → Type 0
 StandsFor told after =
     (before now : List ℕ) → told ≡ Some before → after ≡ Some now
     → (recovered now ≡ recovered before) ⊎ ((before ≡ []) × (length now ≤ length new_journal))
+
+-- the bytes are as they were; or there were none, and they are those of a new journal
+abbrev pub IsUntouched : List ℕ → List ℕ → Type 0
+IsUntouched before now = (now ≡ before) ⊎ ((before ≡ []) × (now ≡ new_journal))
 
 -- the bytes are a journal of the payloads, with its header
 abbrev pub IsJournalOf : List (List ℕ) → List ℕ → Type 0

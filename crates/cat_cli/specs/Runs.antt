@@ -16,10 +16,10 @@ use Rattle.cat_serve.specs.declared.ending.Session.TheVariants as ends
 use Rattle.cat_cli.specs.declared.unopened.Unopened.{Unopened}
 use Rattle.cat_cli.specs.declared.status.Status.{Status}
 use Rattle.cat_cli.specs.declared.status.Status.TheVariants as statuses
-use Rattle.cat_cli.specs.Journals.{Begins, IsBasedAt, IsJournalOf, StandsFor, opened_format, unopened_of}
+use Rattle.cat_cli.specs.Journals.{Begins, IsBasedAt, IsJournalOf, KeepsFormat, StandsFor, opened_format, unopened_of}
 use Rattle.cat_cli.specs.Lines.{check_line, disk_fault_line, migrated_line, no_memory_line, unopened_line}
 use Rattle.cat_serve.specs.Sessions.{AreAhead, Readings, ReadsOn, Fallen, Point, Standing, Ends, journal_from}
-use Rattle.cat_cli.specs.Surviving.{Grown, Images, Spared, Survives, bases_between}
+use Rattle.cat_cli.specs.Surviving.{Grown, Images, Spared, Survives, Unspoiled, bases_between}
 
 -- the process's status
 abbrev pub code_of : Status → ℕ
@@ -116,9 +116,15 @@ Refuses fell level s statuses.Unreadable = level × (why : Unopened) × unopened
 Refuses fell level s statuses.NoMemory = level × Tells no_memory_line s
 Refuses fell level s _ = ⊥
 
--- and the journal stands for what it did, after a crash too
+-- where no fault of the disk's is the reason, nothing was written, but a new journal where there were no bytes
+abbrev pub UnspoiledBy : Option (List ℕ) → Option (List ℕ) → Images → Status → Type 0
+UnspoiledBy journal left images statuses.Unreadable = Unspoiled journal left images
+UnspoiledBy journal left images statuses.NoMemory = Unspoiled journal left images
+UnspoiledBy journal left images _ = Unit {0}
+
+-- and the journal stands for what it did, after a crash too; unless a fault of the disk's is the reason, its bytes are as they were, or of an empty file those of a new journal
 abbrev pub RefusesSo : Type 0 → Type 0 → Seen → Status → Type 0
-RefusesSo fell level s status = Refuses fell level s status × StandsFor s.journal s.left × Spared s.journal s.left s.images
+RefusesSo fell level s status = Refuses fell level s status × StandsFor s.journal s.left × Spared s.journal s.left s.images × UnspoiledBy s.journal s.left s.images status
 
 -- ---- a script
 
@@ -130,7 +136,7 @@ start journal book bytes written = record { left = 1000; standing = record { ses
 abbrev pub grown : List (List ℕ) → Opened → Book → List LogEntry → ℕ → Option (List ℕ) → Grown
 grown payloads o book added bases flying = record { had = payloads; opened = o; begun = reverse book.log; added = added; bases = bases; flying = flying }
 
--- a session on the journal's catalogue, in the format that the journal has once it is opened, ended so, and the journal keeps its entries, and has a base more for each checkpoint that was accepted, after a crash too; its base is then that of the session's last accepted checkpoint, or the one that it had, where no append failed; where an append failed, to is so of the count of faults that is told of it; and to_come is so of how many readings were taken
+-- a session on the journal's catalogue, in the format that the journal has once it is opened, ended so, and the journal keeps its entries, and has a base more for each checkpoint that was accepted, after a crash too; its base is then that of the session's last accepted checkpoint, or the one that it had, where no append failed; it has the format still; where an append failed, to is so of the count of faults that is told of it; and to_come is so of how many readings were taken
 pub record Ran (to : ℕ → Type 0) (clock : Readings) (to_come : ℕ → Type 0) (bytes : List ℕ) (unread : Option (List ℕ)) (s : Seen) (end : End) : Type 0 where
   pub payloads : List (List ℕ)
   pub opened : Opened
@@ -146,6 +152,7 @@ pub record Ran (to : ℕ → Type 0) (clock : Readings) (to_come : ℕ → Type 
   pub grows : last.session.book.log ≡ reverse added ++ book.log
   pub crash : Survives s.journal s.left s.images (grown payloads opened book added (bases_between bases last.session.journal.bases) (option_map (λ (f : Fallen). f.payload) last.fallen))
   pub based : last.fallen ≡ None → IfSome s.left (IsBasedAt last.session.journal.base)
+  pub format_stays : KeepsFormat s.journal s.left
   pub cause : IfSome last.fallen (λ f. to f.count)
   pub reads_on : to_come last.session.readings
 
@@ -177,16 +184,16 @@ Answers to stays clock to_come bytes unread s statuses.WriteFault = Ran to clock
 Answers to stays clock to_come bytes unread s statuses.NoMemory = Ran to clock to_come bytes unread s ends.NoMemory
 Answers to stays clock to_come bytes unread s _ = ⊥
 
--- what a run of `script` does with these readings, by its status; the clock tells ahead before it, and then what is to come: where no session was held it wasn't read
-abbrev pub Says : Type 0 → (ℕ → Type 0) → Type 0 → Readings → Option Readings → Option Readings → List ℕ → Option (List ℕ) → Seen → Status → Type 0
-Says fell to stays clock ahead to_come bytes unread s status = Answers to stays clock (ReadsOn ahead to_come) bytes unread s status ⊎ (RefusesSo fell stays s status × (to_come ≡ ahead))
+-- what a run of `script` does with these readings, by its status; the clock tells ahead before it, and then what is to come: where no session was held neither the source nor the clock was read, which untouched says
+abbrev pub Says : Type 0 → (ℕ → Type 0) → Type 0 → Type 0 → Readings → Option Readings → Option Readings → List ℕ → Option (List ℕ) → Seen → Status → Type 0
+Says fell to stays untouched clock ahead to_come bytes unread s status = Answers to stays clock (ReadsOn ahead to_come) bytes unread s status ⊎ (RefusesSo fell stays s status × untouched)
 
 -- the same where the source and the sink tell what they have, by some readings: the clock's own, where it tells them
-abbrev pub SaysKnown : Type 0 → (ℕ → Type 0) → Type 0 → Option Readings → Option Readings → Option (List ℕ) → Option (List ℕ) → Option (List ℕ) → Status → Option (List ℕ) → ℕ → ℕ → Option (List ℕ) → Option (List ℕ) → Images → Type 0
-SaysKnown fell to stays ahead to_come bytes unread held status after before now journal left images =
+abbrev pub SaysKnown : Type 0 → (ℕ → Type 0) → Type 0 → Type 0 → Option Readings → Option Readings → Option (List ℕ) → Option (List ℕ) → Option (List ℕ) → Status → Option (List ℕ) → ℕ → ℕ → Option (List ℕ) → Option (List ℕ) → Images → Type 0
+SaysKnown fell to stays untouched ahead to_come bytes unread held status after before now journal left images =
     (b w : List ℕ) → bytes ≡ Some b → held ≡ Some w
     → (clock : Readings) × AreAhead ahead clock
-    × (h : List ℕ) × (after ≡ Some h) × Says fell to stays clock ahead to_come b unread (record { written = w; held = h; before = before; now = now; journal = journal; left = left; images = images }) status
+    × (h : List ℕ) × (after ≡ Some h) × Says fell to stays untouched clock ahead to_come b unread (record { written = w; held = h; before = before; now = now; journal = journal; left = left; images = images }) status
 
 -- ---- a check
 
@@ -199,10 +206,15 @@ pub record Opens (journal left : Option (List ℕ)) (images : Images) (book : Bo
   pub ends : IfSome left (λ bytes. (c : List ℕ) → images.after c → c ≡ bytes)
   pub crash : Spared journal left images
 
+-- and nothing was written, but a new journal where there were no bytes
+pub record OpensStill (journal left : Option (List ℕ)) (images : Images) (book : Book) : Type 0 where
+  pub opens : Opens journal left images book
+  pub same : Unspoiled journal left images
+
 -- its catalogue was counted, by the status; stays says that the disks' count of faults is as it was
 abbrev pub Counts : Type 0 → Seen → Status → Type 0
-Counts stays s statuses.Done = (book : Book) × Opens s.journal s.left s.images book × (s.held ≡ s.written ++ check_line book) × stays
-Counts stays s statuses.WriteFault = (book : Book) × Opens s.journal s.left s.images book × IsFront (check_line book) s.written s.held s.before s.now × stays
+Counts stays s statuses.Done = (book : Book) × OpensStill s.journal s.left s.images book × (s.held ≡ s.written ++ check_line book) × stays
+Counts stays s statuses.WriteFault = (book : Book) × OpensStill s.journal s.left s.images book × IsFront (check_line book) s.written s.held s.before s.now × stays
 Counts stays s _ = ⊥
 
 -- what a run of `check` does, by its status

@@ -6,6 +6,7 @@ use Rattle.cat_io.specs.Causes.{Rose}
 use Rattle.cat_checks.specs.Histories.{IsLegalFrom}
 use Rattle.cat_desk.specs.Pass.{DeskId, mark_of, number_of, seen}
 use Rattle.cat_desk.specs.declared.pass.Pass.{Pass}
+use Rattle.cat_keeper.specs.Bases.{base_count}
 use Rattle.cat_model.specs.declared.log_entry.LogEntry.{LogEntry}
 use Rattle.cat_model.specs.Book.{Book}
 use Rattle.cat_model.specs.Mark.{FailedAppend}
@@ -19,9 +20,9 @@ use Rattle.cat_cli.specs.declared.status.Status.TheVariants as statuses
 use Rattle.cat_cli.specs.declared.unopened.Unopened.{Unopened}
 use Rattle.cat_cli.specs.Hosting.{Comes, Heard, Service, WorksOn}
 use Rattle.cat_cli.specs.HostingLaws.{AllBegin}
-use Rattle.cat_cli.specs.Journals.{Begins, StandsFor, unopened_of}
+use Rattle.cat_cli.specs.Journals.{Begins, KeepsFormat, StandsFor, opened_format, unopened_of}
 use Rattle.cat_cli.specs.Lines.{listener_fault_line, no_memory_line}
-use Rattle.cat_cli.specs.Runs.{Opens, Refuses, TellsKnown, grown}
+use Rattle.cat_cli.specs.Runs.{OpensStill, Refuses, TellsKnown, UnspoiledBy, grown}
 use Rattle.cat_cli.specs.Shares.{AreMade, AreOf, CallerWasTold, all_shares}
 use Rattle.cat_cli.specs.Surviving.{Images, Spared, Survives, bases_between}
 
@@ -35,7 +36,7 @@ flying_at p = option_map (λ (f : FailedAppend). f.payload) (mark_of p).fault
 abbrev pub bases_made : Pass → Pass → ℕ
 bases_made first last = bases_between (mark_of first).bases (mark_of last).bases
 
--- A desk was made of the catalogue of the journal, workers served on its passes, whose numbers are 1 and those from 2 on, and the journal keeps the entries of all that they changed, and has a base more for each checkpoint that the marks tell of: the log at the end begins with the one that was opened, each of its entries is legal where it stands, and what each session's pass had seen is a beginning of it. What was added is of the workers, and of each of them just the entries that its requests made, in their order. No append had failed before, and no call of the keeper, and the mark of each session's pass grew to that of the last one. Where an append failed, a request of the worker whose it was was told so, and to is so of the count of faults that is told of it.
+-- A desk was made of the catalogue of the journal, workers served on its passes, whose numbers are 1 and those from 2 on, and the journal keeps the entries of all that they changed, and has a base more for each checkpoint that the marks tell of: the log at the end begins with the one that was opened, each of its entries is legal where it stands, and what each session's pass had seen is a beginning of it. What was added is of the workers, and of each of them just the entries that its requests made, in their order. No append had failed before, and no call of the keeper; the first mark tells the format that the journal has once it is opened, the place of its last base, how many bases it has, and the book's last draft number, and no sweep; the journal has that format at the end; and the mark of each session's pass grew to that of the last one. Where an append failed, a request of the worker whose it was was told so, and to is so of the count of faults that is told of it.
 pub record Hosted {In Out : Type 0} (ends : BothEnds In Out) (to : ℕ → Type 0) (service : Service) (a b : Heard (In × Out)) (ahead now : Option Readings) (journal left : Option (List ℕ)) (images : Images) : Type 0 where
   pub payloads : List (List ℕ)
   pub started : Opened
@@ -49,6 +50,11 @@ pub record Hosted {In Out : Type 0} (ends : BothEnds In Out) (to : ℕ → Type 
   pub begun : desk.begun ≡ reverse book.log
   pub saw : seen first ≡ desk.begun
   pub clean : (mark_of first).fault ≡ None
+  pub formed : IfSome journal (λ bytes. (mark_of first).format ≡ opened_format bytes)
+  pub based : (mark_of first).base ≡ started.state.place
+  pub counted : IfSome journal (λ bytes. (mark_of first).bases ≡ Some (base_count payloads))
+  pub drafted : (mark_of first).draft ≡ book.draft
+  pub unswept : (mark_of first).sweep ≡ None
   pub number_is : number_of first ≡ 1
   pub splits : first_split first ≡ 2
   pub works : WorksOn ends service a b desk first ahead last now
@@ -59,6 +65,7 @@ pub record Hosted {In Out : Type 0} (ends : BothEnds In Out) (to : ℕ → Type 
   pub theirs : AreOf (all_shares ends desk service.attempts works.serves) added
   pub made : AreMade added (all_shares ends desk service.attempts works.serves)
   pub crash : Survives journal left images (grown payloads started book added (bases_made first last) (flying_at last))
+  pub format_stays : KeepsFormat journal left
   pub cause : IfSome (mark_of last).fault (λ f. to f.count)
   pub told : IfSome (mark_of last).fault (λ f. CallerWasTold f (all_shares ends desk service.attempts works.serves))
 
@@ -66,9 +73,9 @@ pub record Hosted {In Out : Type 0} (ends : BothEnds In Out) (to : ℕ → Type 
 abbrev pub HostedWell : {In Out : Type 0} → BothEnds In Out → (ℕ → Type 0) → Service → Heard (In × Out) → Heard (In × Out) → Option Readings → Option Readings → Option (List ℕ) → Option (List ℕ) → Images → Type 0
 HostedWell ends to service a b ahead now journal left images = (h : Hosted ends to service a b ahead now journal left images) × ((mark_of h.last).fault ≡ None)
 
--- or the journal was opened, and stands for what it did; paused says that the clock wasn't read
+-- or the journal was opened, and nothing was written, but a new journal where there were no bytes; paused says that the clock wasn't read
 abbrev pub OpenedOnly : Type 0 → Option (List ℕ) → Option (List ℕ) → Images → Type 0
-OpenedOnly paused journal left images = (book : Book) × Opens journal left images book × paused
+OpenedOnly paused journal left images = (book : Book) × OpensStill journal left images book × paused
 
 -- ---- the sink
 
@@ -118,12 +125,13 @@ RefusedFor fell level journal statuses.Unreadable = level × (why : Unopened) ×
 RefusedFor fell level journal statuses.NoMemory = level
 RefusedFor fell level journal _ = ⊥
 
--- none was opened: that is told where the sink tells, the journal stands for what it did, after a crash too, and the listener and the clock are untouched
+-- none was opened: that is told where the sink tells, the journal stands for what it did, after a crash too, its bytes are as they were unless a fault of the disk's is the reason, or of an empty file those of a new journal, and the listener and the clock are untouched
 pub record RefusesKnown (fell level untouched : Type 0) (k : Sunk) (journal left : Option (List ℕ)) (images : Images) (status : Status) : Type 0 where
   pub cause : RefusedFor fell level journal status
   pub told : (w : List ℕ) → k.held ≡ Some w → (h : List ℕ) × (k.after ≡ Some h) × Refuses fell level (record { written = w; held = h; before = k.before; now = k.now; journal = journal; left = left; images = images }) status
   pub stands : StandsFor journal left
   pub spared : Spared journal left images
+  pub unspoiled : UnspoiledBy journal left images status
   pub still : untouched
 
 -- what a run of `serve` does

@@ -13,7 +13,7 @@ use Rattle.cat_model.specs.declared.log_entry.LogEntry.{LogEntry}
 use Rattle.cat_model.specs.Book.{Book}
 use Rattle.cat_model.specs.Turns.{Opened}
 use Rattle.cat_state.specs.Kept.{spellings}
-use Rattle.cat_cli.specs.Journals.{Holds}
+use Rattle.cat_cli.specs.Journals.{Holds, IsUntouched, opened_format}
 
 -- ---- what is known of the disk
 
@@ -118,7 +118,7 @@ pub record EndsSo (journal : Option (List ℕ)) (images : Images) (g : Grown) (b
   pub holds : Holds payloads g.flying bytes
   pub ends : (c : List ℕ) → images.after c → EndsAt payloads g.flying bytes c
 
--- What a crash leaves of a journal, which is opened again. At the end all that was there and all that was added; at each moment of the run all that was there and some front of what was added, or what one might have left before the run, or no more than a new journal has. Where an append or a checkpoint failed its payload counts as the last, which a crash may leave or not.
+-- What a crash leaves of a journal. At the end all that was there and all that was added; at each moment of the run all that was there and some front of what was added, or what one might have left before the run, or no more than a new journal has. What is left at the end is opened again, and so is what is left at a moment, but for what one might have left before and for a new journal that isn't whole, of which that isn't said. Where an append or a checkpoint failed its payload counts as the last, which a crash may leave or not.
 pub record Survives (journal left : Option (List ℕ)) (images : Images) (g : Grown) : Type 0 where
   pub at_the_end : IfSome left (EndsSo journal images g)
   pub at_any_moment : IfSome journal (λ bytes. IfSome left (λ now. (c : List ℕ) → images.since c → IsEarlier images.before journal c ⊎ IsOnTheWay g c))
@@ -126,6 +126,10 @@ pub record Survives (journal left : Option (List ℕ)) (images : Images) (g : Gr
 -- A crash at any moment of a run that adds nothing leaves what one might have left before it, or bytes that stand for what the journal did.
 abbrev pub Spared : Option (List ℕ) → Option (List ℕ) → Images → Type 0
 Spared journal left images = IfSome journal (λ bytes. IfSome left (λ now. (c : List ℕ) → images.since c → IsEarlier images.before journal c ⊎ (recovered c ≡ recovered bytes)))
+
+-- Nothing was written, but a new journal where there were no bytes: the bytes are as they were, or those of a new journal, and a crash at any moment of the run leaves what one might have left before it, or no more than a new journal has where there were no bytes.
+abbrev pub Unspoiled : Option (List ℕ) → Option (List ℕ) → Images → Type 0
+Unspoiled journal left images = IfSome journal (λ before. IfSome left (λ now. IsUntouched before now × ((c : List ℕ) → images.since c → IsEarlier images.before journal c)))
 
 -- ---- on a store, while its keeper is watched
 
@@ -140,6 +144,29 @@ pub record IsBegun (since : ℕ) (had : List (List ℕ)) (early : List ℕ → T
   pub had_is : had ≡ had_in told
   pub early_from : (c : List ℕ) → IsEarlier may_leave told c → early c
   pub early_to : (c : List ℕ) → early c → IsEarlier may_leave told c
+
+-- what a crash might have left of a disk since a moment, or might leave once a journal is opened there
+abbrev pub past_of : (List ℕ → Type 0) → (ℕ → List ℕ → Type 0) → Option (List ℕ) → ℕ → List ℕ → Type 0
+past_of may_leave left_since told t c = left_since t c ⊎ IsEarlier may_leave told c
+
+-- the bytes that a disk has once a journal is opened there, where it tells its own
+abbrev pub began_of : Option (List ℕ) → List ℕ → Type 0
+began_of told c = IfSome told (λ bytes. IsUntouched bytes c)
+
+-- the format that its journal has then
+abbrev pub shape_of : Option (List ℕ) → ℕ → Type 0
+shape_of told n = IfSome told (λ bytes. n ≡ opened_format bytes)
+
+-- the bytes of a disk, how many payloads they have, and their format are known from here on
+pub record IsStoodOn (since count : ℕ) (past : ℕ → List ℕ → Type 0) (began : List ℕ → Type 0) (shape : ℕ → Type 0) (told : Option (List ℕ)) (moment : ℕ) (may_leave : List ℕ → Type 0) (left_since : ℕ → List ℕ → Type 0) : Type 0 where
+  pub since_is : since ≡ moment
+  pub count_is : count ≡ length (had_in told)
+  pub past_from : (t : ℕ) (c : List ℕ) → past_of may_leave left_since told t c → past t c
+  pub past_to : (t : ℕ) (c : List ℕ) → past t c → past_of may_leave left_since told t c
+  pub began_from : (c : List ℕ) → began_of told c → began c
+  pub began_to : (c : List ℕ) → began c → began_of told c
+  pub shape_from : (n : ℕ) → shape_of told n → shape n
+  pub shape_to : (n : ℕ) → shape n → shape_of told n
 
 -- the bytes hold a legal log that a keeper of these payloads keeps, which go on from those that there were, and are opened; and what a crash leaves of it, and might have left since a moment
 pub record LeavesLog (since : ℕ) (had : List (List ℕ)) (early may_leave : List ℕ → Type 0) (left_since : ℕ → List ℕ → Type 0) (o : Opened) (log : List LogEntry) (kept : Option (List (List ℕ))) (flying : Option (List ℕ)) (bytes : List ℕ) : Type 0 where

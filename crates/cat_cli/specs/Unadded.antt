@@ -13,6 +13,10 @@ pub record IsStillSo (since count : ℕ) (past : ℕ → List ℕ → Type 0) (b
   pub left : flying ≡ None → length ps ≡ count → (b : List ℕ) → bytes_left b → began b
   pub each : flying ≡ None → length ps ≡ count → (t : ℕ) (b : List ℕ) → t ≤ since → bytes_since t b → past t b ⊎ began b
 
+-- of a format nothing is said
+abbrev pub any_shape : ℕ → Type 0
+any_shape n = Unit {0}
+
 -- so it is of a keeper, where its payloads are told
 abbrev pub IsStill : {K : Type 0} → (K → Option (List (List ℕ))) → (K → Option (List ℕ)) → (K → ℕ) → (K → List ℕ → Type 0) → (K → ℕ → List ℕ → Type 0) → ℕ → ℕ → (ℕ → List ℕ → Type 0) → (List ℕ → Type 0) → K → Type 0
 IsStill told in_flight moment bytes_left bytes_since since count past began keeper =

@@ -6,12 +6,13 @@ ghost use Rattle.cat_io.specs.Places.{OthersStay};
 ghost use Rattle.cat_cli.specs.Journals.{DisksFell, IsBack, StandsFor, told_at};
 ghost use Rattle.cat_cli.specs.Lines.{check_line, counts_line};
 ghost use Rattle.cat_cli.specs.Opening.{CountedKnown, IsReason};
-ghost use Rattle.cat_cli.specs.Runs.{ChecksKnown, Opens, spares_disks, tells_all};
-ghost use Rattle.cat_cli.specs.Surviving.{IsBegun, Spared, images_at, images_of};
+ghost use Rattle.cat_cli.specs.Runs.{ChecksKnown, OpensStill, spares_disks, tells_all};
+ghost use Rattle.cat_cli.specs.Surviving.{IsBegun, IsStoodOn, Spared, Unspoiled, images_at, images_of};
 ghost use Rattle.cat_model.specs.Book.{Book};
 
 use crate::journal::{disk_of, store_on};
 use crate::status::Status;
+use crate::still::Stood;
 use crate::unopened::{Unopened, refuse};
 use cat_codes::fault::NoMemory;
 use cat_core::{Counts, Store};
@@ -66,26 +67,35 @@ pub(crate) fn tell_line<K: Sink>(line: &str, sink: &mut K) -> Status
     }
 }
 
-// The line of the journal of a disk, or why there is none. The disk comes back. It is watched what
-// a crash might have left of it since it was given here.
-fn line_on<B: Since + Send, D: Disk + Send>(alloc: Global, disk: D) -> (D, Result<String, Unopened>)
+// The line of the journal of a disk, or why there is none. The disk comes back, and where it didn't
+// fail, with the bytes that it had; an empty one maybe with those of a new journal. It is watched
+// what a crash might have left of it since it was given here.
+fn line_on<B: Since + Send, T: Stood + Send, D: Disk + Send>(
+    alloc: Global,
+    disk: D,
+) -> (D, Result<String, Unopened>)
     requires begun { IsBegun B.since B.had B.before (D.told disk) (D.moment disk)
         (D.may_leave disk) }
+    requires stood { IsStoodOn T.since T.count T.past T.began T.shape (D.told disk)
+        (D.moment disk) (D.may_leave disk) (D.left_since disk) }
     requires fresh { D.faults disk ≡ 0 }
     ensures line { IfOk result.1
         (λ line. (book : Book) × (string_bytes line ≡ check_line book)
-        × Opens (D.told disk) (D.told result.0)
+        × OpensStill (D.told disk) (D.told result.0)
         (images_of D.may_leave D.moment D.left_since disk result.0) book) }
     ensures reason { IfErr result.1 (λ why. IsReason (D.told disk) why) }
     ensures stands { IfErr result.1 (λ _. StandsFor (D.told disk) (D.told result.0)) }
     ensures spared { IfErr result.1
         (λ _. Spared (D.told disk) (D.told result.0)
         (images_of D.may_leave D.moment D.left_since disk result.0)) }
+    ensures unspoiled { IfErr result.1
+        (λ why. why ≢ Unopened.Fault → Unspoiled (D.told disk) (D.told result.0)
+        (images_of D.may_leave D.moment D.left_since disk result.0)) }
     ensures cause { IfErr result.1 (λ why. why ≡ Unopened.Fault → Rose 0 (D.faults result.0)) }
     ensures level { MatchResult result.1 (λ _. D.faults result.0 ≡ 0)
         (λ why. why ≢ Unopened.Fault → D.faults result.0 ≡ 0) }
 {
-    match store_on::<B, D>(alloc, disk) {
+    match store_on::<B, T, D>(alloc, disk) {
         Ok(store) => {
             let line = check_line(alloc, &store);
             let disk = disk_of(store);
@@ -128,7 +138,7 @@ pub(crate) fn check<O: Disks, K: Sink>(
     let Ok(disk) = disks.open(path) else {
         return refuse(alloc, Unopened::Fault, sink);
     };
-    let (disk, line) = line_on::<Brand, O::D>(alloc, disk);
+    let (disk, line) = line_on::<Brand, Brand, O::D>(alloc, disk);
     disks.back(path, disk);
     match line {
         Ok(line) => tell_line(line.as_str(), sink),

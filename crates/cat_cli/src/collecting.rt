@@ -12,11 +12,12 @@ ghost use Rattle.cat_cli.specs.Journals.{DisksFell, IsBack, StandsFor, told_at};
 ghost use Rattle.cat_cli.specs.Lines.{limit_line, no_memory_line, swept_line, usage_line};
 ghost use Rattle.cat_cli.specs.Opening.{IsReason};
 ghost use Rattle.cat_cli.specs.Runs.{TellsKnown, spares_disks, tells_all};
-ghost use Rattle.cat_cli.specs.Surviving.{IsBegun, Spared, images_at, images_of};
+ghost use Rattle.cat_cli.specs.Surviving.{IsBegun, IsStoodOn, Spared, Unspoiled, images_at, images_of};
 
 use crate::journal::{disk_of, store_on};
 use crate::scripting::MARKERS;
 use crate::status::Status;
+use crate::still::Stood;
 use crate::telling::{tell, tell_no_memory};
 use crate::unopened::{Unopened, refuse};
 use cat_codes::fault::NoMemory;
@@ -110,7 +111,13 @@ fn hold_collection<R: Threads + Wait + Sync, K0: Keeper, C: Clock>(
 
 // A collection on the catalogue of the journal of a disk; or why none was made. The disk comes
 // back. It is watched what a crash might have left of it since it was given here.
-fn collection_on<B: Since + Send, R: Threads + Wait + Sync, D: Disk + Send, C: Clock>(
+fn collection_on<
+    B: Since + Send,
+    T: Stood + Send,
+    R: Threads + Wait + Sync,
+    D: Disk + Send,
+    C: Clock,
+>(
     rt: &R,
     alloc: Global,
     disk: D,
@@ -119,6 +126,8 @@ fn collection_on<B: Since + Send, R: Threads + Wait + Sync, D: Disk + Send, C: C
 ) -> (D, Result<Collected, Unopened>)
     requires begun { IsBegun B.since B.had B.before (D.told disk) (D.moment disk)
         (D.may_leave disk) }
+    requires stood { IsStoodOn T.since T.count T.past T.began T.shape (D.told disk)
+        (D.moment disk) (D.may_leave disk) (D.left_since disk) }
     requires fresh { D.faults disk ≡ 0 }
     requires few { HasFew policy.now }
     requires counts { HasCounts policy.now }
@@ -131,11 +140,14 @@ fn collection_on<B: Since + Send, R: Threads + Wait + Sync, D: Disk + Send, C: C
     ensures spared { IfErr result.1
         (λ _. Spared (D.told disk) (D.told result.0)
         (images_of D.may_leave D.moment D.left_since disk result.0)) }
+    ensures unspoiled { IfErr result.1
+        (λ why. why ≢ Unopened.Fault → Unspoiled (D.told disk) (D.told result.0)
+        (images_of D.may_leave D.moment D.left_since disk result.0)) }
     ensures cause { IfErr result.1 (λ why. why ≡ Unopened.Fault → Rose 0 (D.faults result.0)) }
     ensures level { IfErr result.1 (λ why. why ≢ Unopened.Fault → D.faults result.0 ≡ 0) }
     ensures paused { IfErr result.1 (λ _. clock.new ≡ clock.old) }
 {
-    match store_on::<B, D>(alloc, disk) {
+    match store_on::<B, T, D>(alloc, disk) {
         Ok(store) => match hold_collection(rt, alloc, store, policy, clock) {
             Ok((store, what)) => (disk_of(store), Ok(what)),
             Err((store, _)) => (disk_of(store), Err(Unopened::NoMemory)),
@@ -263,7 +275,7 @@ fn collect_at<R: Threads + Wait + Sync, O: Disks, K: Sink, C: Clock>(
     let Ok(disk) = disks.open(path) else {
         return refuse(alloc, Unopened::Fault, sink);
     };
-    let (disk, done) = collection_on::<Brand, R, O::D, C>(rt, alloc, disk, policy, clock);
+    let (disk, done) = collection_on::<Brand, Brand, R, O::D, C>(rt, alloc, disk, policy, clock);
     let failed = disk.fault_count() > 0;
     disks.back(path, disk);
     match done {

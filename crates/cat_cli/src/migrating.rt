@@ -6,16 +6,16 @@ ghost use Rattle.cat_io.specs.Crashes.{Only, Told};
 ghost use Rattle.cat_io.specs.Places.{OthersStay};
 ghost use Rattle.cat_core.specs.Opening.{IsIllegalAt, IsLedTo};
 ghost use Rattle.cat_journal.specs.Frames.{form_gate, is_newer, recovered};
-ghost use Rattle.cat_journal.specs.Reading.{IsMigrated, MigratesOnly};
+ghost use Rattle.cat_journal.specs.Reading.{IsMigrated, MigratesOnly, OnlyReads};
 ghost use Rattle.cat_model.specs.Book.{Book};
 ghost use Rattle.cat_model.specs.Limits.{program_limits};
 ghost use Rattle.cat_model.specs.Turns.{Opened};
 ghost use Rattle.cat_cli.specs.Journals.{Begins, DisksFell, IsBack, IsJournalOf, StandsFor, told_at};
 ghost use Rattle.cat_cli.specs.Lines.{migrated_line};
-ghost use Rattle.cat_cli.specs.Migrating.{IsOpenedAs, SparesOnly};
+ghost use Rattle.cat_cli.specs.Migrating.{IsLookedAt, IsOpenedAs, SparesOnly};
 ghost use Rattle.cat_cli.specs.Opening.{IsReason};
 ghost use Rattle.cat_cli.specs.Runs.{Migrates, MigratesKnown, spares_disks, tells_all};
-ghost use Rattle.cat_cli.specs.Surviving.{Spared, images_at, images_of};
+ghost use Rattle.cat_cli.specs.Surviving.{Spared, Unspoiled, images_at, images_of};
 ghost use Rattle.cat_cli.specs.Unadded.{IsStill};
 
 use crate::checking::tell_line;
@@ -51,6 +51,9 @@ fn renew<D: Disk + Send>(alloc: Global, disk: D) -> (D, Result<(), Unopened>)
     ensures stands { IfErr result.1
         (λ _. Told (D.told disk) (D.told result.0)
         (λ before after. 0 < length before → recovered after ≡ recovered before)) }
+    ensures unwritten { IfErr result.1
+        (λ why. why ≢ Unopened.Fault → IfSome (D.told disk) (λ bytes. 0 < length bytes
+        → OnlyReads D.told D.may_leave D.moment D.left_since disk result.0)) }
     ensures images { IfSome (D.told disk)
         (MigratesOnly D.may_leave D.moment D.left_since disk result.0) }
     ensures cause { IfErr result.1
@@ -74,6 +77,7 @@ fn count_on<B: Stood + Send, D: Disk + Send>(
     requires begun { IsStill ⟦<Journal<D> as Keeper>⟧.told ⟦<Journal<D> as Keeper>⟧.in_flight
         ⟦<Journal<D> as Keeper>⟧.moment ⟦<Journal<D> as Keeper>⟧.bytes_left
         ⟦<Journal<D> as Keeper>⟧.bytes_since B.since B.count B.past B.began journal }
+    requires shaped { B.shape (⟦<Journal<D> as Keeper>⟧.form journal) }
     ensures counted { IfOk result.1
         (λ place. (o : Opened) × (book : Book) × (place ≡ book.state.place)
         × IsLedTo (⟦<Journal<D> as Keeper>⟧.told journal) (⟦<Journal<D> as Keeper>⟧.kept journal)
@@ -118,6 +122,10 @@ fn place_on<D: Disk + Send>(alloc: Global, disk: D) -> (D, Result<u32, Unopened>
         (SparesOnly D.may_leave D.moment D.left_since disk result.0) }
     ensures reason { IfErr result.1 (λ why. IsReason (D.told disk) why) }
     ensures stands { StandsFor (D.told disk) (D.told result.0) }
+    ensures looked { MatchResult result.1
+        (λ _. IsLookedAt D.told D.may_leave D.moment D.left_since disk result.0)
+        (λ why. why ≢ Unopened.Fault
+        → IsLookedAt D.told D.may_leave D.moment D.left_since disk result.0) }
     ensures cause { IfErr result.1
         (λ why. why ≡ Unopened.Fault → Rose (D.faults disk) (D.faults result.0)) }
     ensures level { MatchResult result.1 (λ _. D.faults result.0 ≡ D.faults disk)
@@ -148,6 +156,9 @@ fn line_on<D: Disk + Send>(alloc: Global, disk: D) -> (D, Result<String, Unopene
     ensures stands { IfErr result.1 (λ _. StandsFor (D.told disk) (D.told result.0)) }
     ensures spared { IfErr result.1
         (λ _. Spared (D.told disk) (D.told result.0)
+        (images_of D.may_leave D.moment D.left_since disk result.0)) }
+    ensures unspoiled { IfErr result.1
+        (λ why. why ≢ Unopened.Fault → Unspoiled (D.told disk) (D.told result.0)
         (images_of D.may_leave D.moment D.left_since disk result.0)) }
     ensures cause { IfErr result.1 (λ why. why ≡ Unopened.Fault → Rose 0 (D.faults result.0)) }
     ensures level { MatchResult result.1 (λ _. D.faults result.0 ≡ 0)

@@ -70,20 +70,24 @@ pub fn run<R: Threads + Wait + Sync, O: Disks, S: Source, K: Sink, C: Clock + Dr
     // Its base is that of the last checkpoint among them, or the one that it had.
     // Where a read failed, no whole request was read that isn't answered. A crash at any moment
     // leaves a journal with the old entries and a front of these, or what one might have left
-    // before.
+    // before. Where no session was held neither the source nor the clock was read, and the journal
+    // stands for what it did: its bytes are as they were, unless a fault of the disks is told, or
+    // of an empty file those of a new journal. So it is of each command that opens no catalogue.
     ensures replies { (journal : List ℕ)
         → asked (map (λ word. word.now) words.now) ≡ Some (script journal)
         → SaysKnown
         (DisksFell (O.refuses disks.old journal) O.D.faults (O.at_path disks.new journal)
         (O.faults disks.old) (O.faults disks.new))
         (RoseBy (O.faults disks.old) (O.faults disks.new))
-        (O.faults disks.new ≡ O.faults disks.old) (C.ahead clock.old) (C.ahead clock.new)
-        (S.left source.old) (S.left source.new) (K.held sink.old) result (K.held sink.new)
+        (O.faults disks.new ≡ O.faults disks.old)
+        ((source.new ≡ source.old) × (clock.new ≡ clock.old)) (C.ahead clock.old)
+        (C.ahead clock.new) (S.left source.old) (S.left source.new) (K.held sink.old) result (K.held sink.new)
         (K.faults sink.old) (K.faults sink.new) (told_at O.D.told (O.at_path disks.old journal))
         (told_at O.D.told (O.at_path disks.new journal))
         (images_at O.D.may_leave O.D.moment O.D.left_since (O.at_path disks.old journal)
         (O.at_path disks.new journal)) }
-    // What a check writes is the line of the catalogue that the journal's entries lead to.
+    // What a check writes is the line of the catalogue that the journal's entries lead to. The
+    // journal's bytes are as they were, or of an empty file those of a new journal.
     ensures checked { (journal : List ℕ)
         → asked (map (λ word. word.now) words.now) ≡ Some (check journal)
         → ChecksKnown

@@ -8,11 +8,12 @@ ghost use Rattle.cat_cli.specs.Journals.{DisksFell, IsBack, RoseBy, StandsFor, t
 ghost use Rattle.cat_cli.specs.Opening.{IsReason, status_of};
 ghost use Rattle.cat_cli.specs.Runs.{CountedBy, RanKnown, SaysKnown, spares_disks, tells_all};
 ghost use Rattle.cat_cli.specs.Stores.{RunsKnown};
-ghost use Rattle.cat_cli.specs.Surviving.{IsBegun, Spared, images_at, images_of};
+ghost use Rattle.cat_cli.specs.Surviving.{IsBegun, IsStoodOn, Spared, Unspoiled, images_at, images_of};
 ghost use Rattle.cat_model.specs.Drafts.{nothing_open};
 
 use crate::journal::{disk_of, store_on};
 use crate::status::Status;
+use crate::still::Stood;
 use crate::unopened::{Unopened, refuse};
 use cat_codes::fault::NoMemory;
 use cat_core::Store;
@@ -102,6 +103,7 @@ fn hold_session<R: Threads + Wait + Sync, K0: Keeper, S: Source, K: Sink, C: Clo
 // disk comes back. It is watched what a crash might have left of it since it was given here.
 fn session_on<
     B: Since + Send,
+    T: Stood + Send,
     R: Threads + Wait + Sync,
     D: Disk + Send,
     S: Source,
@@ -117,6 +119,8 @@ fn session_on<
 ) -> (D, Result<Session, Unopened>)
     requires begun { IsBegun B.since B.had B.before (D.told disk) (D.moment disk)
         (D.may_leave disk) }
+    requires stood { IsStoodOn T.since T.count T.past T.began T.shape (D.told disk)
+        (D.moment disk) (D.may_leave disk) (D.left_since disk) }
     requires fresh { D.faults disk ≡ 0 }
     ensures ran { IfOk result.1
         (λ end. RanKnown (CountedBy (D.faults result.0)) (C.ahead clock.old) (C.ahead clock.new)
@@ -136,12 +140,15 @@ fn session_on<
     ensures spared { IfErr result.1
         (λ _. Spared (D.told disk) (D.told result.0)
         (images_of D.may_leave D.moment D.left_since disk result.0)) }
+    ensures unspoiled { IfErr result.1
+        (λ why. why ≢ Unopened.Fault → Unspoiled (D.told disk) (D.told result.0)
+        (images_of D.may_leave D.moment D.left_since disk result.0)) }
     ensures cause { IfErr result.1 (λ why. why ≡ Unopened.Fault → Rose 0 (D.faults result.0)) }
     ensures level { IfErr result.1 (λ why. why ≢ Unopened.Fault → D.faults result.0 ≡ 0) }
     ensures untold { IfErr result.1 (λ _. sink.new ≡ sink.old) }
     ensures unread { IfErr result.1 (λ _. (source.new ≡ source.old) × (clock.new ≡ clock.old)) }
 {
-    match store_on::<B, D>(alloc, disk) {
+    match store_on::<B, T, D>(alloc, disk) {
         Ok(store) => match hold_session(rt, alloc, store, source, sink, clock) {
             Ok((store, end)) => (disk_of(store), Ok(end)),
             Err((store, _)) => (disk_of(store), Err(Unopened::NoMemory)),
@@ -165,8 +172,9 @@ pub(crate) fn script<R: Threads + Wait + Sync, O: Disks, S: Source, K: Sink, C: 
         (DisksFell (O.refuses disks.old path.now) O.D.faults (O.at_path disks.new path.now)
         (O.faults disks.old) (O.faults disks.new))
         (RoseBy (O.faults disks.old) (O.faults disks.new))
-        (O.faults disks.new ≡ O.faults disks.old) (C.ahead clock.old) (C.ahead clock.new)
-        (S.left source.old) (S.left source.new) (K.held sink.old) result (K.held sink.new)
+        (O.faults disks.new ≡ O.faults disks.old)
+        ((source.new ≡ source.old) × (clock.new ≡ clock.old)) (C.ahead clock.old)
+        (C.ahead clock.new) (S.left source.old) (S.left source.new) (K.held sink.old) result (K.held sink.new)
         (K.faults sink.old) (K.faults sink.new) (told_at O.D.told (O.at_path disks.old path.now))
         (told_at O.D.told (O.at_path disks.new path.now))
         (images_at O.D.may_leave O.D.moment O.D.left_since (O.at_path disks.old path.now)
@@ -187,7 +195,9 @@ pub(crate) fn script<R: Threads + Wait + Sync, O: Disks, S: Source, K: Sink, C: 
     let Ok(disk) = disks.open(path) else {
         return refuse(alloc, Unopened::Fault, sink);
     };
-    let (disk, held) = session_on::<Brand, R, O::D, S, K, C>(rt, alloc, disk, source, sink, clock);
+    let (disk, held) = session_on::<Brand, Brand, R, O::D, S, K, C>(
+        rt, alloc, disk, source, sink, clock,
+    );
     let failed = disk.fault_count() > 0;
     disks.back(path, disk);
     match held {

@@ -16,11 +16,12 @@ ghost use Rattle.cat_cli.specs.Journals.{DisksFell, IsBack, RoseBy, StandsFor, t
 ghost use Rattle.cat_cli.specs.Opening.{IsReason};
 ghost use Rattle.cat_cli.specs.Runs.{CountedBy, spares_disks, spares_listener, tells_all};
 ghost use Rattle.cat_cli.specs.Serving.{Hosted, OpenedOnly, ServesKnown, IsToldOf, status_after};
-ghost use Rattle.cat_cli.specs.Surviving.{IsBegun, Spared, images_at, images_of};
+ghost use Rattle.cat_cli.specs.Surviving.{IsBegun, IsStoodOn, Spared, Unspoiled, images_at, images_of};
 
 use crate::journal::{disk_of, store_on};
 use crate::scripting::MARKERS;
 use crate::status::Status;
+use crate::still::Stood;
 use crate::telling::{tell_listener_fault, tell_no_memory};
 use crate::unopened::{Unopened, refuse};
 use cat_codes::fault::NoMemory;
@@ -158,6 +159,7 @@ fn hold_serving<R: Threads + Wait + Sync, K0: Keeper, L: Listener, C: Clock + Dr
 // The disk comes back. It is watched what a crash might have left of it since it was given here.
 fn serve_on<
     B: Since + Send,
+    T: Stood + Send,
     R: Threads + Wait + Sync,
     D: Disk + Send,
     L: Listener,
@@ -172,6 +174,8 @@ fn serve_on<
 ) -> (D, Result<Served, Unopened>)
     requires begun { IsBegun B.since B.had B.before (D.told disk) (D.moment disk)
         (D.may_leave disk) }
+    requires stood { IsStoodOn T.since T.count T.past T.began T.shape (D.told disk)
+        (D.moment disk) (D.may_leave disk) (D.left_since disk) }
     requires fresh { D.faults disk ≡ 0 }
     requires few { IsFew options.workers × IsFew options.attempts }
     ensures comes { IfOk result.1
@@ -199,12 +203,15 @@ fn serve_on<
     ensures spared { IfErr result.1
         (λ _. Spared (D.told disk) (D.told result.0)
         (images_of D.may_leave D.moment D.left_since disk result.0)) }
+    ensures unspoiled { IfErr result.1
+        (λ why. why ≢ Unopened.Fault → Unspoiled (D.told disk) (D.told result.0)
+        (images_of D.may_leave D.moment D.left_since disk result.0)) }
     ensures cause { IfErr result.1 (λ why. why ≡ Unopened.Fault → Rose 0 (D.faults result.0)) }
     ensures level { IfErr result.1 (λ why. why ≢ Unopened.Fault → D.faults result.0 ≡ 0) }
     ensures untouched { IfErr result.1
         (λ _. (listener.new ≡ listener.old) × (clock.new ≡ clock.old)) }
 {
-    match store_on::<B, D>(alloc, disk) {
+    match store_on::<B, T, D>(alloc, disk) {
         Ok(store) => match hold_serving(rt, alloc, store, options, listener, clock) {
             Ok((store, end)) => (disk_of(store), Ok(end)),
             Err((store, _)) => (disk_of(store), Err(Unopened::NoMemory)),
@@ -288,7 +295,9 @@ pub(crate) fn serve<R: Threads + Wait + Sync, O: Disks, K: Sink, C: Clock + Drop
     let Ok(disk) = disks.open(path) else {
         return refuse(alloc, Unopened::Fault, sink);
     };
-    let (disk, ended) = serve_on::<Brand, R, O::D, L, C>(rt, alloc, disk, options, listener, clock);
+    let (disk, ended) = serve_on::<Brand, Brand, R, O::D, L, C>(
+        rt, alloc, disk, options, listener, clock,
+    );
     let failed = disk.fault_count() > 0;
     disks.back(path, disk);
     match ended {

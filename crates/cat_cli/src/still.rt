@@ -1,4 +1,4 @@
-//! A keeper whose bytes stay while nothing is added.
+//! A keeper whose bytes stay while nothing is added, and whose format stays.
 
 ghost use Rattle.std.specs.Prelude.{◌≡◌};
 ghost use Rattle.cat_cli.specs.Unadded.{IsStill};
@@ -24,10 +24,14 @@ pub(crate) trait Stood {
 
     // and those that one left then
     ghost began: { List ℕ → Type 0 };
+
+    // what holds of the format
+    ghost shape: { ℕ → Type 0 };
 }
 
 impl Stood for Brand {
     ghost use Rattle.cat_io.specs.Crashes.{never_known, none_known};
+    ghost use Rattle.cat_cli.specs.Unadded.{any_shape};
 
     ghost since = { 0 };
 
@@ -36,10 +40,12 @@ impl Stood for Brand {
     ghost past = { never_known };
 
     ghost began = { none_known };
+
+    ghost shape = { any_shape };
 }
 
 /// A keeper all of whose calls go through here. While nothing is added a crash leaves the bytes
-/// that one left when it was given here, and no others.
+/// that one left when it was given here, and no others; and its format stays.
 #[derive(Drop)]
 pub(crate) struct Still<B: Stood + Send, K: Keeper> {
     keeper: K,
@@ -54,14 +60,15 @@ impl<B: Stood + Send, K: Keeper> Model for Still<B, K> {
     ghost view = { λ s. s.keeper };
 
     ghost invariant = { λ s. IsStill K.told K.in_flight K.moment K.bytes_left K.bytes_since B.since
-        B.count B.past B.began s.keeper };
+        B.count B.past B.began s.keeper × B.shape (K.form s.keeper) };
 }
 
 impl<B: Stood + Send, K: Keeper> Still<B, K> {
     /// Holds a keeper from its first call on.
     pub(crate) fn new(keeper: K) -> Still<B, K>
-        requires { IsStill K.told K.in_flight K.moment K.bytes_left K.bytes_since B.since B.count
-            B.past B.began keeper }
+        requires still { IsStill K.told K.in_flight K.moment K.bytes_left K.bytes_since B.since
+            B.count B.past B.began keeper }
+        requires shape { B.shape (K.form keeper) }
         ensures { result ≡ keeper }
     {
         Still {
@@ -75,6 +82,7 @@ impl<B: Stood + Send, K: Keeper> Still<B, K> {
         ensures keeper { result ≡ self }
         ensures still { IsStill K.told K.in_flight K.moment K.bytes_left K.bytes_since B.since
             B.count B.past B.began result }
+        ensures shape { B.shape (K.form result) }
     {
         let Still { keeper, stood: _ } = self;
         keeper

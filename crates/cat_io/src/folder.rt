@@ -15,7 +15,7 @@ use std::os::fd::{AsRawFd, IntoRawFd};
 const NO_LOCKS: i32 = 37;
 
 /// The files of a runtime as disks, each opened at its path as given, for one disk at a time of all
-/// processes. It tells nothing of them.
+/// processes where the file system has locks. It tells nothing of them.
 #[derive(Drop)]
 pub struct Folder<R: Files<File = File> + Drop> {
     runtime: R,

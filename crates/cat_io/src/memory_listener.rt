@@ -1,4 +1,4 @@
-ghost use Rattle.std.specs.Prelude.{◌≡◌, ◌+◌, ◌≤◌, IsTrue, length, nat_le, vec_capacity, vec_len};
+ghost use Rattle.std.specs.Prelude.{◌≡◌, ◌+◌, ◌++◌, ◌≤◌, IsTrue, length, nat_le, vec_capacity, vec_len};
 ghost use Rattle.std.specs.VecDeque.{deque_len};
 
 use crate::calls::Calls;
@@ -99,7 +99,8 @@ impl MemoryListener {
         self.returned.as_slice()
     }
 
-    /// The connections that came back to each twin that came back.
+    /// The connections that came back to each twin that came back, and behind them those that still
+    /// waited there.
     pub fn rejoined(&self) -> &[Vec<(MemorySource, MemorySink)>]
         ensures { map (λ group. group.items) result.now ≡ rejoined_to self.now }
     {
@@ -243,7 +244,7 @@ impl Listener for MemoryListener {
         ensures stands { Stands (λ _. true) heard_by self.old self.new }
         ensures own { OwnStay waiting_in returned_to out_of self.old self.new }
         ensures rejoined { TakesBack true (twins_of self.old) (rejoined_to self.old)
-            (rejoined_to self.new) (returned_to twin) }
+            (rejoined_to self.new) (returned_to twin ++ waiting_in twin) }
         ensures twins { twins_of self.new ≡ twins_of self.old - 1 }
         ensures dealt { dealt_by self.new ≡ dealt_by self.old }
         ensures plan { plan_of self.new ≡ plan_of self.old }
@@ -254,8 +255,20 @@ impl Listener for MemoryListener {
             return;
         }
         self.twins -= 1;
-        self.rejoined.push_reserved(twin.returned);
+        self.rejoined
+            .push_reserved(with_rest(twin.returned, twin.waiting));
     }
+}
+
+// Those that came back, and behind them those that wait.
+fn with_rest(mut returned: Vec<Connection>, mut waiting: VecDeque<Connection>) -> Vec<Connection>
+    requires { deque_len waiting + vec_len returned ≤ vec_capacity returned }
+    ensures { result.items ≡ returned.items ++ waiting.items }
+{
+    while let Some(connection) = waiting.pop_front() {
+        returned.push_reserved(connection);
+    }
+    returned
 }
 
 // Keeps an address in its room, where it fits.

@@ -107,12 +107,10 @@ module _ (desk : DeskId) (taken : List ℕ) where
         said.1,
         (
           refl,
-          inr (
-            turn_of m left rest (c.written ++ bytes) said.0 said.1,
-            answered_by k c left m rest bytes said.1 said.0 asked.reads asked.one_more written,
-            ap must_be_told said.2.said ∙ must,
-            refl,
-          ),
+          turn_of m left rest (c.written ++ bytes) said.0 said.1,
+          answered_by k c left m rest bytes said.1 said.0 asked.reads asked.one_more written,
+          ap must_be_told said.2.said ∙ must,
+          refl,
         ),
         said.3,
         said.4,

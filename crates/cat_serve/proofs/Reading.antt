@@ -110,13 +110,9 @@ module _ (desk : DeskId) where
   at_end k c left pass before held one is s =
       (c.written, s.held_is, c.standing, inl (record { some_left = some_left left c.left one; at_end = is; all = refl; stays = refl }), s.pass_at, takes_none c.standing)
 
-  pub cut_short : (k : Readings) (c : Point) (pass : Pass) (before held : Option (List ℕ)) → Stands desk c pass before held → LeavesAt desk [] k c ends.ReadFault pass held
-  cut_short k c pass before held s = (c.written, s.held_is, c.standing, (refl, refl), s.pass_at, takes_none c.standing)
+  pub cut_short : (k : Readings) (c : Point) (left : ℕ) (pass : Pass) (before held : Option (List ℕ)) → c.left ≡ left + 1 → Stands desk c pass before held → LeavesAt desk [] k c ends.ReadFault pass held
+  cut_short k c left pass before held one s = (c.written, s.held_is, c.standing, (some_left left c.left one, refl, refl), s.pass_at, takes_none c.standing)
 
   -- no memory was left to begin with
-  pub not_begun : (pass : Pass) (ahead : Option Readings) (before unread held : Option (List ℕ)) → EndsKnown desk 1000 pass pass ahead ahead before unread held ends.NoMemory held
-  not_begun pass ahead before unread held =
-      ([], refl, λ k a begins whole s. (a.written, s.held_is, a.standing, (a, ([], refl), (refl, inl (whole, refl)), λ e. absurd (no e)), s.pass_at, takes_none a.standing))
-    where
-      no : ends.NoMemory ≡ ends.ReadFault → ⊥
-      no e = cc
+  pub not_begun : (pass : Pass) (ahead : Option Readings) (bytes held : Option (List ℕ)) → EndsKnown desk 1000 pass pass ahead ahead bytes bytes held ends.NoMemory held
+  not_begun pass ahead bytes held = ([], refl, λ k a begins whole s. (a.written, s.held_is, a.standing, inl (record { end_is = refl; unread_is = s.bytes_are; all = refl; stays = refl }), s.pass_at, takes_none a.standing))

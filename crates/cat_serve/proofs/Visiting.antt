@@ -80,8 +80,8 @@ module _ (desk : DeskId) (attempts : ℕ) where
   at_left visits a left left' p ahead bytes held same goes = subst (λ (n : ℕ). GoesBy desk attempts visits a (place n p ahead bytes held)) same goes
 
   -- none is answered, where memory runs out before the first
-  pub none_visited : (p : Pass) (ahead : Option Readings) (bytes unread held : Option (List ℕ)) → Went desk attempts (place 1000 p ahead bytes held) ends.NoMemory unread p ahead held
-  none_visited p ahead bytes unread held = record { visits = []; c = place 1000 p ahead bytes held; goes = refl; ended = ends_without (place 1000 p ahead bytes held) ends.NoMemory unread (refl, refl) }
+  pub none_visited : (p : Pass) (ahead : Option Readings) (bytes held : Option (List ℕ)) → Went desk attempts (place 1000 p ahead bytes held) ends.NoMemory bytes p ahead held
+  none_visited p ahead bytes held = record { visits = []; c = place 1000 p ahead bytes held; goes = refl; ended = ends_without (place 1000 p ahead bytes held) ends.NoMemory bytes (refl, refl, refl) }
 
 -- the place before the first read
 pub at_first : (p : Pass) (ahead : Option Readings) (held bytes known : Option (List ℕ)) → known ≡ bytes → place 1000 p ahead bytes held ≡ place 1000 p ahead known held

@@ -16,7 +16,7 @@ use Rattle.cat_serve.specs.Hiring.{AreBack, AreDealt, AreNumbered, Counts, IsDon
 use Rattle.cat_serve.specs.Serving.{GrowsTo, TakenIn}
 use Rattle.cat_serve.specs.ServingLaws.{grows_to_itself, grows_to_on}
 use Rattle.cat_serve.specs.Sessions.{Readings}
-use Rattle.cat_serve.specs.Workers.{AllWorked, Ends, IsServed, ServesAll, ServesEach, WorkedByTwin, first_split}
+use Rattle.cat_serve.specs.Workers.{AllWorked, AreAsDealt, ComesBack, Ends, IsServed, ServesAll, ServesEach, WorkedByTwin, first_split}
 use Rattle.cat_serve.proofs.Taking.{taken_in, taken_on}
 
 -- ---- what an accept gave
@@ -94,6 +94,29 @@ module _ {L C K : Type 0} (waiting : L → List K) (told : Bool) where
 -- the next of what twins are dealt, and the rest
 pub next_dealt : {L K : Type 0} (waiting : L → List K) (dealt now rest : List (List K)) (n : ℕ) (twin : L) → now ≡ drop n dealt → Deals waiting now rest twin → (waiting twin ≡ first_of (drop n dealt)) × (rest ≡ drop (n + 1) dealt)
 next_dealt {L} {K} waiting dealt now rest n twin is deals = (deals.given ∙ ap (λ (l : List (List K)). first_of l) is, deals.rest ∙ ap (λ (l : List (List K)). drop 1 l) is ∙ drop-drop 1 n dealt)
+
+-- what twins were dealt comes back, none of it, and that of one more
+pub comes_back : {K : Type 0} (dealt groups : List (List K)) → ComesBack dealt groups groups
+comes_back dealt groups = record { twins = []; stands = sym (append-nil groups); as_dealt = tt }
+
+module _ {K : Type 0} where
+  as_dealt_more : (dealt groups : List (List K)) (group : List K) → AreAsDealt (drop 1 dealt) groups → group ≡ first_of dealt → AreAsDealt dealt (groups ++ group ∷ [])
+  as_dealt_more dealt [] group all is = (is, tt)
+  as_dealt_more dealt (g ∷ groups) group (one, rest) is = (
+    one ∙ ap (λ (l : List (List K)). first_of l) (drop-drop (length groups) 1 dealt ∙ ap (λ (n : ℕ). drop n dealt) (behind (length groups) (length (groups ++ group ∷ [])) (length_push groups group))),
+    as_dealt_more dealt groups group rest is,
+  )
+    where
+      behind : (n m : ℕ) → m ≡ n + 1 → 1 + n ≡ m
+      behind n m is = omega (arith, is)
+
+  pub comes_back_more : (groups mid now dealt : List (List K)) (left rest : ℕ) (returned waits : List K) → ComesBack (drop left dealt) groups mid → returned ≡ [] → waits ≡ first_of (drop rest dealt) → rest + 1 ≡ left
+      → now ≡ mid ++ (returned ++ waits) ∷ [] → ComesBack (drop rest dealt) groups now
+  comes_back_more groups mid now dealt left rest returned waits b none is less one = record {
+    twins = b.twins ++ waits ∷ [];
+    stands = one ∙ ap (λ (l : List K). mid ++ (l ++ waits) ∷ []) none ∙ ap (λ (l : List (List K)). l ++ waits ∷ []) b.stands ∙ append_assoc groups b.twins (waits ∷ []);
+    as_dealt = as_dealt_more (drop rest dealt) b.twins waits (subst (λ (l : List (List K)). AreAsDealt l b.twins) (ap (λ (n : ℕ). drop n dealt) (sym less) ∙ sym (drop-drop 1 rest dealt)) b.as_dealt) is;
+  }
 
 -- numbers of passes, where a worker is the last, and where one comes behind the others
 module _ {L C : Type 0} where
@@ -234,12 +257,14 @@ module _ {In Out : Type 0} (e : Ends In Out) (desk : DeskId) (attempts : ℕ) wh
       let to = grows_to_on w.last q r (w.begins, w.marks) on in (
         record {
           given = t.given;
+          served = t.served;
           own = t.own;
           now = t.now;
           same = t.same;
           worked = record { first = w.first; last = w.last; number_is = w.number_is; remembers = w.remembers; each = w.each; begins = to.0; marks = to.1; taken = taken (number + length groups) w.last w.taken };
           left = t.left;
           front = t.front;
+          group_is = t.group_is;
           none_left = λ l. t.none_left (fewer l);
         },
         worked_on tells well less dealt number p ahead q r groups on taken fewer rest,
@@ -275,27 +300,29 @@ module _ {In Out : Type 0} (e : Ends In Out) (desk : DeskId) (attempts : ℕ) wh
 
     pub back_more : {L C : Type 0} (waiting returned : L → List (In × Out)) (faults : L → ℕ) (w : Worker L C) (first then_ : Bool) (mid now : List (List (In × Out))) (left rest whole : ℕ) (q r : Pass)
         → AreBack e desk attempts tells first groups mid dealt left whole number p ahead q → IsDone e desk attempts waiting returned faults tells ahead p (first_of (drop rest dealt)) w → then_ ≡ w.failed
-        → number_of w.pass ≡ number + rest → rest + 1 ≡ left → (IsTrue tells → now ≡ mid ++ returned w.listener ∷ []) → GrowsTo q r → GrowsTo w.pass r → CarriesOn q r → CarriesOn w.pass r
+        → number_of w.pass ≡ number + rest → rest + 1 ≡ left → (IsTrue tells → now ≡ mid ++ (returned w.listener ++ waiting w.listener) ∷ []) → GrowsTo q r → GrowsTo w.pass r → CarriesOn q r → CarriesOn w.pass r
         → AreBack e desk attempts tells (first || then_) groups now dealt rest whole number p ahead r
     back_more waiting returned faults w first then_ mid now left rest whole q r b d failed numbered less taken on its carries carries_its = record {
-      twins = b.twins ++ d.served ∷ [];
-      theirs = worked_more tells ((first || then_) ≡ false) (drop rest dealt) (number + rest) (number + left) p ahead r b.twins d.served (omega (arith, less))
+      twins = b.twins ++ (d.served ++ waiting w.listener) ∷ [];
+      theirs = worked_more tells ((first || then_) ≡ false) (drop rest dealt) (number + rest) (number + left) p ahead r b.twins (d.served ++ waiting w.listener) (omega (arith, less))
           (worked_on tells (first ≡ false) ((first || then_) ≡ false) (drop 1 (drop rest dealt)) (number + left) p ahead q r b.twins on (λ n a. taken_on n a q r carries) (λ none. (neither first then_ none).0)
           (subst (λ (l : List (List (In × Out))). AllWorked e desk attempts tells (first ≡ false) l (number + left) p ahead q b.twins) (ap (λ (n : ℕ). drop n dealt) (sym less) ∙ sym (drop-drop 1 rest dealt)) b.theirs))
           (record {
             given = d.given;
+            served = d.served;
             own = d.own;
             now = d.now;
             same = d.same;
             worked = record { first = d.first; last = w.pass; number_is = d.number_is ∙ numbered; remembers = d.remembers; each = d.each; begins = its.0; marks = its.1; taken = taken_in (number + rest) w.pass r (inl (sym numbered)) carries_its };
             left = waiting w.listener;
             front = d.front;
+            group_is = refl;
             none_left = λ none. d.none_left (sym failed ∙ (neither first then_ none).1);
           });
-      count = let c = b.count in let l = length_push b.twins d.served in omega arith;
+      count = let c = b.count in let l = length_push b.twins (d.served ++ waiting w.listener) in omega arith;
       rejoined = λ t.
-          taken t ∙ ap (λ (l : List (List (In × Out))). l ++ returned w.listener ∷ []) (b.rejoined t) ∙ append_assoc groups b.twins (returned w.listener ∷ [])
-          ∙ ap (λ (l : List (In × Out)). groups ++ (b.twins ++ l ∷ [])) (d.stands t);
+          taken t ∙ ap (λ (l : List (List (In × Out))). l ++ (returned w.listener ++ waiting w.listener) ∷ []) (b.rejoined t) ∙ append_assoc groups b.twins ((returned w.listener ++ waiting w.listener) ∷ [])
+          ∙ ap (λ (l : List (In × Out)). groups ++ (b.twins ++ (l ++ waiting w.listener) ∷ [])) (d.stands t);
     }
       where
         neither : (a b : Bool) → (a || b) ≡ false → (a ≡ false) × (b ≡ false)

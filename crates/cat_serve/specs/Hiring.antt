@@ -35,6 +35,10 @@ AreNumbered {L} {C} number workers = (k : ℕ) (d : Worker L C) → k < length w
 abbrev pub AreDealt : {L C K : Type 0} → (L → List K) → Bool → List (List K) → List (Worker L C) → Type 0
 AreDealt {L} {C} waiting told dealt workers = (k : ℕ) (d : Worker L C) → k < length workers → IsTrue told → waiting (slice_index_or workers k d).listener ≡ first_of (drop k dealt)
 
+-- nothing came back to the listener of such a worker
+abbrev pub HasNone : {L C K : Type 0} → (L → List K) → Worker L C → Type 0
+HasNone returned w = returned w.listener ≡ []
+
 -- such a worker, with new twins of a listener that tells or doesn't, and of a clock that tells what is ahead
 pub record IsHired {L C K : Type 0} (tells : L → Bool) (returned : L → List K) (faults : L → ℕ) (ahead_of : C → Option Readings) (told : Bool) (ahead : Option Readings) (desk : DeskId) (p : Pass) (w : Worker L C) : Type 0 where
   pub back : IsBack faults desk w
@@ -74,7 +78,7 @@ module _ {In Out : Type 0} (e : Ends In Out) (desk : DeskId) (attempts : ℕ) wh
   AreDone {L} {C} waiting returned faults told ahead p dealt workers =
       (k : ℕ) (d : Worker L C) → k < length workers → IsDone waiting returned faults told ahead p (first_of (drop k dealt)) (slice_index_or workers k d)
 
-  -- so many workers of the whole are left, on passes from this number on, who were dealt the first of what twins are dealt, and the others were taken back, with what they served; failed says whether the listener of one of them failed
+  -- so many workers of the whole are left, on passes from this number on, who were dealt the first of what twins are dealt, and the others were taken back, with what they served, and behind it what they weren't given; failed says whether the listener of one of them failed
   pub record AreBack (tells failed : Bool) (groups groups_now dealt : List (List (In × Out))) (left whole number : ℕ) (p : Pass) (ahead : Option Readings) (q : Pass) : Type 0 where
     pub twins : List (List (In × Out))
     pub theirs : AllWorked e desk attempts tells (failed ≡ false) (drop left dealt) (number + left) p ahead q twins

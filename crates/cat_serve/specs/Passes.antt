@@ -173,15 +173,15 @@ IsRefusedBy bytes (BadRequest BadHead) = IfSome bytes IsMalformed
 IsRefusedBy bytes TooLarge = IfSome bytes IsTooLarge
 IsRefusedBy bytes _ = ⊥
 
--- no request more is answered, and that is written; the source has left those bytes
+-- no request more is answered, and that is written; the source has left those bytes, which before the first of 1,000 requests are all
 abbrev pub TellsNone : End → Place → Option (List ℕ) → List ℕ → Type 0
-TellsNone ends.Closed c unread tail = IfSome c.bytes IsEnd × (tail ≡ [])
+TellsNone ends.Closed c unread tail = (0 < c.left) × IfSome c.bytes IsEnd × (tail ≡ [])
 TellsNone ends.Capped c unread tail = (c.left ≡ 0) × (tail ≡ [])
-TellsNone ends.BadHead c unread tail = IsRefusedBy c.bytes (BadRequest BadHead) × IsRefusalOf (BadRequest BadHead) tail
-TellsNone ends.TooLarge c unread tail = IsRefusedBy c.bytes TooLarge × IsRefusalOf TooLarge tail
-TellsNone ends.ReadFault c unread tail = ((b : List ℕ) → c.bytes ≡ Some b → LeavesCut b unread) × (tail ≡ [])
-TellsNone ends.WriteFault c unread tail = (why : Refusal) × IsRefusedBy c.bytes why × (bytes : List ℕ) × IsRefusalOf why bytes × (n : ℕ) × (tail ≡ take n bytes)
-TellsNone ends.NoMemory c unread tail = (c.left ≡ 1000) × (tail ≡ [])
+TellsNone ends.BadHead c unread tail = (0 < c.left) × IsRefusedBy c.bytes (BadRequest BadHead) × IsRefusalOf (BadRequest BadHead) tail
+TellsNone ends.TooLarge c unread tail = (0 < c.left) × IsRefusedBy c.bytes TooLarge × IsRefusalOf TooLarge tail
+TellsNone ends.ReadFault c unread tail = (0 < c.left) × ((b : List ℕ) → c.bytes ≡ Some b → LeavesCut b unread) × (tail ≡ [])
+TellsNone ends.WriteFault c unread tail = (0 < c.left) × (why : Refusal) × IsRefusedBy c.bytes why × (bytes : List ℕ) × IsRefusalOf why bytes × (n : ℕ) × (tail ≡ take n bytes)
+TellsNone ends.NoMemory c unread tail = (c.left ≡ 1000) × (unread ≡ c.bytes) × (tail ≡ [])
 
 -- none more was answered, or one
 abbrev pub EndsBy : DeskId → ℕ → Place → End → Option (List ℕ) → List Visit → List ℕ → Place → Type 0

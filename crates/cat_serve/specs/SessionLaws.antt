@@ -85,12 +85,11 @@ is_last k c ends.Closed held last (inr (t, p)) = inr (t, p.answered, p.leaves)
 is_last k c ends.Capped held last p = inl p.2
 is_last k c ends.BadHead held last p = inl p.stays
 is_last k c ends.TooLarge held last p = inl p.stays
-is_last k c ends.ReadFault held last p = inl p.1
+is_last k c ends.ReadFault held last p = inl p.2
 is_last k c ends.WriteFault held last (bytes, inl p, n, is) = inr (p.0, p.1, p.3)
-is_last k c ends.WriteFault held last (bytes, inr (inl p), n, is) = inl p.2
-is_last k c ends.WriteFault held last (bytes, inr (inr p), n, is) = inl p.2
-is_last k c ends.NoMemory held last (told, inl p) = inl p.1
-is_last k c ends.NoMemory held last (told, inr (t, answered, must, same)) = inr (t, answered, same)
+is_last k c ends.WriteFault held last (bytes, inr (inl p), n, is) = inl p.3
+is_last k c ends.WriteFault held last (bytes, inr (inr p), n, is) = inl p.3
+is_last k c ends.NoMemory held last (told, t, answered, must, same) = inr (t, answered, same)
 
 by_last : (k : Readings) (c : Point) (last : Standing) → IsLast k c last → (entries : List LogEntry) × IsGrownBy entries c.standing last
 by_last k c last (inl same) = ([], ap (λ (s : Standing). s.session.book.log) same)
@@ -98,7 +97,8 @@ by_last k c last (inr (t, answered, same)) = (t.brought.logged, ap (λ (s : Stan
 
 -- the log at the end of a session is that before it, with the entries of the session in front
 pub log_grows : (k : Readings) (a : Point) (end : End) (held : List ℕ) (last : Standing) (unread : Option (List ℕ)) → Ends k a end held last unread → (entries : List LogEntry) × IsGrownBy entries a.standing last
-log_grows k a end held last unread (c, (turns, goes), at, cut) =
+log_grows k a end held last unread (inl none) = ([], ap (λ (s : Standing). s.session.book.log) none.stays)
+log_grows k a end held last unread (inr (c, (turns, goes), at, cut)) =
     let one = by_turns k turns a c goes in
     let two = by_last k c last (is_last k c end held last at) in
     (two.0 ++ one.0, grown_on two.0 one.0 a.standing c.standing last one.1 two.1)

@@ -177,18 +177,16 @@ pub record IsRefused (c : Point) (cause : Type 0) (why : Refusal) (held : List �
 abbrev pub IsDue : Readings → Point → List ℕ → Standing → Type 0
 IsDue clock c bytes last =
     ((t : Turn) × Answered clock c t × (t.after.written ≡ c.written ++ bytes) × (last ≡ t.after.standing))
-    ⊎ (IsMalformed c.bytes × IsRefusalOf (BadRequest BadHead) bytes × (last ≡ c.standing))
-    ⊎ (IsTooLarge c.bytes × IsRefusalOf TooLarge bytes × (last ≡ c.standing))
+    ⊎ ((0 < c.left) × IsMalformed c.bytes × IsRefusalOf (BadRequest BadHead) bytes × (last ≡ c.standing))
+    ⊎ ((0 < c.left) × IsTooLarge c.bytes × IsRefusalOf TooLarge bytes × (last ≡ c.standing))
 
 -- a front of the reply that was due
 abbrev pub IsCutOff : Readings → Point → List ℕ → Standing → Type 0
 IsCutOff clock c held last = (bytes : List ℕ) × IsDue clock c bytes last × (n : ℕ) × (held ≡ c.written ++ take n bytes)
 
--- nothing is told: before the first of 1,000 requests, or where the next one is answered by what must be told, and no memory is left for its text
+-- the next request is answered by what must be told, and no memory is left for its text: nothing of it is told
 abbrev pub IsUntold : Readings → Point → List ℕ → Standing → Type 0
-IsUntold clock c held last =
-    (held ≡ c.written)
-    × (((c.left ≡ 1000) × (last ≡ c.standing)) ⊎ ((t : Turn) × Answered clock c t × (must_be_told t.brought.said ≡ true) × (last ≡ t.after.standing)))
+IsUntold clock c held last = (held ≡ c.written) × (t : Turn) × Answered clock c t × (must_be_told t.brought.said ≡ true) × (last ≡ t.after.standing)
 
 -- what the sink holds where the session ended so, and how the store stands
 abbrev pub EndsAt : Readings → Point → End → List ℕ → Standing → Type 0
@@ -196,7 +194,7 @@ EndsAt clock c ends.Closed held last = IsAtEnd c held last ⊎ ((t : Turn) × Is
 EndsAt clock c ends.Capped held last = (c.left ≡ 0) × (held ≡ c.written) × (last ≡ c.standing)
 EndsAt clock c ends.BadHead held last = IsRefused c (IsMalformed c.bytes) (BadRequest BadHead) held last
 EndsAt clock c ends.TooLarge held last = IsRefused c (IsTooLarge c.bytes) TooLarge held last
-EndsAt clock c ends.ReadFault held last = (held ≡ c.written) × (last ≡ c.standing)
+EndsAt clock c ends.ReadFault held last = (0 < c.left) × (held ≡ c.written) × (last ≡ c.standing)
 EndsAt clock c ends.WriteFault held last = IsCutOff clock c held last
 EndsAt clock c ends.NoMemory held last = IsUntold clock c held last
 
@@ -204,9 +202,16 @@ EndsAt clock c ends.NoMemory held last = IsUntold clock c held last
 abbrev pub LeavesCut : List ℕ → Option (List ℕ) → Type 0
 LeavesCut bytes unread = (left : List ℕ) × (unread ≡ Some left) × IsCut bytes left
 
--- a session that begins at a ends so; after a read fault no whole request was read that isn't answered
+-- no memory is left to begin with: nothing is read, nothing is told, and the store stands as before
+pub record IsNotBegun (a : Point) (end : End) (held : List ℕ) (last : Standing) (unread : Option (List ℕ)) : Type 0 where
+  pub end_is : end ≡ ends.NoMemory
+  pub unread_is : unread ≡ Some a.bytes
+  pub all : held ≡ a.written
+  pub stays : last ≡ a.standing
+
+-- a session that begins at a ends so, there or at a point that it reached; after a read fault no whole request was read that isn't answered
 abbrev pub Ends : Readings → Point → End → List ℕ → Standing → Option (List ℕ) → Type 0
-Ends clock a end held last unread = (c : Point) × Reaches clock a c × EndsAt clock c end held last × (end ≡ ends.ReadFault → LeavesCut c.bytes unread)
+Ends clock a end held last unread = IsNotBegun a end held last unread ⊎ ((c : Point) × Reaches clock a c × EndsAt clock c end held last × (end ≡ ends.ReadFault → LeavesCut c.bytes unread))
 
 -- ---- what a pass, a source and a sink tell
 

@@ -27,6 +27,17 @@ ends_of left read_faults held write_faults = record { left = left; read_faults =
 abbrev pub first_split : Pass → ℕ
 first_split p = 4294967296 - spare_of p
 
+-- each of these groups is what a twin of a listener was dealt: the last the first of what twins are dealt, and each one before the next
+abbrev pub AreAsDealt : {K : Type 0} → List (List K) → List (List K) → Type 0
+AreAsDealt dealt [] = Unit {0}
+AreAsDealt dealt (group ∷ groups) = (group ≡ first_of (drop (length groups) dealt)) × AreAsDealt dealt groups
+
+-- twins came back with what they were dealt, as it was, and it stands behind what came back to earlier twins
+pub record ComesBack {K : Type 0} (dealt groups groups_now : List (List K)) : Type 0 where
+  pub twins : List (List K)
+  pub stands : groups_now ≡ groups ++ twins
+  pub as_dealt : AreAsDealt dealt twins
+
 module _ {In Out : Type 0} (e : Ends In Out) (desk : DeskId) (attempts : ℕ) where
   -- a connection was served, from one pass to another: its ends were given as x and left as y
   pub record IsServed (p : Pass) (ahead : Option Readings) (x y : In × Out) (q : Pass) (now : Option Readings) : Type 0 where
@@ -55,24 +66,26 @@ module _ {In Out : Type 0} (e : Ends In Out) (desk : DeskId) (attempts : ℕ) wh
     pub marks : Grows (mark_of last) (mark_of q)
     pub taken : TakenIn number last q
 
-  -- a worker served these by a twin of a clock that told what was ahead, and by a twin of a listener, where the ones that it was dealt waited; where that tells, those that were given are the first of them, and where no listener failed they are all
-  pub record WorkedByTwin (tells : Bool) (well : Type 0) (dealt : List (In × Out)) (number : ℕ) (p : Pass) (ahead : Option Readings) (q : Pass) (served : List (In × Out)) : Type 0 where
+  -- a worker served by a twin of a clock that told what was ahead, and by a twin of a listener, where the ones that it was dealt waited: the group is what was served, as it was left, and behind it others; where the listener tells, those that the worker was given, and behind them the others as they are, are the ones that it was dealt, and where no listener failed there are no others
+  pub record WorkedByTwin (tells : Bool) (well : Type 0) (dealt : List (In × Out)) (number : ℕ) (p : Pass) (ahead : Option Readings) (q : Pass) (group : List (In × Out)) : Type 0 where
     pub given : List (In × Out)
+    pub served : List (In × Out)
     pub own : Option Readings
     pub now : Option Readings
     pub same : TellsSame ahead own
     pub worked : Worked number p own q now given served
     pub left : List (In × Out)
     pub front : IsTrue tells → dealt ≡ given ++ left
+    pub group_is : group ≡ served ++ left
     pub none_left : well → IsTrue tells → left ≡ []
 
-  -- each of these groups is what a worker served by a twin of the clock: the last on a pass of this number, and dealt the first of what twins are dealt, and each one before on a pass of the next number, and dealt the next
+  -- each of these groups is what a worker served by a twin of the clock, as it was left, and behind it what the worker wasn't given, as it was dealt where the listener tells: the last group is that of a pass of this number, dealt the first of what twins are dealt, and each one before is that of a pass of the next number, dealt the next
   abbrev pub AllWorked : Bool → Type 0 → List (List (In × Out)) → ℕ → Pass → Option Readings → Pass → List (List (In × Out)) → Type 0
   AllWorked tells well dealt number p ahead q [] = Unit {0}
   AllWorked tells well dealt number p ahead q (group ∷ groups) =
       WorkedByTwin tells well (first_of (drop (length groups) dealt)) (number + length groups) p ahead q group × AllWorked tells well dealt number p ahead q groups
 
-  -- all workers served: the caller's own, on its pass and by its clock, and one for each twin, on the passes of the numbers that p splits off; where the listener tells, its own connections are the first of those that waited, they stand behind those that were back, and those of the twins behind the earlier twins', each twin was dealt the next of what twins are dealt, and where no count of faults rose all of it was given; one number was given for each twin
+  -- all workers served: the caller's own, on its pass and by its clock, and one for each twin, on the passes of the numbers that p splits off; where the listener tells, the caller's own connections are the first of those that waited, and stand as they were left behind those that were back; the groups of the twins stand behind those of earlier twins, each twin was dealt the next of what twins are dealt, and all that it was dealt stands in its group, what was served as it was left and behind it what wasn't given, as it was dealt; where no count of faults rose, all of it was given; one number was given for each twin
   pub record ServesAll (workers : ℕ) (tells : Bool) (waits waits_now back back_now : List (In × Out)) (groups groups_now dealt dealt_now : List (List (In × Out))) (faults faults_now : ℕ) (p : Pass) (ahead : Option Readings) (q : Pass) (now : Option Readings) : Type 0 where
     pub given : List (In × Out)
     pub own : List (In × Out)

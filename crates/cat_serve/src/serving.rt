@@ -1,15 +1,15 @@
 //! Serving a listener's connections by several workers at once.
 
-ghost use Rattle.std.specs.Prelude.{All, Bool, IfSome, IsTrue, List, Option, [], drop, false, length, max, true, vec_capacity, vec_len, ℕ, ◌+◌, ◌-◌, ◌<◌, ◌^◌, ◌||◌, ◌≡◌, ◌≢◌, ◌≤◌};
+ghost use Rattle.std.specs.Prelude.{All, Bool, IfSome, IsTrue, List, Option, [], drop, false, length, max, true, vec_capacity, vec_len, ℕ, ◌+◌, ◌++◌, ◌-◌, ◌<◌, ◌^◌, ◌||◌, ◌≡◌, ◌≢◌, ◌≤◌};
 ghost use Rattle.std.specs.Option.{option_to_list};
 ghost use Rattle.cat_desk.specs.Pass.{CarriesOn, HasNumber, Keeps, Remembers, number_of, spare_of, stands_for};
 ghost use Rattle.cat_io.specs.Causes.{Rose};
 ghost use Rattle.cat_io.specs.Listening.{Deals, OwnStay, Stands, TakesBack, TwinsStay};
 ghost use Rattle.cat_work.specs.Passes.{IsReady};
-ghost use Rattle.cat_serve.specs.Hiring.{AreBack, AreDealt, AreDone, AreNumbered, Counts, IsBack, IsHired, IsIdle, ServesOwn};
+ghost use Rattle.cat_serve.specs.Hiring.{AreBack, AreDealt, AreDone, AreNumbered, Counts, HasNone, IsBack, IsHired, IsIdle, ServesOwn};
 ghost use Rattle.cat_serve.specs.Serving.{GrowsTo, TakenIn};
 ghost use Rattle.cat_serve.specs.Sessions.{Readings};
-ghost use Rattle.cat_serve.specs.Workers.{ServesAll, ends_of, first_split};
+ghost use Rattle.cat_serve.specs.Workers.{ComesBack, ServesAll, ends_of, first_split};
 
 use crate::settings::Settings;
 use crate::worker::{Worker, serve, serve_workers};
@@ -26,7 +26,7 @@ use std::thread::{Threads, join_mut};
 pub enum Served {
     /// No connection was left for any worker.
     End,
-    /// The listener failed for some worker. The others went on to their own end.
+    /// The listener failed for some worker.
     ListenerFault,
     /// A twin, or the list of the workers, couldn't be had, and no connection was accepted.
     NoMemory,
@@ -66,7 +66,8 @@ pub fn serve_all<R: Threads + Wait + Sync, K0: Keeper, L: Listener, C: Clock + D
         × (clock.new ≡ clock.old)
         × (IsTrue (L.tells listener.old)
         → (L.waiting listener.new ≡ L.waiting listener.old)
-        × (L.returned listener.new ≡ L.returned listener.old)) }
+        × (L.returned listener.new ≡ L.returned listener.old)
+        × ComesBack (L.dealt listener.old) (L.rejoined listener.old) (L.rejoined listener.new)) }
     ensures ready { IsReady desk.now pass.new }
     ensures kept { (number_of pass.new ≡ number_of pass.old)
         × (stands_for pass.new + spare_of pass.new ≡ stands_for pass.old + spare_of pass.old) }
@@ -305,6 +306,11 @@ fn dismiss<K0: Keeper, L: Listener, C: Drop>(
     ensures idle { (p : Pass) → Remembers p pass.old
         → All (IsIdle p) others.items
         → Remembers p pass.new × (result ≡ false) }
+    ensures unserved { (dealt : List (List (L.In × L.Out)))
+        → All (HasNone L.returned) others.items
+        → AreDealt L.waiting (L.tells listener.old) dealt others.items
+        → IsTrue (L.tells listener.old)
+        → ComesBack dealt (L.rejoined listener.old) (L.rejoined listener.new) }
     ensures back { (attempts number : ℕ) (ahead : Option Readings) (p : Pass)
         (dealt : List (List (L.In × L.Out)))
         → AreDone (ends_of L.In.left L.In.faults L.Out.held L.Out.faults) desk.now attempts
@@ -351,7 +357,8 @@ fn take_back<K0: Keeper, L: Listener, C: Drop>(
     ensures stands { Stands L.tells L.listens listener.old listener.new }
     ensures own { OwnStay L.waiting L.returned L.out listener.old listener.new }
     ensures rejoined { TakesBack (L.tells listener.old) (L.twins listener.old)
-        (L.rejoined listener.old) (L.rejoined listener.new) (L.returned worker.listener) }
+        (L.rejoined listener.old) (L.rejoined listener.new)
+        (L.returned worker.listener ++ L.waiting worker.listener) }
     ensures twins { IsTrue (L.tells listener.old)
         → L.twins listener.new ≡ L.twins listener.old - 1 }
     ensures dealt { L.dealt listener.new ≡ L.dealt listener.old }

@@ -118,9 +118,8 @@ fn turn<R: Wait + Threads + Sync, K0: Keeper, S: Source, K: Sink, C: Clock, G: G
     }
 }
 
-/// Answers the requests of the source, one after another, on a desk's pass: 1,000 at most. The gate
-/// is asked before each attempt of a call that opens a draft, and before each round of a
-/// collection.
+/// Answers the requests of the source, one after another, on a desk's pass: 1,000 at most. Where
+/// the gate is asked, the pass has no turn.
 #[tactic(auto, using(crate::proofs::Standing::keeps_self))]
 #[allow(clippy::too_many_arguments)]
 pub fn serve_connection<

@@ -89,6 +89,14 @@ fn hold_config(connections: &[(MemorySource, MemorySink)]) -> bool {
     sink.bytes() == CONFIG
 }
 
+/// Whether the connections are one, to which nothing was written.
+fn is_unanswered(connections: &[(MemorySource, MemorySink)]) -> bool {
+    let [(_, sink)] = connections else {
+        return false;
+    };
+    sink.bytes().is_empty()
+}
+
 #[test]
 fn the_caller_and_a_twin_serve_a_connection_each(rt: HostRuntime) -> Result<(), Fail> {
     let alloc = rt.alloc();
@@ -114,6 +122,7 @@ fn a_worker_whose_listener_fails_stops_and_others_go_on(rt: HostRuntime) -> Resu
     Ok(())
 }
 
+// What was dealt to it comes back with it, as it was.
 #[test]
 fn a_twin_whose_accept_fails_is_told(rt: HostRuntime) -> Result<(), Fail> {
     let alloc = rt.alloc();
@@ -122,6 +131,7 @@ fn a_twin_whose_accept_fails_is_told(rt: HostRuntime) -> Result<(), Fail> {
     let served = serve(&rt, alloc, &mut listener, 2);
     assert!(rt; matches!(served, Served::ListenerFault));
     assert!(rt; listener.fault_count() == 1 && hold_config(listener.returned()));
+    assert!(rt; listener.rejoined().len() == 1 && is_unanswered(listener.rejoined()[0].as_slice()));
     Ok(())
 }
 
@@ -133,7 +143,7 @@ fn without_a_twin_nothing_is_accepted(rt: HostRuntime) -> Result<(), Fail> {
     let served = serve(&rt, alloc, &mut listener, 3);
     assert!(rt; matches!(served, Served::NoMemory));
     assert!(rt; listener.fault_count() == 0 && listener.returned().is_empty());
-    assert!(rt; listener.rejoined().len() == 1 && listener.rejoined()[0].is_empty());
+    assert!(rt; listener.rejoined().len() == 1 && is_unanswered(listener.rejoined()[0].as_slice()));
     Ok(())
 }
 

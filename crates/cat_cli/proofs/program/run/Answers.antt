@@ -6,6 +6,7 @@ use Rattle.cat_cli.proofs.Commands.{has_journal, is_command, lacks_journal, lack
 use Rattle.cat_cli.proofs.Opened.{stands_untouched}
 use Rattle.cat_cli.proofs.ServedRuns.{out_of_memory}
 use Rattle.cat_cli.proofs.Placed.{spared_untouched}
+use Rattle.cat_cli.proofs.Unspoiled.{unspoiled_untouched}
 use Rattle.cat_cli.proofs.program.run.Goals as goal
 
 same_journal : (a b : List ℕ) → ◌≡◌ {A = Option Task} (Some (script a)) (Some (script b)) → a ≡ b
@@ -170,19 +171,22 @@ returns-in-Err-NoMemory-clause-replies g c journal asks b w e f =
     let k = some_readings [] (g.C.Clock.ahead c.args.clock.now) _ refl in
     let laws = g.met.O.D.Disk g.world.𝓛 g.world.𝓜 g.world.𝓡 ((λ s x. x), (λ x. x), (λ x. x), λ x. x) in
     let spared = spared_untouched g.O.D.Disk.told g.O.D.Disk.may_leave g.O.D.Disk.moment g.O.D.Disk.left_since laws.only_now (g.O.Disks.at_path c.args.disks.now journal) in
+    let same = unspoiled_untouched g.O.D.Disk.told g.O.D.Disk.may_leave g.O.D.Disk.moment g.O.D.Disk.left_since laws.only_now (g.O.Disks.at_path c.args.disks.now journal) in
     let told = c.tell_no_memory.ensures.told w f in
-    (k.0, k.1, told.0, told.1, inr (rw c.tell_no_memory.ensures.status ((refl, told.2), stands_untouched _, spared), refl))
+    (k.0, k.1, told.0, told.1, inr (rw c.tell_no_memory.ensures.status ((refl, told.2), stands_untouched _, spared, same), (refl, refl)))
 
 pub returns-in-Err-NoMemory-clause-checked : goal.returns-in-Err-NoMemory-clause-checked
 returns-in-Err-NoMemory-clause-checked g c journal asks w f =
     let laws = g.met.O.D.Disk g.world.𝓛 g.world.𝓜 g.world.𝓡 ((λ s x. x), (λ x. x), (λ x. x), λ x. x) in
     let spared = spared_untouched g.O.D.Disk.told g.O.D.Disk.may_leave g.O.D.Disk.moment g.O.D.Disk.left_since laws.only_now (g.O.Disks.at_path c.args.disks.now journal) in
+    let same = unspoiled_untouched g.O.D.Disk.told g.O.D.Disk.may_leave g.O.D.Disk.moment g.O.D.Disk.left_since laws.only_now (g.O.Disks.at_path c.args.disks.now journal) in
     let told = c.tell_no_memory.ensures.told w f in
-    (told.0, told.1, inr (rw c.tell_no_memory.ensures.status ((refl, told.2), stands_untouched _, spared)))
+    (told.0, told.1, inr (rw c.tell_no_memory.ensures.status ((refl, told.2), stands_untouched _, spared, same)))
 
 pub returns-in-Err-NoMemory-clause-migrated : goal.returns-in-Err-NoMemory-clause-migrated
 returns-in-Err-NoMemory-clause-migrated g c journal asks w f =
     let laws = g.met.O.D.Disk g.world.𝓛 g.world.𝓜 g.world.𝓡 ((λ s x. x), (λ x. x), (λ x. x), λ x. x) in
     let spared = spared_untouched g.O.D.Disk.told g.O.D.Disk.may_leave g.O.D.Disk.moment g.O.D.Disk.left_since laws.only_now (g.O.Disks.at_path c.args.disks.now journal) in
+    let same = unspoiled_untouched g.O.D.Disk.told g.O.D.Disk.may_leave g.O.D.Disk.moment g.O.D.Disk.left_since laws.only_now (g.O.Disks.at_path c.args.disks.now journal) in
     let told = c.tell_no_memory.ensures.told w f in
-    (told.0, told.1, inr (rw c.tell_no_memory.ensures.status ((refl, told.2), stands_untouched _, spared)))
+    (told.0, told.1, inr (rw c.tell_no_memory.ensures.status ((refl, told.2), stands_untouched _, spared, same)))

@@ -1,11 +1,11 @@
 use Rattle.std.proofs.Common.{inl, ◌≡◌, ℕ, ◌+◌, ◌<◌, drop, length, ap, Bool, Some, IsTrue, vec_len, rules, arith, ◌||◌, false, ap₂, refl, sym, ◌∙◌, subst}
 use Rattle.cat_io.specs.Listening.{first_of}
-use Rattle.cat_serve.specs.Hiring.{IsBack, IsDone, IsIdle}
-use Rattle.cat_serve.specs.Workers.{ends_of}
+use Rattle.cat_serve.specs.Hiring.{HasNone, IsBack, IsDone, IsIdle}
+use Rattle.cat_serve.specs.Workers.{ComesBack, ends_of}
 use Rattle.cat_serve.specs.declared.worker.Worker.{Worker}
 use Rattle.cat_serve.specs.ServingLaws.{grows_to_itself, grows_to_on}
 use Rattle.cat_serve.proofs.Taking.{taken_on, taken_self}
-use Rattle.cat_serve.proofs.Workers.{back_more, back_none, counts_on, numbered_pop, popped, popped_at}
+use Rattle.cat_serve.proofs.Workers.{back_more, back_none, comes_back, comes_back_more, counts_on, numbered_pop, popped, popped_at}
 use Rattle.cat_serve.proofs.serving.dismiss.Goals as goal
 
 none_failed : (a b : Bool) → a ≡ false → b ≡ false → (a || b) ≡ false
@@ -21,6 +21,7 @@ loop-worker-init g c = record {
   grows = grows_to_itself c.args.pass.now;
   taken = λ number has. taken_self number c.args.pass.now has;
   idle = λ p one all. (one, refl, all);
+  unserved = λ dealt none waits. (λ t. comes_back _ _, none, waits);
   back = λ attempts number ahead p dealt all numbered. (back_none (ends_of g.L.In.Source.left g.L.In.Source.faults g.L.Out.Sink.held g.L.Out.Sink.faults) c.args.desk.now attempts _ _ dealt _ _ _ _ _, all, numbered);
   counts = inl refl;
   tells = refl;
@@ -61,6 +62,16 @@ loop-worker-preserved g c =
           let r = i.idle p one all in
           let q = popped (IsIdle {L = g.row.L.Denot} {C = g.row.C.Denot} p) _ _ _ w c.pop.ensures.items is r.2 in
           (t.remembers p r.0 q.1.remembers, none_failed c.loop-worker.failed c.take_back-failed.result r.1 (t.failed ∙ q.1.works), q.0);
+      unserved = λ dealt none waits.
+          let r = i.unserved dealt none waits in
+          let n = popped (HasNone g.L.Listener.returned) _ _ _ w c.pop.ensures.items is r.1 in
+          let d =
+          popped_at (λ (k : ℕ) (v : Worker g.row.L.Denot g.row.C.Denot). IsTrue (g.L.Listener.tells c.args.listener.now) → g.L.Listener.waiting v.listener ≡ first_of (drop k dealt)) _ _ _ w
+          c.pop.ensures.items is r.2 in (
+            λ x. comes_back_more _ _ _ dealt _ _ _ _ (r.0 x) n.1 (d.1 x ∙ ap (λ (k : ℕ). first_of (drop k dealt)) long) less (t.rejoined (here x) (some x)),
+            n.0,
+            d.0,
+          );
       back = λ attempts number ahead p dealt all numbered.
           let r = i.back attempts number ahead p dealt all numbered in
           let n = numbered_pop number _ _ _ w c.pop.ensures.items is r.2 in
@@ -84,6 +95,11 @@ loop-worker-preserved g c =
       twins = λ x. let e = i.twins x in let m = some x in let n = t.twins (here x) in omega arith;
       dealt = t.dealt ∙ i.dealt;
     }
+
+pub returns-clause-unserved : goal.returns-clause-unserved
+returns-clause-unserved g c dealt none waits t =
+    let all : vec_len c.loop-worker.others ≡ 0 = search rules in
+    subst (λ (k : ℕ). ComesBack (drop k dealt) (g.L.Listener.rejoined c.args.listener.now) (g.L.Listener.rejoined c.loop-worker.listener)) all ((c.loop-worker.invariant.unserved dealt none waits).0 t)
 
 pub returns-clause-grows : goal.returns-clause-grows
 returns-clause-grows g c = c.loop-worker.invariant.grows

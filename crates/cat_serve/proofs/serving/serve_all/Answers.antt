@@ -1,15 +1,26 @@
-use Rattle.std.proofs.Common.{inl, ◌≡◌, ◌+◌, ℕ, Bool, true, false, drop, vec_len, rules, arith, refl, sym, ap, ◌∙◌, subst}
+use Rattle.std.proofs.Common.{inl, ◌≡◌, ◌+◌, ℕ, Bool, IsTrue, List, true, false, drop, vec_len, rules, arith, refl, sym, ap, ◌∙◌, subst}
 use Rattle.std.specs.List.{All}
 use Rattle.cat_desk.specs.Pass.{number_of, spare_of}
 use Rattle.cat_serve.specs.Hiring.{AreDealt, Counts, IsHired}
-use Rattle.cat_serve.specs.Workers.{ends_of, first_split}
+use Rattle.cat_serve.specs.Workers.{ComesBack, ends_of, first_split}
 use Rattle.cat_serve.proofs.Workers.{counts_none, rose_of, serves_all}
 use Rattle.cat_serve.proofs.serving.serve_all.Goals as goal
 
 pub returns-then-not-hire_all-clause-none : goal.returns-then-not-hire_all-clause-none
 returns-then-not-hire_all-clause-none g c is =
     let idle = c.dismiss.ensures.idle c.args.pass.now c.hire_all.ensures.remembers (λ k d lt. (c.hire_all.ensures.hired k d lt).idle) in
-    (idle.0, refl, λ t. (c.dismiss.ensures.own.waiting ∙ c.hire_all.ensures.own.waiting, c.dismiss.ensures.own.returned ∙ c.hire_all.ensures.own.returned))
+    let tells : g.L.Listener.tells c.hire_all.new.listener ≡ g.L.Listener.tells c.args.listener.now = c.hire_all.ensures.stands.tells in
+    let dealt = subst (λ (b : Bool). AreDealt g.L.Listener.waiting b (g.L.Listener.dealt c.args.listener.now) c.hire_all.new.others.items) (sym tells) c.hire_all.ensures.dealt in
+    let back = c.dismiss.ensures.unserved (g.L.Listener.dealt c.args.listener.now) (λ k d lt. (c.hire_all.ensures.hired k d lt).empty) dealt in (
+      idle.0,
+      refl,
+      λ t. (
+        c.dismiss.ensures.own.waiting ∙ c.hire_all.ensures.own.waiting,
+        c.dismiss.ensures.own.returned ∙ c.hire_all.ensures.own.returned,
+        subst (λ (groups : List (List _)). ComesBack (g.L.Listener.dealt c.args.listener.now) groups (g.L.Listener.rejoined c.dismiss.new.listener)) c.hire_all.ensures.rejoined
+            (back (subst (λ (b : Bool). IsTrue b) (sym tells) t)),
+      ),
+    )
 
 pub returns-then-not-hire_all-clause-stays : goal.returns-then-not-hire_all-clause-stays
 returns-then-not-hire_all-clause-stays g c other small =

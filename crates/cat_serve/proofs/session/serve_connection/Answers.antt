@@ -1,4 +1,4 @@
-use Rattle.std.proofs.Common.{◌≡◌, ℕ, ◌+◌, ◌-◌, ◌<◌, ◌≤◌, [], ◌∷◌, ◌++◌, Some, refl, ap, ◌∙◌, arith}
+use Rattle.std.proofs.Common.{◌≡◌, ℕ, ◌+◌, ◌-◌, ◌<◌, ◌≤◌, [], ◌∷◌, ◌++◌, Some, refl, ap, ◌∙◌, inr, arith}
 use Rattle.std.specs.Io.KnownBytes.{prepend_known}
 use Rattle.cat_serve.specs.declared.ending.Session.TheVariants as ends
 use Rattle.cat_serve.specs.Passes.{place}
@@ -29,16 +29,16 @@ whole_left left whole = omega (arith, whole)
 
 -- memory ran out before the first request
 pub returns-in_default-clause-alone : goal.returns-in_default-clause-alone
-returns-in_default-clause-alone g c = not_begun c.args.desk.now c.args.pass.now _ _ _ _
+returns-in_default-clause-alone g c = not_begun c.args.desk.now c.args.pass.now _ _ _
 
 pub returns-in_default-new-clause-alone : goal.returns-in_default-new-clause-alone
-returns-in_default-new-clause-alone g c = not_begun c.args.desk.now c.args.pass.now _ _ _ _
+returns-in_default-new-clause-alone g c = not_begun c.args.desk.now c.args.pass.now _ _ _
 
 pub returns-in_default-clause-serves : goal.returns-in_default-clause-serves
-returns-in_default-clause-serves g c = serves c.args.desk.now c.args.settings.attempts _ ends.NoMemory _ _ _ _ (none_visited c.args.desk.now c.args.settings.attempts c.args.pass.now _ _ _ _) c.requires.ready.starts c.requires.ready.legal
+returns-in_default-clause-serves g c = serves c.args.desk.now c.args.settings.attempts _ ends.NoMemory _ _ _ _ (none_visited c.args.desk.now c.args.settings.attempts c.args.pass.now _ _ _) c.requires.ready.starts c.requires.ready.legal
 
 pub returns-in_default-new-clause-serves : goal.returns-in_default-new-clause-serves
-returns-in_default-new-clause-serves g c = serves c.args.desk.now c.args.settings.attempts _ ends.NoMemory _ _ _ _ (none_visited c.args.desk.now c.args.settings.attempts c.args.pass.now _ _ _ _) c.requires.ready.starts c.requires.ready.legal
+returns-in_default-new-clause-serves g c = serves c.args.desk.now c.args.settings.attempts _ ends.NoMemory _ _ _ _ (none_visited c.args.desk.now c.args.settings.attempts c.args.pass.now _ _ _) c.requires.ready.starts c.requires.ready.legal
 
 pub turns-init : goal.turns-init
 turns-init g c = record {
@@ -102,7 +102,7 @@ returns-in-Some-clause-alone g c =
       λ k a begins whole stands.
           let x = so_far.2 k a (begins_first _ k so_far.0 ends.0 begins) whole stands in
           let t = ends.2 k x.0 (begins_then k so_far.0 ends.0 a.standing x.0.standing x.4 begins) (next_left x.0.left c.turns.count x.2 c.turns-test.true) x.3 in
-          (t.0, t.1, t.2, (x.0, x.1, t.3, λ e. c.in-Some.ensures.cut (ap Some e) x.0.bytes x.3.bytes_are), t.4, takes_on so_far.0 ends.0 a.standing x.0.standing t.2 x.4 t.5),
+          (t.0, t.1, t.2, inr (x.0, x.1, t.3, λ e. c.in-Some.ensures.cut (ap Some e) x.0.bytes x.3.bytes_are), t.4, takes_on so_far.0 ends.0 a.standing x.0.standing t.2 x.4 t.5),
     )
 
 pub returns-in-Some-clause-kept : goal.returns-in-Some-clause-kept
@@ -115,7 +115,7 @@ returns-clause-alone g c =
       so_far.1,
       λ k a begins whole stands.
           let x = so_far.2 k a begins whole stands in
-          (x.0.written, x.3.held_is, x.0.standing, (x.0, x.1, (none_left x.0.left c.turns.count x.2 c.turns-test.false, refl, refl), λ e. absurd (not_cut e)), x.3.pass_at, x.4),
+          (x.0.written, x.3.held_is, x.0.standing, inr (x.0, x.1, (none_left x.0.left c.turns.count x.2 c.turns-test.false, refl, refl), λ e. absurd (not_cut e)), x.3.pass_at, x.4),
     )
 
 pub returns-in-Some-clause-serves : goal.returns-in-Some-clause-serves
