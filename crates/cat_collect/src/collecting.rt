@@ -69,8 +69,8 @@ fn collect_at<R: Wait + Threads + Sync, K: Keeper, G: Gate>(
 }
 
 /// Removes the contents that nothing keeps under a policy, as its cutoffs are at the moment of the
-/// call: a sweep is opened, what it keeps is marked by so many workers outside any turn, and it is
-/// settled. Before each round the gate is asked, without a turn. `SweepOpen` where another caller's
+/// call: a sweep is opened, and it is settled. Where the gate is asked, the pass has no turn. The
+/// code marks what is kept between turns, by so many workers. `SweepOpen` where another caller's
 /// sweep is open.
 pub fn collect<R: Wait + Threads + Sync, K: Keeper, G: Gate, C: Clock>(
     rt: &R,

@@ -93,7 +93,7 @@ checkpoint_code digest = prefixed (8 ∷ []) (as_type
     (λ x. record { place = x.0; draft = x.1.0; drafts = x.1.1.0; references = x.1.1.1.0; commits = x.1.1.1.1.0; contents = x.1.1.1.1.1 })
     (u32_code ⊗ depends u64_code (λ draft. open_code draft ⊗ references_code ⊗ commits_code digest ⊗ contents_code digest)))
 
--- the checkpoints that have a spelling
+-- the checkpoints that have a spelling, where each field fits its type
 abbrev pub are_drafts_spelled : Checkpoint → Bool
 are_drafts_spelled c = keys_ascend nat_cmp None c.drafts && are_open_drafts c.draft c.drafts
 

@@ -91,7 +91,7 @@ log_entry_code digest = told_by telling told
 abbrev pub is_head_of : ℕ → Option Hash → Bool
 is_head_of kind head = if leaves_head kind then is_some head else is_none head
 
--- the entries that have a spelling, whoever the caller is
+-- the entries that have a spelling, whoever the caller is, where each field fits its type
 unfoldable pub is_logged : Digest → LogEntry → Bool
 is_logged digest e = is_draft_of (action_number e.action) e.draft && is_head_of (action_number e.action) e.head && action_is_logged digest e.draft e.action
 

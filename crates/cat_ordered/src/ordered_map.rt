@@ -87,8 +87,8 @@ impl<K: Ord + Drop, V: Drop> OrderedMap<K, V> {
         self.len == 0
     }
 
-    /// The value of a key, and with how many keys it was compared: at most `2 * log2(n + 1)` for a
-    /// map of n keys.
+    /// The value of a key, and a count of the keys that it was compared with: at most
+    /// `2 * log2(n + 1)` for a map of n keys.
     pub fn get_counted<Q: Seek<K>>(&self, key: &Q) -> (Option<&V>, u32)
         ensures value { option_map (λ v. v.now) result.0
             ≡ value_of K.cmp self.now (Q.sought key.now) }

@@ -1,5 +1,5 @@
-//! Tokens and pages of listings. A page has the first so many of what is left of a listing, and a
-//! token exactly where more follow. A token is a text, and the text of each token is read as that
+//! Tokens and pages of listings. A page has the first so many of what is left of a listing, and for
+//! a limit above 0 a token exactly where more follow. A token is a text, and the text of each token is read as that
 //! token. Pages that follow one another by their tokens make the listing, each item once, and a
 //! listing at a commit stays whatever commits are added meanwhile.
 #![tactic(auto)]

@@ -218,8 +218,8 @@ impl SharedCatalogue {
     }
 
     /// Puts the catalogue after a change in the place of the old one, which is changed in its own
-    /// memory where nothing shares it. Where it fails, the catalogue may be the spare one. Views
-    /// keep the old one.
+    /// memory where nothing shares it. Of what is left where it fails nothing is said. Views keep
+    /// the old one.
     pub fn renew(
         &mut self,
         alloc: Global,

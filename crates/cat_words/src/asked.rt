@@ -192,7 +192,7 @@ pub fn asked_of<'a>(alloc: Global, words: &'a [&'a str]) -> Result<Asked<'a>, Wo
     }
 }
 
-/// The address at which the words ask to listen, want of memory aside.
+/// The address at which the words ask to listen, if one is given; `None` says nothing.
 pub fn address_of<'a>(alloc: Global, words: &'a [&'a str]) -> Option<&'a str>
     ensures { IfSome result
         (λ address. option_and_then address_in (asked (map (λ word. word.now) words.now))

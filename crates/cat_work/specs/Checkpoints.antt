@@ -23,12 +23,12 @@ use Rattle.cat_work.specs.Passes.{IsAlone, book_of, state_of}
 abbrev pub base_after : DeskId → List LogEntry → List OpenDraft → List ℕ
 base_after desk log drafts = checkpoint_spelling (checkpoint_at desk.opened log (state_of desk log) drafts)
 
--- the mark tells that one may be made: the journal has bases, and no sweep is open
+-- the mark tells that one may be made: the journal's format may have bases, and no sweep is open
 pub record MayBase (m : Mark) : Type 0 where
   pub newer : m.format ≡ 2
   pub unswept : m.sweep ≡ None
 
--- one was made of the state after this log: it is the base now, at the place that is told, and no entry was made
+-- one was made: the base is at the place that is told, which is that after this log
 pub record IsBased (desk : DeskId) (after : Mark) (m : List LogEntry) (bytes : List ℕ) (told : Told) : Type 0 where
   pub up : after.fault ≡ None
   pub may : MayBase after

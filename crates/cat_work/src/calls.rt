@@ -25,8 +25,8 @@ use cat_model::reply::Told;
 use std::alloc::Global;
 use std::sync::Wait;
 
-/// Makes a call that opens a draft, in as many attempts as the caller allows, at a moment. What it
-/// makes of its branch's head is built outside the turns; the gate is asked before each settling.
+/// Makes a call that opens a draft, in as many attempts as the caller allows, at a moment. Where the
+/// gate is asked, the pass has no turn. The code builds between the turns.
 fn make_at<R: Wait, K: Keeper, G: Gate>(
     rt: &R,
     alloc: Global,

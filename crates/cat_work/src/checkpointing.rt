@@ -14,8 +14,8 @@ use cat_model::reply::Told;
 use std::alloc::Global;
 use std::sync::Wait;
 
-/// Writes the state into the journal, which goes on from it, in one turn. It makes no entry, reads
-/// no clock and opens no draft.
+/// Makes the present state the journal's base, as the mark then tells. It makes no entry, reads no
+/// clock and opens no draft.
 pub fn checkpoint<R: Wait, K: Keeper>(
     rt: &R,
     alloc: Global,

@@ -1,8 +1,8 @@
 //! Calls on a store that callers share at a desk, each on its pass. A call that opens a draft opens
-//! it in one turn, builds outside any turn what it makes of its branch's head, and settles it in a
-//! later turn: where the head has moved it builds again, in as many attempts as the caller allows.
-//! Each answer has its cause in what the pass has then seen; and on the only pass of a desk it is
-//! that of the model's call on the pass's book.
+//! it in one turn, and settles it in a later one what it makes of its branch's head: where the head
+//! has moved it tries again, in as many attempts as the caller allows. The code builds between the
+//! turns. Each answer has its cause in what the pass has then seen; and on the only pass of a desk
+//! it is that of the model's call on the pass's book.
 #![tactic(auto)]
 
 mod alone;
