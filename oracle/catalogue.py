@@ -326,6 +326,28 @@ class Catalogue:
         self.keep(commits)
         self.contents = {hashlib.sha256(content_bytes(*c)).digest(): c for c in contents}
 
+    def moved(self, place, draft):
+        """The same state where another log has led to it, which ended at this place and draft number."""
+        out = Catalogue()
+        references = [(name, kind, head) for name, (kind, head) in self.references.items()]
+        out.start(place, draft, (), references, self.commits.values(), self.contents.values())
+        out.bases = [0]
+        return out
+
+    def mark(self):
+        """What `undo` takes a call back to."""
+        references = {name: list(own) for name, own in self.references.items()}
+        return (self.place, self.draft, len(self.log), len(self.bases), references, len(self.commits), self.contents,
+                len(self.contents))
+
+    def undo(self, mark):
+        """Takes back what was done since: a sweep leaves the contents that it found as they were, all else adds."""
+        self.place, self.draft, entries, bases, self.references, commits, self.contents, contents = mark
+        del self.log[entries:], self.bases[bases:]
+        for held, count in (self.commits, commits), (self.contents, contents):
+            while len(held) > count:
+                held.popitem()
+
     def opened(self):
         """What a new opening of the log knows: drafts that left no entry are forgotten."""
         self.draft = max((e[2] for e in self.log), default=0)
@@ -481,6 +503,7 @@ class Catalogue:
             raise Refused("REFERENCE_ALREADY_EXISTS", "reference exists")
         if len(self.references) >= LIMITS["References"]:
             raise limit("References")
+        self.need_entry()
         self.need_contents(self.entries(target).items())
         self.references[name] = [kind, target]
         self.entry("create", 0, moment, (name, kind, source), target)
@@ -494,6 +517,7 @@ class Catalogue:
             raise bad("other type")
         next(steps)
         target = next(steps)
+        self.need_entry()
         if expected is not None and expected != own[1]:
             raise conflicts_refusal([(None, "UNEXPECTED_HASH")])
         self.need_contents(self.entries(target).items())
@@ -507,6 +531,7 @@ class Catalogue:
             raise bad("default branch")
         if kind is not None and own[0] != kind:
             raise bad("other type")
+        self.need_entry()
         if expected is not None and expected != own[1]:
             raise conflicts_refusal([(None, "UNEXPECTED_HASH")])
         shown = self.shown(name, own[1])
@@ -519,6 +544,18 @@ class Catalogue:
     def entry(self, what, draft, moment, command, head):
         self.place += 1
         self.log.append((what, self.place, draft, moment, command, head))
+
+    def need_entry(self):
+        if self.place >= LIMITS["Log"]:
+            raise limit("Log")
+
+    def need_room(self, head, commits, puts):
+        """What a call's commits and PUTs need, also where they stand already."""
+        self.need_entry()
+        if len(self.commits) + commits > LIMITS["Commits"]:
+            raise limit("Commits")
+        if len(self.entries(head)) + puts > LIMITS["Keys"]:
+            raise limit("Keys")
 
     def branch(self, name):
         if self.reference(name)[0] != BRANCH:
@@ -550,8 +587,7 @@ class Catalogue:
                 digest = hashlib.sha256(spelled).digest()
                 entries[o.key] = (o.content["type"], content_id, digest)
         puts = len(entries)
-        if len(now) + puts > LIMITS["Keys"]:
-            raise limit("Keys")
+        self.need_room(head, 1, puts)
         if len(self.contents) + puts > LIMITS["Contents"]:
             raise limit("Contents")
         then = now if expected is None else self.entries(expected)
@@ -644,8 +680,7 @@ class Catalogue:
 
     def room(self, plans, head):
         puts = sum(1 for p in plans for _, entry in p.ops if entry is not None)
-        if len(self.entries(head)) + puts > LIMITS["Keys"]:
-            raise limit("Keys")
+        self.need_room(head, sum(1 for p in plans if p.ops), puts)
 
     def settled(self, conflicts, as_result, dry_run, plans, reply):
         """Whether the reply stands already, without a commit."""
@@ -716,8 +751,7 @@ class Catalogue:
 
     def sweep(self, opened, policy, commits, contents, moment):
         """Removes the contents that nothing kept; how many stay, and how many went."""
-        if self.place >= LIMITS["Log"]:
-            raise limit("Log")
+        self.need_entry()
         if len(commits) + len(contents) > LIMITS["Names"]:
             raise limit("Names")
         saved = self.saved(opened, policy, commits, contents)

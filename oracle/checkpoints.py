@@ -17,7 +17,7 @@ import journal
 import random_requests
 import reading
 import replies
-from compare import line_of
+from reading import told as line
 
 # The first commit's journal with a checkpoint behind it.
 WORKED = "14e690109083e1599fa52932eb820f62bd5df3553676d5e0b6e39fb5b2c13dad"
@@ -31,13 +31,6 @@ def need(what, wanted, got):
 def state(c):
     """What a catalogue is, and what its log has to know of the one before."""
     return (c.place, c.references, [(h, k.spell()) for h, k in c.commits.items()], c.contents, c.draft)
-
-
-def line(file):
-    try:
-        return line_of(reading.opened(file))
-    except reading.Unopened as unopened:
-        return unopened.line
 
 
 class Making:

@@ -10,7 +10,11 @@ in the journal. At times the program is ended and started again on the same jour
 in some sessions behind sweeps that `nessie gc` makes, or that the rules write into
 it with what no single caller can come to: places and names of others. At the end the
 journal's bytes and the line of `nessie check` are compared too, and a row of reads
-that is sent at once.
+that is sent at once. Then the session goes on in a file that has no room for all of
+its changes, and in a journal that begins at a checkpoint of its state with nearly
+the last place, the last draft number, or both.
+Of four sessions three have checkpoints, two at least with a start behind each; of
+three one begins with a journal of format 1, and of five two have sweeps.
 The first difference of each kind is printed, with the request and both replies.
 With --serve the requests go over TCP to `nessie serve`, on one connection.
 """
@@ -21,6 +25,7 @@ import json
 import os
 import pickle
 import random
+import resource
 import select
 import shutil
 import signal
@@ -32,11 +37,22 @@ import time
 import catalogue as rules
 import journal
 import random_requests
-import reading
 import replies
 import served
+from reading import line_of, told
 
 WAIT = 60
+
+# The refusals that these sessions come to. The others: `head moved` and `sweep open` want several callers
+# (tools/history.py), `no memory` a limit on it (tools/refuse_allocations.sh), `hash collision` what nobody has;
+# 65,535 references and 1,000,000 keys are rows of corners.py, and the other limits are out of reach.
+REFUSALS = [
+    "bad head", "TOO_LARGE", "NO_ROUTE", "WRONG_METHOD", "ENCODING", "bad path", "bad query", "bad body", "DOWN", "OLD_FORMAT",
+    "REFERENCE_NOT_FOUND", "not a branch", "default branch", "other type", "not consecutive", "REFERENCE_ALREADY_EXISTS",
+    "LIMIT Drafts", "LIMIT Log", "REFERENCE_CONFLICT", "EXPIRED", "FAULT", "content absent", "content expired"]
+CONFLICTS = [
+    "UNEXPECTED_HASH", "KEY_EXISTS", "KEY_DOES_NOT_EXIST", "PAYLOAD_DIFFERS", "CONTENT_ID_DIFFERS", "VALUE_DIFFERS",
+    "NAMESPACE_ABSENT", "NOT_A_NAMESPACE", "NAMESPACE_NOT_EMPTY"]
 
 
 class Stopped(Exception):
@@ -49,7 +65,7 @@ class Program:
     def __init__(self, program, path, before=None, serve=False):
         self.serve, self.path = serve, path
         if serve:
-            self.child = served.Child(program, path, WAIT)
+            self.child = served.Child(program, path, WAIT, before)
         else:
             self.child = subprocess.Popen([program, "script", path], stdin=subprocess.PIPE,
                                           stdout=subprocess.PIPE, bufsize=0, preexec_fn=before)
@@ -103,16 +119,19 @@ class Program:
         self.child.stdout.close()
 
 
+def grown_to(size):
+    """What is done before the program starts, so that it writes no file past a size, and is silent about it."""
+    def before():
+        os.dup2(os.open(os.devnull, os.O_WRONLY), 2)
+        signal.signal(signal.SIGXFSZ, signal.SIG_IGN)
+        resource.setrlimit(resource.RLIMIT_FSIZE, (size, size))
+    return before
+
+
 def last_moment(path):
     """The moment of a journal's last entry."""
     with open(path, "rb") as f:
         return journal.last_moment(f.read())
-
-
-def line_of(c):
-    return b"entries %d references %d commits %d contents %d head %s\n" % (
-        c.place, len(c.references), len(c.commits), len(c.contents),
-        c.references["main"][1].hex().encode())
 
 
 class Comparison:
@@ -148,50 +167,141 @@ class Comparison:
     def session(self, seed):
         rng = random.Random(seed)
         folder = tempfile.mkdtemp(prefix="oracle-")
-        program = None
+        self.program = None
         try:
             path = os.path.join(folder, "j")
             c = rules.Catalogue()
-            sweeping = rng.random() < 0.4
-            maker = random_requests.Requests(rng, c, sweeping, rng.random() < 0.5)
-            side = replies.Session(c)
-            self.lines = [line_of(c)]
-            self.bases = []
+            maker = random_requests.Requests(rng, c, self.sessions % 5 in (0, 2), self.sessions % 4 < 3)
             self.recorded.append([])
-            if maker.checkpointing and rng.random() < 0.3:
+            self.begin(c)
+            if self.sessions % 3 == 1:
                 self.old_journal(c, path)
-            count = rng.choice([40, 120, 250, self.options.requests])
-            program = Program(self.options.program, path, serve=self.options.serve)
-            alive = True
-            for number in range(count):
-                if alive and program.sent >= 990 or rng.random() < (0.05 if sweeping else 0.004):
-                    rest, status = program.ended()
-                    self.extra["restarts"] += 1
-                    if rest or status:
-                        self.difference("end of a session", (seed, number), None, (b"", 0), (rest, status))
-                    if sweeping:
-                        self.sweeps(maker, path)
-                    if maker.checkpointing and rng.random() < 0.5:
-                        self.migrate(seed, c, path)
-                    program = Program(self.options.program, path, serve=self.options.serve)
-                    c.opened()
-                    self.note(None)
-                if not self.step(seed, number, maker, side, program):
-                    return
-            if rng.random() < 0.5:
-                self.at_once(seed, maker, side, path, program)
-                program = None
-            else:
-                self.last(seed, maker, side, program)
-                program = None
-            self.files(seed, c, path)
+            if self.main(seed, maker, path):
+                self.files(seed, c, path)
+                self.without_room(seed, maker, path)
+                self.at_limits(seed, maker, path + "-last")
         except Stopped as e:
             self.difference("stopped", seed, getattr(self, "request", None), None, str(e))
         finally:
-            if program is not None:
-                program.kill()
+            if self.program is not None:
+                self.program.kill()
             shutil.rmtree(folder, ignore_errors=True)
             self.sessions += 1
+
+    def begin(self, c):
+        """What is known of a journal's bytes: a line for each of its entries, and its checkpoints."""
+        self.side = replies.Session(c)
+        self.lines = [line_of(c)]
+        self.bases = [(0, journal.checkpoint(c))] if c.bases else []
+
+    def start(self, path, before=None):
+        self.program = Program(self.options.program, path, before, self.options.serve)
+
+    def end(self, where, status=0):
+        """The program reads to the end of its input."""
+        program, self.program = self.program, None
+        rest, found = program.ended()
+        if rest or found != status:
+            self.difference("end of a session", where, None, (b"", status), (rest, found))
+
+    def main(self, seed, maker, path):
+        """Random requests on a journal, and reopenings of it; whether all went as it should."""
+        rng, c = maker.rng, maker.c
+        count = rng.choice([40, 120, 250, self.options.requests])
+        planned = self.planned(maker, count)
+        self.start(path)
+        for number in range(count):
+            often = rng.random() < (0.05 if maker.sweeping else 0.004)
+            if often or self.program.sent >= 990 or planned.get(number) == "reopen":
+                self.end((seed, number))
+                if maker.sweeping:
+                    self.sweeps(maker, path)
+                if maker.checkpointing and (c.format == 1 and number in planned or rng.random() < 0.5):
+                    self.migrate(seed, c, path)
+                self.reopen(c, path)
+            kind = planned.get(number)
+            if not self.step((seed, number), maker, kind if kind != "reopen" else None):
+                return False
+        self.end(seed)
+        self.at_once(seed, maker, path)
+        for what in ("no request", "too large", rng.choice(["close", "1.0"])):
+            self.start(path)
+            self.last(seed, maker, what)
+        return True
+
+    def planned(self, maker, count):
+        """In each half of a session a checkpoint, a start upon it, and what goes on behind it; a sweep of all but the heads."""
+        rng, part, out = maker.rng, max(count // 5, 1), {}
+        if maker.sweeping:
+            out[count // 3 + rng.randrange(part)] = "clearance"
+        for first in (0, count // 2) if maker.checkpointing else ():
+            at = first + rng.randrange(part)
+            out[at] = "checkpoint"
+            out[at + 1 + rng.randrange(part)] = "reopen"
+        return out
+
+    def reopen(self, c, path, before=None):
+        self.extra["starts on a journal"] += 1
+        if c.bases:
+            self.extra["starts from a checkpoint"] += 1
+            self.extra["entries behind it then"] += len(c.log) - c.bases[-1]
+        self.start(path, before)
+        c.opened()
+        self.note(("opened",))
+
+    def without_room(self, seed, maker, path):
+        """The session goes on where the file may not grow past a size, until a change isn't kept; then where it may."""
+        c, rng, side = maker.c, maker.rng, self.side
+        side.room = rng.choice([0, 0, 150, 400, 1000, 3000])
+        self.note(("room", side.room))
+        self.reopen(c, path, grown_to(os.path.getsize(path) + side.room))
+        after = rng.randrange(4, 10)
+        for number in range(200):
+            if not self.step((seed, "no room", number), maker, "checkpoint" if side.faults and after == 2 else None):
+                return
+            after -= side.faults is not None
+            if after == 0:
+                break
+        status = 2 if side.faults else 0
+        side.room = side.faults = None
+        self.note(("room", None))
+        self.end((seed, "no room"), status)
+        self.checked("after a fault", seed, path, line_of(c), 0)
+        self.reopen(c, path)
+        for number in range(6):
+            if not self.step((seed, "room again", number), maker):
+                return
+        self.end((seed, "room again"))
+        with open(path, "rb") as f:
+            found = f.read()
+        # What a change that wasn't kept has left stands behind the closed gate.
+        other = self.compared_bytes(c, found[:journal.gates(found)[-1] + 1])
+        if other:
+            self.difference("journal after a fault", seed, None, None, other)
+        self.checked("after a fault, and more", seed, path, line_of(c), 0)
+
+    def at_limits(self, seed, maker, path):
+        """The same state in a journal that begins at a checkpoint of it, where few numbers are left."""
+        rng, which = maker.rng, self.sessions % 3
+        place = rules.LIMITS["Log"] - rng.randrange(4) if which != 2 else maker.c.place
+        draft = rules.LIMITS["Drafts"] - rng.randrange(4) if which != 0 else maker.c.draft
+        maker.c = c = maker.c.moved(place, draft)
+        self.begin(c)
+        found = journal.written([self.bases[0][1]])
+        self.note(("begun", found))
+        with open(path, "wb") as f:
+            f.write(found)
+        self.reopen(c, path)
+        for number in range(24):
+            if number == 14:
+                self.end((seed, "last numbers"))
+                if maker.sweeping:
+                    self.sweeps(maker, path)
+                self.reopen(c, path)
+            if not self.step((seed, "last numbers", number), maker):
+                return
+        self.end((seed, "last numbers"))
+        self.files(seed, c, path)
 
     def old_journal(self, c, path):
         """A journal of format 1 to begin with."""
@@ -212,6 +322,7 @@ class Comparison:
             if f.read() != journal.newer(found):
                 self.difference("what migrate leaves", seed, None, None, None)
         self.extra["migrations of format %d" % c.format] += 1
+        self.note(("migrated", found, journal.newer(found)))
         c.format = 2
         self.note(("format", 2))
 
@@ -231,12 +342,14 @@ class Comparison:
             self.difference("gc", words, None, wanted, (got.stdout, got.returncode))
         if len(c.log) > before:
             self.lines.append(line_of(c))
-        self.note((words, moment, got.stdout, got.returncode))
+        self.note(("gc", words, moment, (got.stdout, got.returncode)))
         self.extra["gc, status %d" % wanted[1]] += 1
 
     def sweep_by_hand(self, maker, path):
         """A sweep that the rules write, from a policy that was resolved and with names of others' drafts."""
         c = maker.c
+        if c.place == rules.LIMITS["Log"]:
+            return
         with open(path, "rb") as f:
             found = f.read()
         moment = journal.last_moment(found)
@@ -248,12 +361,14 @@ class Comparison:
         got = subprocess.run([self.options.program, "check", path], stdout=subprocess.PIPE)
         if (got.stdout, got.returncode) != (self.lines[-1], 0):
             self.difference("a sweep", command, None, (self.lines[-1], 0), (got.stdout, got.returncode))
-        self.note((command, moment, got.stdout))
+        self.note(("sweep", command, moment, got.stdout))
         self.extra["sweeps"] += 1
         self.extra["contents that sweeps removed"] += removed
 
-    def step(self, seed, number, maker, side, program):
-        kind, method, target, fields, body = maker.one()
+    def step(self, where, maker, kind=None):
+        """A random request; whether the two still stand at the same state."""
+        side, program = self.side, self.program
+        kind, method, target, fields, body = maker.one(kind)
         self.request = maker.wire(method, target, fields, body)
         at = 0
         while maker.chance(0.04) and at < len(self.request) - 1:
@@ -267,26 +382,24 @@ class Comparison:
         got = program.reply(method != "HEAD")
         moment = self.moment_of(program, got, target)
         wanted = side.answer(method, target, fields, body, moment or 0)
-        self.note((method, target, fields, body, moment or 0, got))
+        self.note(("asked", method, target, fields, body, moment or 0, False, got))
         self.count(kind, side)
         if len(side.catalogue.log) == len(self.lines):
             self.lines.append(line_of(side.catalogue))
         if len(side.catalogue.bases) > len(self.bases):
             self.bases.append((len(side.catalogue.log), journal.checkpoint(side.catalogue)))
-        if not self.same(kind, (seed, number), side, wanted, got):
+        if not self.same(kind, where, side, wanted, got):
             # The two may stand at different states from here on.
             return method == "GET"
         if self.new_head is not None:
-            target = b"/api/v2/trees/@%s/history" % self.new_head.encode()
-            for rest in (b"?max-records=1&fetch=ALL",):
-                request = b"GET " + target + rest + b" HTTP/1.1\r\n\r\n"
-                program.send(request)
-                self.request = request
-                got = program.reply(True)
-                wanted = side.answer("GET", target + rest, [], b"", 0)
-                self.note(("GET", target + rest, [], b"", 0, got))
-                self.extra["history of a new commit"] += 1
-                self.same("new commit", (seed, number), side, wanted, got)
+            target = b"/api/v2/trees/@%s/history?max-records=1&fetch=ALL" % self.new_head.encode()
+            self.request = b"GET " + target + b" HTTP/1.1\r\n\r\n"
+            program.send(self.request)
+            got = program.reply(True)
+            wanted = side.answer("GET", target, [], b"", 0)
+            self.note(("asked", "GET", target, [], b"", 0, False, got))
+            self.extra["history of a new commit"] += 1
+            self.same("new commit", where, side, wanted, got)
         return True
 
     def count(self, kind, side):
@@ -349,12 +462,11 @@ class Comparison:
                     out.append((kind, method, target, fields, body))
         return out
 
-    def at_once(self, seed, maker, side, path, program):
-        """A row of reads in one input, ended after a request that closes or by the end."""
-        rest, status = program.ended()
-        if rest or status:
-            self.difference("end of a session", seed, None, (b"", 0), (rest, status))
+    def at_once(self, seed, maker, path):
+        """A row of reads in one input."""
+        side = self.side
         maker.c.opened()
+        self.note(("opened",))
         rows = self.reads(maker, maker.rng.randrange(1, 40))
         sent = wanted = b""
         for kind, method, target, fields, body in rows:
@@ -367,11 +479,11 @@ class Comparison:
         if (got.stdout, got.returncode) != (wanted, 0):
             self.difference("reads at once", seed, sent, (wanted, 0), (got.stdout, got.returncode))
 
-    def last(self, seed, maker, side, program):
+    def last(self, seed, maker, what):
         """A request after which the session ends."""
-        rng = maker.rng
+        rng, side = maker.rng, self.side
+        program, self.program = self.program, None
         kind, method, target, fields, body = self.reads(maker, 1)[0]
-        what = rng.choice(["close", "1.0", "no request", "too large"])
         self.extra["ended by " + what] += 1
         if what in ("close", "1.0"):
             version = "1.1"
@@ -387,6 +499,7 @@ class Comparison:
                 request, wanted = rng.choice(NO_REQUESTS), NO_REQUEST
             else:
                 request, wanted = rng.choice(TOO_LARGE), LARGE
+            self.outcomes["last", "bad head" if what == "no request" else "TOO_LARGE"] += 1
             status = 8
         self.request = request
         program.send(request + rng.choice([b"", b"GET /api/v2/config HTTP/1.1\r\n\r\n", b"x"])
@@ -395,10 +508,22 @@ class Comparison:
         if (rest, found) != (wanted, status):
             self.difference("last: " + what, seed, request[:300], (wanted, status), (rest, found))
 
+    def compared_bytes(self, c, found):
+        self.note(("journal", found))
+        return journal.compared(found, c.log, self.bases, journal.HEADER if c.format == 2 else journal.OLD)
+
+    def checked(self, what, where, path, line, status):
+        """What `check` says of a file."""
+        with open(path, "rb") as f:
+            self.note(("file", f.read(), line))
+        got = subprocess.run([self.options.program, "check", path], stdout=subprocess.PIPE)
+        if (got.stdout, got.returncode) != (line, status):
+            self.difference("check " + what, where, None, (line, status), (got.stdout, got.returncode))
+
     def files(self, seed, c, path):
         with open(path, "rb") as f:
             found = f.read()
-        other = journal.compared(found, c.log, self.bases, journal.HEADER if c.format == 2 else journal.OLD)
+        other = self.compared_bytes(c, found)
         self.extra["journals"] += 1
         self.extra["checkpoints in journals"] += len(self.bases)
         if len(self.lines) == len(c.log) + 1:
@@ -406,10 +531,7 @@ class Comparison:
         self.extra["journal entries"] += len(c.log)
         if other:
             self.difference("journal", seed, None, None, other)
-        got = subprocess.run([self.options.program, "check", path], stdout=subprocess.PIPE)
-        wanted = line_of(c)
-        if (got.stdout, got.returncode) != (wanted, 0):
-            self.difference("check", seed, None, (wanted, 0), (got.stdout, got.returncode))
+        self.checked("", seed, path, line_of(c), 0)
 
     def cuts(self, seed, c, path, found):
         """The file with one fault: what `check` says of it."""
@@ -417,7 +539,9 @@ class Comparison:
         rng = random.Random(seed)
         for _ in range(3):
             b = bytearray(found)
-            what = rng.choice(["cut", "gate", "header", "byte", "more", "bit", "sweep", "sweep"])
+            # A sweep more than the last place has no bytes.
+            room = 2 if c.place < rules.LIMITS["Log"] else 0
+            what = rng.choice(["cut", "gate", "header", "byte", "more", "bit"] + ["sweep"] * room)
             damaged = lambda n: b"nessie: damaged at %d\n" % n
             if what == "cut":
                 n = min(rng.choice([rng.randrange(len(b)), rng.choice(gates), rng.choice(gates) + 1, 16, 17, 1, 0]),
@@ -441,10 +565,10 @@ class Comparison:
                 wanted = {self.lines[len(c.log)]}
             elif what == "sweep":
                 what, b = self.one_sweep_more(rng, c, found)
-                wanted = {self.told(b)}
+                wanted = {told(b)}
             elif what == "bit":
                 b[rng.randrange(16, len(b))] ^= 1 << rng.randrange(8)
-                wanted = {self.told(b)}
+                wanted = {told(b)}
             else:
                 # Of a commit each byte counts, but for the draft's number and unchanged keys.
                 made = [i for i, e in enumerate(c.log) if e[0] == "commit"
@@ -457,12 +581,13 @@ class Comparison:
                     1 << rng.randrange(8))
                 wanted = {damaged(gates[i]), b"nessie: illegal entry %d\n" % (i + 1)}
             if self.bases or c.format == 1:
-                wanted = {self.told(b)}
+                wanted = {told(b)}
             other = path + "2"
             with open(other, "wb") as f:
                 f.write(b)
             got = subprocess.run([self.options.program, "check", other], stdout=subprocess.PIPE)
             self.extra["journal with a fault: " + what] += 1
+            self.note(("file", bytes(b), got.stdout))
             status = 0
             for line in wanted:
                 if line.startswith(b"nessie"):
@@ -495,13 +620,14 @@ class Comparison:
         """The file with a sweep more between its entries, which may be damage or illegal, or make one behind it so."""
         gates = journal.entry_gates(found)
         log = [e[:3] + (journal.moment_at(found, gate),) + e[4:] for e, gate in zip(c.log, gates)]
+        front = [spelled for before, spelled in self.bases if before == 0][:1]
         at = rng.randrange(len(log) + 1)
         opened, policy, commits, contents = random_requests.Requests(rng, c).sweep()
         if rng.random() < 0.8:
-            opened, commits = min(opened, at), [h for h in commits if rng.random() < 0.5]
+            opened, commits = min(opened, c.first + at), [h for h in commits if rng.random() < 0.5]
         if rng.random() < 0.1:
             policy = policy[0], [("b*", (rules.ALL,))] * rng.choice([rules.MOST_PATTERNS, rules.MOST_PATTERNS + 1])
-        sweep = ("sweep", at + 1, 0, log[at - 1][3] if at else 0, (opened, policy, commits, contents), None)
+        sweep = ("sweep", c.first + at + 1, 0, log[at - 1][3] if at else 0, (opened, policy, commits, contents), None)
         spelled = bytearray(journal.payload(sweep, sweep[3]))
         what = "a sweep more"
         if rng.random() < 0.5:
@@ -509,14 +635,12 @@ class Comparison:
             spelled[rng.randrange(len(spelled))] ^= 1 << rng.randrange(8)
         later = [(e[0], e[1] + 1) + e[2:] for e in log[at:]]
         spell = lambda entries: [journal.payload(e, e[3]) for e in entries]
-        return what, journal.written(spell(log[:at]) + [bytes(spelled)] + spell(later))
+        return what, journal.written(front + spell(log[:at]) + [bytes(spelled)] + spell(later))
 
-    def told(self, file):
-        """What `check` says of a file, by the rules."""
-        try:
-            return line_of(reading.opened(bytes(file)))
-        except reading.Unopened as e:
-            return e.line
+    def keep_record(self):
+        if self.options.record:
+            with open(self.options.record, "wb") as f:
+                pickle.dump(self.recorded, f)
 
     def report(self):
         print("sessions %d, requests compared %d" % (self.sessions, self.compared))
@@ -526,6 +650,11 @@ class Comparison:
             for k in sorted(counter, key=str):
                 print("   %-60s %d" % (k if isinstance(k, str) else " / ".join(map(str, k)), counter[k]))
         sys.stdout.flush()
+
+    def report_absent(self):
+        told = {what for _, what in self.outcomes} | {what for _, what in self.conflicts}
+        absent = [what for what in REFUSALS + CONFLICTS if what not in told]
+        print("refusals and conflicts of %d that didn't come up: %s" % (len(REFUSALS + CONFLICTS), ", ".join(absent) or "none"))
 
 
 def last_refusal(kind, message):
@@ -586,10 +715,9 @@ def main():
         if i % 10 == 9:
             print("-- %d sessions, %d requests, %d differences" % (
                 comparison.sessions, comparison.compared, sum(comparison.differences.values())), flush=True)
+    comparison.report_absent()
     comparison.report()
-    if options.record:
-        with open(options.record, "wb") as f:
-            pickle.dump(comparison.recorded, f)
+    comparison.keep_record()
     return 1 if comparison.differences else 0
 
 

@@ -10,18 +10,18 @@ import itertools
 import json
 import os
 import random
-import resource
 import shutil
-import signal
 import subprocess
 import sys
 import tempfile
 
 import catalogue as rules
+import checkpoints
 import compare
 import drill
 import journal
 import random_requests
+import reading
 import replies
 from catalogue import NO_ANCESTOR
 
@@ -58,10 +58,9 @@ class Row(compare.Comparison):
         self.path = path
         self.unopened = False
         self.c = rules.Catalogue()
-        self.side = replies.Session(self.c)
-        self.program = compare.Program(self.options.program, path)
-        self.lines = [compare.line_of(self.c)]
-        self.bases = []
+        self.recorded.append([])
+        super().begin(self.c)
+        self.start(path)
 
     def ask(self, method, target, body=b"", fields=(), wire=None, close=False):
         if isinstance(body, (dict, list)):
@@ -78,6 +77,7 @@ class Row(compare.Comparison):
         got = self.program.reply(method != "HEAD")
         moment = self.moment_of(self.program, got, target)
         wanted = self.side.answer(method, target, list(fields), body, moment or 0, close)
+        self.note(("asked", method, target, list(fields), body, moment or 0, close, got))
         self.count(self.name, self.side)
         self.same(self.name, self.compared, self.side, wanted, got)
         value = json.loads(wanted.partition(b"\r\n\r\n")[2] or b"null")
@@ -232,6 +232,9 @@ class Row(compare.Comparison):
         self.merge("del", "dev", self.head("dev"),
                    keyMergeModes=[{"key": {"elements": ["n", "x"]}, "mergeBehavior": "DROP"}])
         self.get("trees/del/entries")
+        # What stays two steps below counts too.
+        self.commit("dev", table(("g",), kind="NAMESPACE"), table(("g", "h"), kind="NAMESPACE"), table(("g", "h", "i")))
+        self.commit("dev", deleted(("g",)), deleted(("g", "h")))
         self.end()
 
     def row_settled_ties(self):
@@ -299,14 +302,14 @@ class Row(compare.Comparison):
                 self.ask("GET", target)
             if self.program.sent > 900:
                 self.end()
-                self.program = compare.Program(self.options.program, self.path)
+                self.start(self.path)
         for b in range(256):
             for target in (b"/api/v2/trees/main/contents/x%%%02x" % b, b"/api/v2/trees/x%%%02Xy" % b,
                            b"/api/v2/trees/main/entries?min-key=%%%02x" % b):
                 self.ask("GET", target)
             if self.program.sent > 900:
                 self.end()
-                self.program = compare.Program(self.options.program, self.path)
+                self.start(self.path)
         for text in ("\u00e9", "\u20ac", "\U0001f600", "\x80", "\u00a0", "\ufeff"):
             for where in ("/", "/api/v2/trees/", "/api/v2/trees/main/contents/", "/api/v2/trees/main/entries?key="):
                 self.ask("GET", where + text)
@@ -423,8 +426,7 @@ class Row(compare.Comparison):
                 self.get("trees/main/history?max-records=1")
             if self.program.sent > 900:
                 self.end()
-                self.program = compare.Program(self.options.program, self.path)
-                self.c.opened()
+                self.reopen(self.c, self.path)
         self.end()
 
     def row_thousand(self):
@@ -517,8 +519,7 @@ class Row(compare.Comparison):
     def fresh_program(self):
         if self.program.sent > 880:
             self.end()
-            self.program = compare.Program(self.options.program, self.path)
-            self.c.opened()
+            self.reopen(self.c, self.path)
 
     def row_orders_of_refusals(self):
         """Requests with several faults at once: which is told."""
@@ -585,7 +586,7 @@ class Row(compare.Comparison):
         for path, query in itertools.product(
                 ("trees/main", "trees/none", "trees/a..b", "trees/main@" + unknown, "trees/@" + unknown, "trees/@" + old,
                  "trees/main@" + off, "trees/main~0", "trees/-~1", "trees/main@%s~1" % old, "trees/@%s~9" % old, "trees/none~0",
-                 "trees/main~", "trees/main~00000000001", "trees/@%s~4294967296" % old), ("", "x=", "max-records=x", "page-token=e.%s.t" % unknown, "page-token=e.%s.t" % old,
+                 "trees/main~", "trees/main~00000000001", "trees/@%s~4294967295" % old, "trees/@%s~4294967296" % old), ("", "x=", "max-records=x", "page-token=e.%s.t" % unknown, "page-token=e.%s.t" % old,
                                         "page-token=h." + unknown, "page-token=h." + off, "limit-hash=" + off,
                                         "limit-hash=%s&page-token=h.%s" % (old, off), "limit-hash=x", "fetch=x", "key=.")):
             for rest in ("/entries", "/history", "", "/contents"):
@@ -669,8 +670,7 @@ class Row(compare.Comparison):
                 ("POST", "/gc/v1/sweep", b""), ("POST", "/gc/v1/checkpoint", b"")):
             self.ask(method, target if target[0] == "/" else "/api/v2/" + target, body, close, close=True)
             self.end()
-            self.program = compare.Program(self.options.program, self.path)
-            self.c.opened()
+            self.reopen(self.c, self.path)
             self.get("trees")
         self.ask("POST", "/api/v2/trees/main/contents", b"{}", [("Content-Encoding", "gzip")] + close, close=True)
         self.end()
@@ -698,48 +698,20 @@ class Row(compare.Comparison):
         """A file that may not grow past a size: the first change that needs more is a fault."""
         self.end()
         for seed, size in enumerate((17, 18, 60, 150, 400, 401, 1000, 2000, 3000, 5000, 8000)):
-            def before():
-                signal.signal(signal.SIGXFSZ, signal.SIG_IGN)
-                resource.setrlimit(resource.RLIMIT_FSIZE, (size, size))
             path = "%s-%d" % (self.path, size)
-            c = rules.Catalogue()
-            side = replies.Session(c)
-            maker = random_requests.Requests(random.Random(seed), c)
-            maker.durations = False  # when a call was made that left no entry is told nowhere
-            self.program = program = compare.Program(self.options.program, path, before)
+            self.c = c = rules.Catalogue()
+            self.recorded.append([])
+            compare.Comparison.begin(self, c)
+            maker = random_requests.Requests(random.Random(seed), c, False, True)
+            self.side.room = size - 17
+            self.note(("room", size - 17))
+            self.start(path, compare.grown_to(size))
             after = 0
-            lines = [compare.line_of(c)]
-            while after < 60:
-                kind, method, target, fields, body = maker.one()
-                self.request = maker.wire(method, target, fields, body)
-                program.send(self.request)
-                got = program.reply(method != "HEAD")
-                moment = self.moment_of(program, got, target)
-                kept = copy.deepcopy((c.references, c.commits, c.contents, c.place, c.maps, c.log))
-                wanted = side.answer(method, target, fields, body, 0 if moment is None else moment)
-                if got.startswith(b"HTTP/1.1 503") and side.faults is None and c.place > kept[3]:
-                    # Accepted by the rules, and not kept.
-                    lines.append(compare.line_of(c))
-                    c.references, c.commits, c.contents, c.place, c.maps, c.log = kept
-                    side.outcome = "FAULT"
-                    side.faults = 1
-                    value = replies.refusal_json(rules.Refused("FAULT", "disk fault"))
-                    wanted = replies.rendered(503, replies.write_json(value), c.place)
-                elif side.faults is None:
-                    lines = [compare.line_of(c)]
-                after += side.faults is not None
-                self.count(kind, side)
-                if not self.same((self.name, kind), (seed, after), side, wanted, got) and method != "GET":
-                    break
-                if program.sent > 900:
-                    break
-            rest, status = program.ended()
-            if (rest, status) != (b"", 2):
-                self.difference((self.name, "status"), size, None, (b"", 2), (rest, status))
-            got = subprocess.run([self.options.program, "check", path], stdout=subprocess.PIPE)
-            self.extra["journals after a fault, entry %s" % ("gone" if got.stdout == lines[0] else "kept")] += 1
-            if got.stdout not in lines or got.returncode:
-                self.difference((self.name, "check"), size, None, lines, (got.stdout, got.returncode))
+            while after < 60 and self.program.sent <= 900 and self.step((self.name, size, after), maker):
+                after += self.side.faults is not None
+            self.end(2)
+            self.checked("after a fault", size, path, compare.line_of(c), 0)
+        self.unopened = True
 
     # Sweeps.
 
@@ -768,10 +740,10 @@ class Row(compare.Comparison):
         self.compared += 1
         if (got.stdout, got.returncode) != wanted:
             self.difference((self.name, "gc"), None, words[:9], wanted, (got.stdout, got.returncode))
+        self.note(("gc", words, moment, (got.stdout, got.returncode)))
         if len(self.c.log) > before:
             self.lines.append(compare.line_of(self.c))
-        self.program = compare.Program(self.options.program, self.path)
-        self.c.opened()
+        self.reopen(self.c, self.path)
 
     def row_sweeps(self):
         """What is read, made and moved after sweeps by the route and by words."""
@@ -810,8 +782,7 @@ class Row(compare.Comparison):
         checkpoint(b"{")
         checkpoint()
         self.end()
-        self.program = compare.Program(self.options.program, self.path)
-        self.c.opened()
+        self.reopen(self.c, self.path)
         for at in (first, second, third):
             self.get("trees/main@%s/contents/t1" % at)
         self.sweep("1")
@@ -821,9 +792,10 @@ class Row(compare.Comparison):
         self.end()
         with open(self.path, "wb") as f:
             f.write(journal.OLD + b"\0")
-        self.program = compare.Program(self.options.program, self.path)
+        self.start(self.path)
         self.c.__init__()
         self.c.format = 1
+        self.note(("begun", journal.OLD + b"\0"))
         self.lines, self.bases = [compare.line_of(self.c)], []
         checkpoint()
         self.commit("main", table(("t1",)))
@@ -884,6 +856,7 @@ class Row(compare.Comparison):
         path = self.path + "-made"
         with open(path, "wb") as f:
             f.write(file)
+        self.note(("file", file, wanted))
         faulty = wanted.startswith(b"nessie")
         for words, output in ((("check", path), wanted), (("script", path), wanted if faulty else b"")):
             got = subprocess.run([self.options.program, *words], stdout=subprocess.PIPE, stdin=subprocess.DEVNULL)
@@ -899,15 +872,17 @@ class Row(compare.Comparison):
         return [journal.payload(e, e[3]) for e in c.log]
 
     def go_on(self, c):
-        """The program goes on from a journal that the rules wrote."""
+        """The program goes on from a journal that the rules wrote, or from a checkpoint where the log has none."""
         self.end()
+        found = journal.written(self.of_log(c) or [journal.checkpoint(c)])
+        self.note(("begun", found))
         with open(self.path, "wb") as f:
-            f.write(journal.written(self.of_log(c)))
+            f.write(found)
         self.c = c
-        c.opened()
-        self.side = replies.Session(c)
-        self.program = compare.Program(self.options.program, self.path)
-        self.lines, self.bases = [], []
+        compare.Comparison.begin(self, c)
+        if c.log:
+            self.lines = []
+        self.reopen(c, self.path)
 
     def row_last_drafts(self):
         c = rules.Catalogue()
@@ -941,14 +916,45 @@ class Row(compare.Comparison):
         self.commit("main", table(("v",)))
         self.end()
 
+    def row_last_places(self):
+        """What is refused, and what isn't, where the log takes one entry more, and none."""
+        c = rules.Catalogue()
+        c.commit("main", None, plain_meta(), [put(("t",))], 5)
+        first = c.references["main"][1].hex()
+        c.create("dev", "BRANCH", ("BRANCH", "main", None), 6)
+        c.commit("dev", None, plain_meta(), [put(("u",))], 7)
+        c.create("v", "TAG", ("BRANCH", "main", None), 8)
+        self.go_on(c.moved(rules.LIMITS["Log"] - 1, 9))
+        for _ in range(2):
+            dev, unknown = self.head("dev"), "a" * 64
+            self.ask("POST", "/gc/v1/checkpoint")
+            self.create("v")
+            self.create("w", "none")
+            self.commit("v", table(("w",)))
+            self.commit("main@" + unknown, table(("w",)))
+            self.merge("main", "none", dev)
+            self.transplant("main", "dev", [NO_ANCESTOR.hex()])
+            self.ask("DELETE", "/api/v2/trees/main")
+            self.ask("DELETE", "/api/v2/trees/v?type=BRANCH")
+            self.get("trees/main/contents/t")
+            self.commit("main", table(("w",)))
+            self.commit("main", table(("t",)))
+            self.create("w")
+            self.ask("PUT", "/api/v2/trees/dev@" + first, {"type": "BRANCH", "name": "main"})
+            self.ask("DELETE", "/api/v2/trees/dev@" + first)
+            self.ask("DELETE", "/api/v2/trees/dev")
+            self.merge("main", "dev", dev, dryRun=True)
+            self.merge("main", "main", first, returnConflictAsResult=True)
+            self.transplant("main", "dev", [dev])
+            self.sweep("1")
+            self.collect("1")
+        self.end()
+
     def row_last_references(self):
-        # Opening takes minutes in a program that is built with checks, so the file isn't opened again.
-        compare.WAIT = 1200
-        self.unopened = True
         c = rules.Catalogue()
         for i in range(65533):
             c.create("r%05d" % i, "TAG" if i % 2 else "BRANCH", ("BRANCH", "main", None), 7)
-        self.go_on(c)
+        self.go_on(c.moved(c.place, c.draft))
         self.get("trees?max-records=3&page-token=r.r65530")
         self.create("one")
         self.create("two")
@@ -958,6 +964,21 @@ class Row(compare.Comparison):
         self.ask("DELETE", "/api/v2/trees/r00000")
         self.create("two")
         self.create("three")
+        self.end()
+
+    def row_tokens(self):
+        """Tokens of each form at each listing."""
+        self.commit("main", table(("t",)), table(("u",)))
+        self.create("v", kind="TAG")
+        h, key = self.head(), "\u00e9"
+        tokens = ["", "r", "r.", "r.main", "R.main", "x.main", "r.v", "r.zz", "r.a..b", "r.main.", "r.-", "main", "r." + h]
+        for front in ("h.", "H.", "x.", "e.", "E.", "r.", "h", "e", ""):
+            for at in (h, h.upper(), h[:-1], h + "0", "0" * 64, NO_ANCESTOR.hex()):
+                tokens += [front + at + rest for rest in ("", ".", ".t", "xt", ".t.", "..t", "." + key)]
+        for token in tokens:
+            for listing in ("trees", "trees/main/entries", "trees/v/history"):
+                self.get("%s?page-token=%s" % (listing, token.replace(key, "%C3%A9")))
+                self.fresh_program()
         self.end()
 
     def row_pages_of_a_thousand(self):
@@ -976,6 +997,22 @@ class Row(compare.Comparison):
                  {"requestedKeys": [{"elements": ["k%04d" % i]} for i in range(1099, -1, -1)]})
         self.end()
 
+    def row_falling_times(self):
+        """A sweep by an instant keeps what stands before the first commit that is older, and no newer one behind it."""
+        c = rules.Catalogue()
+        given = None
+        for moment, value in (500, "m1"), (300, "m2"), (900, "m3"):
+            operation = put(("t",), given=given)
+            operation.content["metadataLocation"] = value
+            c.commit("main", None, plain_meta(), [operation], moment)
+            given = c.entries(c.references["main"][1])[("t",)][1]
+        self.go_on(c)
+        self.sweep("1970-01-01T00:00:00.000400Z")
+        for h in c.chain(c.references["main"][1])[:-1]:
+            self.get("trees/main@%s/contents/t" % h.hex())
+        self.end()
+        self.unopened = True
+
     def row_same_commit_twice(self):
         c = rules.Catalogue()
         c.create("dev", "BRANCH", ("BRANCH", "main", None), 1)
@@ -987,6 +1024,98 @@ class Row(compare.Comparison):
         self.merge("dev", "main", self.head())
         self.get("trees/dev/history")
         self.commit("dev", table(("t",)))
+        self.end()
+
+    def row_made_checkpoints(self):
+        """Journals with checkpoints at which drafts were open, and with an entry behind one that may not be there."""
+        for seed in range(150):
+            rng = random.Random(seed)
+            made = checkpoints.Making(rng)
+            for _ in range(rng.randrange(1, 30)):
+                made.step()
+            made.payloads.append(journal.checkpoint(made.c, made.left))
+            for _ in range(rng.randrange(8)):
+                made.step()
+            payloads = made.payloads
+            if rng.random() < 0.6:
+                # Of another draft, or of a sweep opened elsewhere; another byte of the state.
+                at = rng.choice([i for i, p in enumerate(payloads) if p[0] == journal.CHECKPOINT] + list(range(len(payloads))))
+                spelled = bytearray(payloads[at])
+                where = rng.choice([12, 12, 24, rng.randrange(len(spelled)), rng.randrange(len(spelled))]) % len(spelled)
+                spelled[where] = (spelled[where] + rng.choice([-2, -1, 1, 2, 64])) % 256
+                payloads = payloads[:at] + [bytes(spelled)] + payloads[at + 1:]
+            file = journal.written(payloads)
+            line = reading.told(file)
+            self.extra["made: " + (line[8:15].decode() if line.startswith(b"nessie") else "opens")] += 1
+            self.opened_as(seed, file, line)
+        self.end()
+
+    def row_wrong_checkpoints(self):
+        """Checkpoints that are no state of a catalogue, each for one reason, or nearly so."""
+        def made():
+            c = rules.Catalogue()
+            c.commit("main", None, plain_meta(), [put(("n",), "NAMESPACE"), put(("n", "t"))], 5)
+            c.commit("main", None, plain_meta(), [put(("u",))], 6)
+            c.create("v", "TAG", ("BRANCH", "main", None), 7)
+            return c
+
+        def on_top(c, merge_parent, generation, *ops):
+            commit = rules.Commit(c.references["main"][1], merge_parent, generation, 8, plain_meta(), list(ops))
+            c.keep([commit])
+            c.references["main"][1] = commit.id()
+
+        def commits(c, *order):
+            c.commits = dict(enumerate([list(c.commits.values())[i] for i in order]))
+
+        some = list(made().contents.items())
+        entry = lambda i: (some[i][1][0]["type"], some[i][1][1], some[i][0])
+        first = list(made().commits)[0]
+        illegal = b"nessie: illegal entry 3\n"
+        line = lambda commits, contents, head=None: b"entries 3 references 2 commits %d contents %d head " % (commits, contents)
+        for what, change, wanted in [
+                ("as it was", lambda c: None, line(2, 3)),
+                ("a commit twice", lambda c: commits(c, 0, 0, 1), illegal),
+                ("a parent behind its child", lambda c: commits(c, 1, 0), illegal),
+                ("no parent", lambda c: commits(c, 1), illegal),
+                ("a head that isn't there", lambda c: c.references["v"].__setitem__(1, bytes(32)), illegal),
+                ("no main", lambda c: c.references.pop("main"), illegal),
+                ("main as a tag", lambda c: c.references["main"].__setitem__(0, "TAG"), illegal),
+                ("a content that is gone and shown", lambda c: c.contents.pop(some[2][0]), illegal),
+                ("a content that nobody shows", lambda c: on_top(c, None, 3, (("u",), None)) or c.references["v"].__setitem__(1, first), line(3, 3)),
+                ("one commit more", lambda c: on_top(c, None, 3, (("w",), entry(2))), line(3, 3)),
+                ("a merge parent", lambda c: on_top(c, first, 3), line(3, 3)),
+                ("no merge parent", lambda c: on_top(c, bytes(32), 3), illegal),
+                ("another generation", lambda c: on_top(c, None, 2), illegal),
+                ("a generation more", lambda c: on_top(c, None, 4), illegal),
+                ("a key without its namespace", lambda c: on_top(c, None, 3, (("x", "y"), entry(2))), illegal),
+                ("a key below a table", lambda c: on_top(c, None, 3, (("u", "y"), entry(2))), illegal),
+                ("a namespace that goes", lambda c: on_top(c, None, 3, (("n",), None)), illegal),
+                ("a DELETE of no key", lambda c: on_top(c, None, 3, (("w",), None)), line(3, 3))]:
+            c = made()
+            change(c)
+            file = journal.written([journal.checkpoint(c)])
+            told = reading.told(file)
+            if not told.startswith(wanted):
+                self.difference((self.name, what), None, None, wanted, told)
+            self.opened_as(what, file, told)
+        # A journal that begins at a checkpoint knows of no state before it.
+        c = made()
+        for opened, wanted in ((2, b"nessie: illegal entry 4\n"), (3, b"entries 4 "), (4, b"nessie: illegal entry 4\n")):
+            sweep = journal.payload(("sweep", 4, 0, 8, (opened, ((rules.ALL,), []), [], []), None), 8)
+            file = journal.written([journal.checkpoint(c), sweep])
+            told = reading.told(file)
+            if not told.startswith(wanted):
+                self.difference((self.name, "sweep", opened), None, None, wanted, told)
+            self.opened_as("sweep", file, told)
+        base = journal.checkpoint(made())
+        draft, damaged = base[5:13], b"nessie: damaged at 16\n"
+        for left, wanted in (((1,), None), ((1, 1), damaged), ((0,), damaged), ((2,), damaged), ((1, 2), damaged)):
+            spelled = base[:13] + rules.listed(left, rules.u64) + base[17:]
+            self.opened_as(left, journal.written([spelled]), wanted or compare.line_of(made()))
+        self.opened_as("in format 1", journal.OLD + journal.written([base])[16:], damaged)
+        need = (2).to_bytes(8, "big")
+        if draft != need:
+            self.difference((self.name, "the draft number"), None, None, need, draft)
         self.end()
 
     def row_illegal_journals(self):
@@ -1205,6 +1334,32 @@ class Row(compare.Comparison):
         transplant("transplant, order", illegal, [second, first])
         transplant("transplant, nothing left to change", illegal, [second])
         transplant("transplant, no change", illegal, [first], branch="main")
+        # A commit of nothing, with the head that it would have.
+        empty = rules.Commit(second, None, 3, 5, plain_meta(), []).id()
+        last("commit of nothing", illegal, 4, 3, text("main") + none + nothing + spelled([]), empty)
+        last("commit of UNCHANGED", state(lambda o: o.commit("main", None, plain_meta(), [Operation("UNCHANGED", ("k",))], 5))[0], 4, 3, text("main") + none + nothing + spelled([Operation("UNCHANGED", ("k",))]), empty)
+        # Sweeps.
+        swept, _ = state(lambda o: o.sweep(4, ((rules.ALL,), []), [], [], 5))
+        one, far = u8(1) + u32(1), 253402207201000000
+        pairs = lambda *patterns: listed(patterns, lambda p: text(p) + one)
+
+        def sweep(what, wanted, opened=4, default=one, given=pairs(), commits=(), contents=(), draft=0, more=b""):
+            last("sweep, " + what, wanted, 7, draft, u32(opened) + default + given + listed(commits, hash_) + listed(contents, hash_) + more)
+
+        other = sorted([first, second])
+        for what, wanted, more in [
+                ("opened here", swept, {}), ("opened at first", swept, {"opened": 0}), ("opened later", illegal, {"opened": 5}),
+                ("all", swept, {"default": u8(0)}), ("no commit", damaged, {"default": u8(1) + u32(0)}), ("many", swept, {"default": u8(1) + u32(2 ** 32 - 1)}),
+                ("since 1970", swept, {"default": u8(2) + u64(0)}), ("since the last moment", swept, {"default": u8(2) + u64(far - 1)}),
+                ("since a later one", damaged, {"default": u8(2) + u64(far)}), ("no such cutoff", damaged, {"default": u8(3)}),
+                ("patterns", swept, {"given": pairs("main", "d*", "*", "*")}), ("no pattern", damaged, {"given": pairs("")}),
+                ("two stars", damaged, {"given": pairs("**")}), ("a star within", damaged, {"given": pairs("a*b")}), ("a blank", damaged, {"given": pairs("a b*")}),
+                ("1,000 patterns", swept, {"given": pairs(*["m*"] * 1000)}), ("1,001 patterns", illegal, {"given": pairs(*["m*"] * 1001)}),
+                ("commits", swept, {"commits": other}), ("no ancestor", swept, {"commits": [NO_ANCESTOR]}), ("an unknown commit", illegal, {"commits": [bytes(32)]}),
+                ("commits' order", damaged, {"commits": other[::-1]}), ("a commit twice", damaged, {"commits": [first, first]}),
+                ("any content", swept, {"contents": [bytes(32), b"\1" * 32]}), ("contents' order", damaged, {"contents": [b"\1" * 32, bytes(32)]}),
+                ("a content twice", damaged, {"contents": [bytes(32)] * 2}), ("a draft", damaged, {"draft": 3}), ("a head", damaged, {"more": second})]:
+            sweep(what, wanted, **more)
         # The first damage comes before an illegal entry, wherever that stands.
         self.opened_as("damage after an illegal entry", journal.written([whole[1]] + whole + [b"\x09"]),
                        damaged_at(len(journal.written([whole[1]] + whole)) - 1))
@@ -1239,7 +1394,9 @@ def main():
     parser = argparse.ArgumentParser()
     parser.add_argument("--program", default=os.path.join(
         os.path.dirname(os.path.abspath(__file__)), "../crates/nessie/out/nessie"))
+    parser.add_argument("--record", help="a file that requests and replies are kept in, for sensitivity.py")
     parser.add_argument("rows", nargs="*")
+    parser.set_defaults(serve=False)
     options = parser.parse_args()
     options.program = os.path.abspath(options.program)
     row = Row(options)
@@ -1247,6 +1404,7 @@ def main():
         print("-- " + name, flush=True)
         row.run(name)
     row.report()
+    row.keep_record()
     return 1 if row.differences else 0
 
 

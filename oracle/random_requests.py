@@ -83,7 +83,7 @@ class Requests:
 
     def branch_name(self):
         branches = sorted(n for n, v in self.c.references.items() if v[0] == BRANCH)
-        return self.pick(branches) if self.chance(0.94) else self.name()
+        return self.pick(branches) if self.chance(0.91) else self.name()
 
     def hash_for(self, name, head=0.4):
         """A hash, on the chain of the reference or not, as bytes."""
@@ -276,7 +276,7 @@ class Requests:
                 if there is not None and (careful or self.chance(0.7)):
                     if careful or self.chance(0.8):
                         kind = there[0]
-                    given = self.id_text(there[1])
+                    given = self.id_text(there[1] if careful or self.chance(0.85) else self.random_id())
                 elif not careful and self.chance(0.25):
                     given = self.id_text(self.random_id())
                 op["content"] = self.content(kind, key, given)
@@ -318,10 +318,20 @@ class Requests:
         entries = self.c.entries(own[1]) if own else {}
         return {"commitMeta": self.meta(), "operations": self.operations(entries)}
 
+    def expired(self):
+        """A reference, a commit of its chain and a key whose content is gone, where a few tries find one."""
+        for _ in range(5 if self.sweeping else 0):
+            name = self.pick(sorted(self.c.references))
+            at = self.pick(self.c.chain(self.c.references[name][1]))
+            gone = [key for key, entry in self.c.entries(at).items() if entry[2] not in self.c.contents]
+            if gone:
+                return name, at, self.pick(gone)
+
     def source(self):
         r = self.rng.random()
         if r < 0.2:
-            out = {"type": "DETACHED", "hash": self.hex(self.hash_for(self.name()))}
+            found = self.expired() if self.chance(0.6) else None
+            out = {"type": "DETACHED", "hash": self.hex(found[1] if found else self.hash_for(self.name()))}
             if self.chance(0.1):
                 out["name"] = self.pick(JUNK)
             return out
@@ -359,6 +369,9 @@ class Requests:
     def merge_body(self):
         name = self.name()
         out = {"fromRefName": name, "fromHash": self.hex(self.hash_for(name, 0.15 if self.sweeping else 0.35 if self.merging else 0.6))}
+        found = self.expired() if self.chance(0.2) else None
+        if found:
+            out = {"fromRefName": found[0], "fromHash": self.hex(found[1])}
         if self.chance(0.02):
             out.update(self.pick([{"fromRefName": self.pick(BAD_NAMES)}, {"fromHash": self.bad_hash()}]))
         if self.chance(0.3):
@@ -647,8 +660,12 @@ class Requests:
         return "POST", where, [], self.body_bytes({"requestedKeys": keys})
 
     def a_content(self):
-        key = self.path_key() if self.chance(0.93) else self.bad_path_key()
-        return self.get("/api/v2/trees/%s/contents/%s" % (self.reference(), key) + self.query([]))
+        found = self.expired() if self.chance(0.4) else None
+        if found:
+            where, key = self.escaped(found[0]) + "@" + self.hex(found[1]), self.path_key(found[2])
+        else:
+            where, key = self.reference(), self.path_key() if self.chance(0.93) else self.bad_path_key()
+        return self.get("/api/v2/trees/%s/contents/%s" % (where, key) + self.query([]))
 
     def a_create(self):
         free = [n for n in NAMES if n not in self.c.references]
@@ -698,6 +715,9 @@ class Requests:
     def a_sweep(self):
         return "POST", "/gc/v1/sweep" + self.query([]), [], self.body_bytes(self.policy_body())
 
+    def a_clearance(self):
+        return "POST", "/gc/v1/sweep", [], b'{"defaultCutoff":"1"}'
+
     def a_checkpoint(self):
         return "POST", "/gc/v1/checkpoint" + self.query([]), [], self.pick([b"", b"", b"{}", b"{", b"x", self.body_bytes({})])
 
@@ -721,10 +741,10 @@ class Requests:
                             "get", "X-Y"])
         return method, target, [], b"" if self.chance(0.7) else b"{}"
 
-    def one(self):
-        """A random request: its kind, method, target, fields and body."""
+    def one(self, kind=None):
+        """A random request, of this kind where one is given: its kind, method, target, fields and body."""
         rare = 0.25 if self.merging else 1
-        kind = self.weighted([
+        kind = kind or self.weighted([
             ("config", 1), ("list", 4 * rare), ("get", 3), ("entries", 10), ("history", 9), ("contents", 7 * rare),
             ("content", 6 * rare), ("create", 9 if rare == 1 or len(self.c.references) < 4 else 2), ("assign", 6 * rare),
             ("delete", 5 * rare), ("commit", 34), ("merge", 20 if rare == 1 else 45), ("transplant", 13 * rare),

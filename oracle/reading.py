@@ -311,3 +311,18 @@ def opened(file):
         if [payload(e, moment) for e in c.log[number:]] != [spelled]:
             raise illegal
     return c
+
+
+def line_of(c):
+    """What `check` says of a catalogue."""
+    return b"entries %d references %d commits %d contents %d head %s\n" % (
+        c.place, len(c.references), len(c.commits), len(c.contents),
+        c.references["main"][1].hex().encode())
+
+
+def told(file):
+    """What `check` says of a file."""
+    try:
+        return line_of(opened(bytes(file)))
+    except Unopened as e:
+        return e.line

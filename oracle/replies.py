@@ -13,6 +13,7 @@ import policies
 from catalogue import (
     BRANCH, TAG, ICEBERG_TABLE, ICEBERG_VIEW, DELTA_LAKE_TABLE, NAMESPACE, UDF, NORMAL, FORCE, DROP, MOST_PATTERNS,
     NO_ANCESTOR, DEFAULT_BRANCH, Operation, Refused, bad, key_order, key_path)
+from journal import checkpoint, payload
 
 STATUS = {
     "BAD_REQUEST": 400, "REFERENCE_NOT_FOUND": 404, "REFERENCE_ALREADY_EXISTS": 409,
@@ -142,7 +143,7 @@ def _surrogates(v):
 def read_json(body):
     try:
         s = body.decode("utf-8")
-        if depth_of(s) > 127:
+        if s.count("[") + s.count("{") > 127 and depth_of(s) > 127:
             raise NoReading
         pairs = []
 
@@ -152,7 +153,8 @@ def read_json(body):
 
         value = json.loads(s, parse_int=_integer, parse_float=_float, parse_constant=_constant,
                            object_pairs_hook=hook)
-        if _surrogates(value) or any(_surrogates(k) or _surrogates(v) for p in pairs for k, v in p):
+        # Half of a pair can stand in an escape alone.
+        if "\\u" in s and (_surrogates(value) or any(_surrogates(k) or _surrogates(v) for p in pairs for k, v in p)):
             raise NoReading
         return value
     except (ValueError, RecursionError):
@@ -567,6 +569,8 @@ class Session:
         # Where the next sweep was opened, and the commits and contents that drafts named meanwhile, where
         # other callers came between; None: it is opened at the place it finds, and nobody is between.
         self.between = None
+        # How many bytes more the journal's file may have; None: as many as it takes.
+        self.room = None
 
     def answer(self, method, target, fields, body, moment, close=False):
         """The reply to one request; `moment` is what the clock says if it is asked."""
@@ -581,7 +585,9 @@ class Session:
             self.outcome = "OK"
         except Refused as r:
             value, status = refusal_json(r), STATUS[r.kind]
-            self.outcome = r.kind if r.kind != "BAD_REQUEST" else r.message
+            self.outcome = r.message if r.kind in ("BAD_REQUEST", "CONTENT_NOT_FOUND") else r.kind
+            if r.kind == "LIMIT":
+                self.outcome += " " + r.details[0]
             self.refused = r
             if self.on_state:
                 place = c.place
@@ -617,7 +623,23 @@ class Session:
         self.on_state = True
         if self.faults is not None and (changing or self.route == "trees" and method == "POST"):
             raise Refused("DOWN", "store is down", self.faults)
-        return do()
+        mark = self.catalogue.mark() if self.room is not None else None
+        out = do()
+        if self.room is not None:
+            self.need_room(mark)
+        return out
+
+    def need_room(self, mark):
+        """What was accepted since is taken back where its frame finds no room in the file, and no more is tried."""
+        c = self.catalogue
+        entries, bases = mark[2:4]
+        spelled = [payload(e, e[3]) for e in c.log[entries:]] + [checkpoint(c) for _ in c.bases[bases:]]
+        size = sum(5 + len(s) for s in spelled)
+        if size > self.room:
+            c.undo(mark)
+            self.faults = 1
+            raise Refused("FAULT", "disk fault")
+        self.room -= size
 
     def get_config(self, where, key, query, body, moment):
         return lambda: {

@@ -64,11 +64,11 @@ class Connection:
 
 
 class Child:
-    def __init__(self, program, path, wait):
+    def __init__(self, program, path, wait, before=None):
         with socket.socket() as one:
             one.bind(("127.0.0.1", 0))
             port = one.getsockname()[1]
-        self.server = subprocess.Popen([program, "serve", path, "127.0.0.1:%d" % port, "--workers", "2"])
+        self.server = subprocess.Popen([program, "serve", path, "127.0.0.1:%d" % port, "--workers", "2"], preexec_fn=before)
         until = time.monotonic() + wait
         while True:
             try:

@@ -16,6 +16,7 @@ import json, os, re, shutil, socket, subprocess, sys, tempfile
 
 FAULT = b"nessie: disk fault\n"
 NEW = b"NESSIECJ\0\0\0\x01\0\0\0\x01\0"
+NO_ANCESTOR = "2e1cfa82b035c26cbbbdae632cea070514eb8b773f616aaeaf668e2f0be8f10d"
 GET = b"GET /api/v2/config HTTP/1.1\r\n\r\n"
 IS_ROOT = os.geteuid() == 0
 NOBODY = 65534
@@ -162,7 +163,12 @@ def check_statuses():
     taken.close()
     tell("and the journal stays as it is", content_of(journal) == held)
     case("a journal that can't be read, and an address that is none", run(["serve", file_of("other", NEW[:16] + b"\x01"), "nowhere"]), 3, b"nessie: damaged at 16\n")
-    leave_out("status 9", "it wants 4,294,967,295 entries")
+    # A checkpoint with the last place there is, of `main` without a commit.
+    full = b"\x08\xff\xff\xff\xff" + bytes(12) + b"\0\0\0\1\0\0\0\4main\1" + bytes.fromhex(NO_ANCESTOR) + bytes(8)
+    file_of("full", NEW[:16] + b"\1" + len(full).to_bytes(4, "big") + full + b"\0")
+    case("a log without a place left", run(["script", path_of("full")], commit("a")), 0, [409])
+    case("and a collection", run(["gc", path_of("full"), "1"]), 9, b"nessie: limit 4294967295\n")
+    tell("and its journal", entries(path_of("full")) == 2 ** 32 - 1, "4,294,967,295 entries")
 
 
 def check_memory():

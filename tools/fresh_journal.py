@@ -30,7 +30,8 @@ def line_of(program, path):
     """What `check` says of a journal."""
     ran = subprocess.run([program, "check", path], stdin=subprocess.DEVNULL, capture_output=True)
     if ran.returncode:
-        raise Refused((ran.stdout or ran.stderr).decode(errors="replace").strip())
+        lines = [said.decode(errors="replace").strip().splitlines()[-1] for said in (ran.stdout, ran.stderr) if said.strip()]
+        raise Refused("; ".join(lines))
     return ran.stdout
 
 

@@ -75,15 +75,6 @@ def named_by(entry):
     return set(), set()
 
 
-def copy_of(state):
-    """The same state, for a call that may change it. Maps are held by the hashes of their commits, and are shared."""
-    copy = rules.Catalogue()
-    copy.references = {name: list(value) for name, value in state.references.items()}
-    copy.commits, copy.contents, copy.maps = dict(state.commits), dict(state.contents), state.maps
-    copy.place, copy.draft = state.place, state.draft
-    return copy
-
-
 class Life:
     """One run of the server: when it was killed (both ends of that moment), and how many entries its journal had then."""
 
@@ -92,8 +83,17 @@ class Life:
 
 
 class Check:
-    def __init__(self, record, payloads, lives, attempts, bases=()):
-        self.record, self.payloads, self.lives, self.attempts, self.bases = record, payloads, lives, attempts, bases
+    def __init__(self, record, payloads, lives, attempts, workers, bases):
+        self.record, self.payloads, self.lives, self.attempts, self.workers = record, payloads, lives, attempts, workers
+        self.bases = collections.defaultdict(list)  # at each place, the payloads of its checkpoints
+        for before, spelled in bases:
+            self.bases[before].append(spelled)
+        self.places = {}  # of each draft number, the last place that has it
+        for place, payload in enumerate(payloads, 1):
+            self.places[fields_of(payload)[1]] = place
+        self.coming = sorted(self.places, reverse=True)  # numbers that no entry has passed yet
+        self.behind = set()  # numbers below the greatest so far whose entries are still to come
+        self.before, self.life = 0, 0  # the greatest number of an entry of the lives before, and the life
         self.state = rules.Catalogue()
         self.heads = []  # at each place, the heads of the references
         self.there = collections.defaultdict(list)  # of each content, the places at which it came and went
@@ -105,7 +105,8 @@ class Check:
     def differs(self, what, *more):
         self.differences.append(" ".join([what, *map(str, more)]))
 
-    def run(self):
+    def run(self, most=None):
+        """The differences, all of them or the first ones."""
         self.places_rise()
         self.cuts_have_a_kill()
         self.sort()
@@ -113,8 +114,9 @@ class Check:
             self.heads.append({name: value[1] for name, value in self.state.references.items()})
             for sent in self.others.pop(place, []):
                 self.other(sent)
-            for spelled in [spelled for before, spelled in self.bases if before == place]:
-                self.base(place, spelled)
+            self.checkpoints(place)
+            if most is not None and len(self.differences) >= most:
+                break
             if place < len(self.payloads) and not self.entry(place + 1):
                 break
         return self.differences
@@ -169,8 +171,11 @@ class Check:
 
     def sort(self):
         self.made, self.others, self.open = {}, collections.defaultdict(list), collections.defaultdict(list)
+        self.cut, self.kept = [], collections.defaultdict(list)  # requests of checkpoints that were cut off, and accepted ones
         for sent in self.record:
             if sent.raw is None:
+                if sent.checkpoints:
+                    self.cut.append(sent)
                 if sent.changes:
                     self.open[self.life_of_time(sent.opened)].append(sent)
                 self.counts["without a reply"] += 1
@@ -180,6 +185,8 @@ class Check:
                 self.made[sent.place] = sent
             else:
                 self.others[sent.place or 0].append(sent)
+                if sent.checkpoints and sent.status == 200:
+                    self.kept[sent.place].append(sent)
         lost = [place for place in [*self.made, *self.others] if place > len(self.payloads)]
         for place in sorted(lost):
             for sent in [self.made[place]] if place in self.made else self.others[place]:
@@ -204,7 +211,9 @@ class Check:
         if (sent.collects or sent.checkpoints) and sent.status == 409:
             self.sweep_open(sent)
             return
-        wanted, outcome = self.answered(copy_of(self.state) if sent.changes else self.state, sent)
+        mark = self.state.mark()
+        wanted, outcome = self.answered(self.state, sent)
+        self.state.undo(mark)
         if outcome == "EXPIRED" and wanted != sent.raw and b'"EXPIRED"' in sent.raw:
             self.expired(sent, sent.json["errorDetails"]["openedPlace"])
         elif wanted == sent.raw:
@@ -244,7 +253,29 @@ class Check:
             return True
         return other.accepted and other.place > place and opened_in(self.payloads[other.place - 1]) == opened
 
-    def base(self, place, spelled):
+    def checkpoints(self, place):
+        """Those of a place: one for each that was answered, and else one of a request that was cut off while it may have been written."""
+        asked, found = self.kept[place], self.bases[place]
+        if len(found) < len(asked):
+            self.differs("a checkpoint was answered, and isn't there:", place, asked[0].name)
+        for _ in found[len(asked):]:
+            lives = {number for number in range(len(self.lives) + 1) if self.first_of(number) <= place <= self.last_of(number)}
+            sent = next((sent for sent in self.cut if self.life_of_time(sent.opened) in lives), None)
+            if sent is None:
+                self.differs("a checkpoint that nobody asked for, behind entry", place)
+            else:
+                self.cut.remove(sent)
+                asked = asked + [sent]
+        for spelled in found:
+            self.base(place, spelled, asked)
+
+    def first_of(self, life):
+        return self.lives[life - 1].entries if life else 0
+
+    def last_of(self, life):
+        return self.lives[life].entries if life < len(self.lives) else len(self.payloads)
+
+    def base(self, place, spelled, asked):
         """A checkpoint: the state at its place, with the drafts that were open; an entry behind it is of one of these or of a later one."""
         try:
             _, draft, left, _, _, _ = reading.read_at(0, reading.Reader.checkpoint, spelled)
@@ -252,13 +283,18 @@ class Check:
             return self.differs("a checkpoint that can't be read, behind entry", place)
         if journal.checkpoint(self.state, left) != spelled:
             self.differs("a checkpoint of another state, behind entry", place)
-        late = [fields_of(payload)[1] for payload in self.payloads[place:]]
-        late = [number for number in late if 0 < number <= draft]
-        if not set(late) <= set(left):
-            self.differs("an entry behind a checkpoint at place", place, "of a draft that wasn't open at it:", *late)
+        if not self.behind <= set(left):
+            self.differs("an entry behind a checkpoint at place", place, "of a draft that wasn't open at it:", *self.behind - set(left))
+        if len(left) >= self.workers or any(number <= self.before or self.places.get(number, place + 1) <= place for number in left):
+            self.differs("a draft that can't have been open at the checkpoint at place", place, "of", *left)
+        for number in self.behind & set(left):
+            sent = self.made.get(self.places[number])
+            if sent and not any(sent.began <= one.ended and one.began <= sent.ended for one in asked):
+                self.differs("a draft was open at a checkpoint, and its request wasn't under way:", place, sent.name)
         self.counts["checkpoints in the journal"] += 1
+        self.counts["checkpoints with drafts that were open"] += bool(left)
         self.counts["drafts that were open at checkpoints"] += len(left)
-        self.counts["entries of such drafts"] += len(late)
+        self.counts["entries of such drafts"] += len(self.behind)
 
     def retries(self, sent, heads, outcome):
         """A call that gave up: each head is its branch's at its place, and each differs from the one before."""
@@ -282,6 +318,7 @@ class Check:
         if sent is None:
             self.differs("entry", place, "is nobody's:", payload.hex())
             return False
+        self.number(place, draft)
         before, between = set(self.state.contents), None
         if is_sweep(payload):
             between = self.between(place, payload, sent)
@@ -299,6 +336,16 @@ class Check:
             self.differs("another reply to entry", place, sent.name, "\n   rules   ", wanted, "\n   program ", sent.raw)
         self.counts["entry: " + self.state.log[-1][0] + ("" if sent.raw else ", without its reply")] += 1
         return True
+
+    def number(self, place, draft):
+        """An entry's draft number is new, and a greater one than those of entries of the lives before."""
+        if self.life_of_entry(place) > self.life:
+            self.life, self.before = self.life_of_entry(place), max([self.before] + [entry[2] for entry in self.state.log])
+        if draft and (self.places[draft] > place or draft <= self.before):
+            self.differs("entry", place, "has a draft number that is an older one's:", draft)
+        while self.coming and self.coming[-1] <= draft:
+            self.behind.add(self.coming.pop())
+        self.behind -= {0, draft}
 
     def between(self, place, payload, sent):
         """Where a sweep was opened, and what drafts named until it settled; that this may be so is checked."""
@@ -341,9 +388,11 @@ class Check:
                     waiting.remove(sent)
                     return sent
                 continue
-            trial = copy_of(self.state)
-            self.answered(trial, sent, moment, draft)
-            if trial.place == place and journal.payload(trial.log[-1], moment) == payload:
+            mark = self.state.mark()
+            self.answered(self.state, sent, moment, draft)
+            fits = self.state.place == place and journal.payload(self.state.log[-1], moment) == payload
+            self.state.undo(mark)
+            if fits:
                 waiting.remove(sent)
                 return sent
         return None

@@ -13,6 +13,7 @@ from record import Sent
 from serving import NO_ANCESTOR, Ended, Link
 
 KEYS = [(f"k{number}",) for number in range(10)] + [("n",), ("n", "a"), ("n", "b"), ("n", "m"), ("n", "m", "c")]
+WIDE = [f"wide{number}" for number in range(300)]
 SPACES = {("n",), ("n", "m")}
 MODES = ["NORMAL", "NORMAL", "FORCE", "DROP"]
 CUTOFFS = ["1", "1", "1", "2", "4", "NONE", "PT0.2S", "PT2S"]
@@ -30,6 +31,7 @@ class Requests:
         self.chains = collections.defaultdict(lambda: collections.deque([NO_ANCESTOR], maxlen=12))
         self.hashes = collections.deque([NO_ANCESTOR], maxlen=60)
         self.ids = {}
+        self.wide = set()  # the branches that have the wide keys, as far as was told
         self.told = 0
 
     def known(self, names):
@@ -89,6 +91,20 @@ class Requests:
         self.told += 1
         body = {"commitMeta": {"message": f"c{self.told}"}, "operations": self.operations()}
         return "POST", f"/trees/{self.where(self.branch(), 0.25)}/history/commit", body
+
+    def wide_commit(self):
+        """One that takes a while, so that its draft is open meanwhile: refused, or as was told last, of keys that come or go."""
+        name = self.branch()
+        keys = [f"absent{number}" for number in range(2000)]
+        if self.rng.random() < 0.3:
+            operations = [{"type": "DELETE", "key": {"elements": ["nowhere"]}}] + [self.put((key,)) for key in keys]
+        else:
+            operations = [{"type": "UNCHANGED", "key": {"elements": [key]}} for key in keys]
+            for key in WIDE:
+                put = self.put((key,))
+                put["content"].pop("id", None)
+                operations.append({"type": "DELETE", "key": put["key"]} if name in self.wide else put)
+        return "POST", f"/trees/{name}/history/commit", {"commitMeta": {"message": "wide"}, "operations": operations}
 
     def merge(self):
         name = self.any_name()
@@ -159,7 +175,7 @@ class Requests:
                                 ("POST", "/gc/v1/sweep", {"defaultCutoff": "0"})])
 
     def one(self):
-        kinds = {"commit": 34, "merge": 11, "transplant": 5, "create": 4, "assign": 4, "restart": 0.4, "delete": 2, "collect": 1, "checkpoint": 0.5, "listing": 4, "tree": 6,
+        kinds = {"commit": 34, "wide_commit": 2, "merge": 11, "transplant": 5, "create": 4, "assign": 4, "restart": 0.4, "delete": 2, "collect": 1, "checkpoint": 0.5, "listing": 4, "tree": 6,
                  "entries": 9, "history": 8, "contents": 4, "content": 8, "odd": 1}
         method, target, body = getattr(self, self.rng.choices(list(kinds), list(kinds.values()))[0])()
         target = target if target.startswith("/gc/") else "/api/v2" + target
@@ -167,6 +183,8 @@ class Requests:
 
     def learn(self, sent):
         """Takes heads, hashes and ids from a reply."""
+        if sent.raw is not None and WIDE[0].encode() in sent.body and sent.status in (200, 409):
+            self.wide ^= {sent.target.decode().split("/")[4]}
         if sent.raw is None or sent.status not in (200, 404):
             return
         told, path = sent.json, sent.target.decode().partition("?")[0].split("/")
@@ -196,8 +214,8 @@ class Requests:
 
 
 class Client:
-    def __init__(self, number, seed, port, pause):
-        self.number, self.port, self.pause = number, port, pause
+    def __init__(self, number, seed, port, pause, wide):
+        self.number, self.port, self.pause, self.wide = number, port, pause, wide
         self.rng = random.Random(f"{seed}/{number}")
         self.requests = Requests(self.rng, number)
         self.record, self.connections, self.link = [], 0, None
@@ -220,6 +238,8 @@ class Client:
         many = min(self.rng.choice([1, 1, 1, 1, 2, 3, 5]), LIMIT - self.index)
         asked = [self.requests.one() for _ in range(many)]
         wire = b"".join(b"%s %s HTTP/1.1\r\nContent-Length: %d\r\n\r\n%s" % (method.encode(), target, len(body), body) for method, target, body in asked)
+        if any(b'"wide"' in body for _, _, body in asked):
+            self.wide.set()
         began = time.monotonic_ns()
         lost = False
         try:
@@ -249,9 +269,22 @@ class Client:
             time.sleep(self.rng.random() * 2 * self.pause)
 
 
-def run_client(number, seed, port, pause, stop, path):
+class Keeper(Client):
+    """A client that asks for checkpoints alone, each a moment after another client has sent a wide commit."""
+
+    def run(self, stop):
+        self.requests.one = lambda: ("POST", b"/gc/v1/checkpoint", b"")
+        while not stop.is_set():
+            self.connect(stop)
+            if self.wide.wait(0.1) and self.link is not None:
+                self.wide.clear()
+                time.sleep(self.rng.random() * 0.02)
+                self.burst()
+
+
+def run_client(number, seed, port, pause, wide, keeps, stop, path):
     """The whole life of a client's process: at its end the record is in the file."""
-    client = Client(number, seed, port, pause)
+    client = (Keeper if keeps else Client)(number, seed, port, pause, wide)
     try:
         client.run(stop)
     finally:
