@@ -149,7 +149,6 @@ impl Marks {
         requires maps { HaveMaps graph.now maps.now }
         requires walked { HaveWalked graph.now self.old }
         requires some { 1 ≤ workers }
-        requires few { workers ≤ 64 }
         ensures ok { OnOk result (AddsAll self.old.set self.new.set (live_of graph.now roots.now)) }
         ensures err { OnErr result
             (AddsSome self.old.set self.new.set (live_of graph.now roots.now)) }
