@@ -13,12 +13,12 @@ use Rattle.cat_cli.specs.Journals.{Begins, IsJournalOf, StandsFor, told_at}
 use Rattle.cat_cli.specs.Lines.{check_line}
 use Rattle.cat_cli.specs.Opening.{Counted, CountedKnown, IsStored}
 use Rattle.cat_cli.specs.Runs.{Checks, ChecksKnown, Opens, OpensStill, Seen}
-use Rattle.cat_cli.specs.Surviving.{IsBegun, IsStoodOn, KeepsThrough, LeavesLog, Spared, StandsAs, Unspoiled, images_at, images_of}
+use Rattle.cat_cli.specs.Surviving.{IsBegun, IsStoodOn, KeepsThrough, LeavesLog, Spared, StandsAs, Unspoiled, Unwritten, images_at, images_of}
 use Rattle.cat_cli.specs.Unadded.{IsStillSo}
 use Rattle.cat_cli.proofs.Opened.{begins_at, left_at}
 use Rattle.cat_cli.proofs.Placed.{ended_at, spared_at, tells_of}
 use Rattle.cat_cli.proofs.Surviving.{spared_counting}
-use Rattle.cat_cli.proofs.Unspoiled.{are_left, let_go, unspoiled_back}
+use Rattle.cat_cli.proofs.Unspoiled.{are_left, let_go, unspoiled_back, unwritten_of}
 use Rattle.cat_serve.proofs.Told.{some_is, not_none}
 
 stands_both : (told after : Option (List ℕ)) (payloads : List (List ℕ)) → IfSome told (λ bytes. recovered bytes ≡ Ok payloads) → IfSome after (IsJournalOf payloads) → StandsFor told after
@@ -95,6 +95,10 @@ module _ {D K : Type 0} (told : D → Option (List ℕ)) (may_leave : D → List
       (are_left since had early (may_leave again) (left_since again) store.opened (reverse store.book.log) (in_flight store.keeper) (told disk) (told again) (kept store.keeper) stored.payloads stored.begins.recovers leaves
       (are_kept (told disk) (told again) (kept store.keeper) stored.payloads stored.are))
       (subst (λ (d : D). IfSome (kept store.keeper) (IsStillSo start count past began (in_flight store.keeper) (moment d) (may_leave d) (left_since d))) (sym back) still)
+
+  pub unwritten : IfSome (kept store.keeper) (IsStillSo start count past began (in_flight store.keeper) (moment (disk_of store.keeper)) (may_leave (disk_of store.keeper)) (left_since (disk_of store.keeper)))
+      → Unwritten (told disk) (told again) (images_of may_leave moment left_since disk again)
+  unwritten still = unwritten_of (told disk) (told again) (images_of may_leave moment left_since disk again) (unspoiled still)
 
 -- by the status; the disks' count of faults is as it was
 counts : (fell level : Type 0) (s : Seen) (book : Book) (line : List ℕ) (status : Status) → level → OpensStill s.journal s.left s.images book → line ≡ check_line book → Counted line s.written status s.held s.before s.now → Checks fell level s status

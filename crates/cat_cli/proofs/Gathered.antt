@@ -1,5 +1,5 @@
 -- A collection on the only pass of a desk: from its answer to the store, and to the journal that the store was opened from.
-use Rattle.std.proofs.Common.{◌≡◌, ◌⊎◌, ℕ, List, [], ◌∷◌, ◌++◌, reverse, length, Option, Some, None, IfSome, Bool, true, false, Result, Ok, Err, ◌+◌, refl, sym, ◌∙◌, ap, subst, inl, inr}
+use Rattle.std.proofs.Common.{◌≡◌, ◌≢◌, ◌⊎◌, ℕ, List, [], ◌∷◌, ◌++◌, reverse, length, Option, Some, None, IfSome, Bool, true, false, Result, Ok, Err, ◌+◌, refl, sym, ◌∙◌, ap, subst, inl, inr}
 use Rattle.std.specs.Prelude.{nat_lt, nat_le}
 use Rattle.std.specs.Option.{option_map}
 use Rattle.std.proofs.lemmas.List.{reverse-reverse}
@@ -291,6 +291,25 @@ pub has_failed : {K : Type 0} (in_flight : K → Option (List ℕ)) (policy : Po
 has_failed in_flight policy ahead to_come old new what g is flies =
     let unkept = subst (λ (w : Collected). ComesTo (collection old.book policy g.moment) w g.added (in_flight new.keeper)) is g.comes_to in
     failed_at new.mark.fault (spelling unkept.entry) (sym flies ∙ unkept.flies)
+
+-- and none did where it came to something else
+not_flown : (p : List ℕ) → ◌≡◌ {A = Option (List ℕ)} (Some p) None → ⊥
+not_flown p e = cc
+
+none_failed_at : (fault : Option FailedAppend) → option_map (λ (x : FailedAppend). x.payload) fault ≡ None → fault ≡ None
+none_failed_at None e = refl
+none_failed_at (Some x) e = absurd (not_flown x.payload e)
+
+none_flies_by : (called : Called) (what : Collected) (added : List LogEntry) (flying : Option (List ℕ)) → ComesTo called what added flying → what ≢ comes.Fault → flying ≡ None
+none_flies_by called (comes.Swept kept removed place) added flying c other = c.up
+none_flies_by called (comes.Limit number) added flying c other = c.up
+none_flies_by called comes.Fault added flying c other = absurd (other refl)
+none_flies_by called comes.NoMemory added flying c other = c.1
+
+pub has_kept : {K : Type 0} (in_flight : K → Option (List ℕ)) (policy : Policy) (ahead to_come : Option (ℕ → ℕ)) (old new : Stored K) (what : Collected) → IsGathered in_flight policy ahead to_come old new what → what ≢ comes.Fault
+    → in_flight new.keeper ≡ option_map (λ (x : FailedAppend). x.payload) new.mark.fault → new.mark.fault ≡ None
+has_kept in_flight policy ahead to_come old new what g other flies =
+    none_failed_at new.mark.fault (sym flies ∙ none_flies_by (collection old.book policy g.moment) what g.added (in_flight new.keeper) g.comes_to other)
 
 -- ---- on the journal that the store was opened from
 

@@ -1,5 +1,5 @@
 -- What a collection came to, by the status of its run.
-use Rattle.std.proofs.Common.{◌≡◌, ◌≢◌, ◌⊎◌, ℕ, ◌<◌, List, Option, Bool, true, false, refl, sym, ◌∙◌, ap, subst, inl, inr}
+use Rattle.std.proofs.Common.{◌≡◌, ◌≢◌, ℕ, List, Option, true, false, refl, sym, ◌∙◌, ap, subst, inl, inr}
 use Rattle.cat_io.specs.Places.{stood, taken}
 use Rattle.cat_model.specs.declared.reply.Swept.{Swept}
 use Rattle.cat_policy.specs.declared.policy.Policy.{Policy}
@@ -24,14 +24,12 @@ module _ (fell level : Type 0) (so : Collected → Type 0) (k : Sunk) where
   gathers_on : (fell' level' : Type 0) (so' : Collected → Type 0) → (fell → fell') → (level → level') → ((what : Collected) → so what → so' what) → (status : Status) → Gathers fell level so k status → Gathers fell' level' so' k status
   gathers_on fell' level' so' f l g statuses.Done x = (x.0, x.1, x.2, g (comes.Swept x.0 x.1 x.2) x.3, l x.4, x.5)
   gathers_on fell' level' so' f l g statuses.Limit x = (x.0, g (comes.Limit x.0) x.1, l x.2, x.3)
-  gathers_on fell' level' so' f l g statuses.DiskFault x = (x.0, g x.0 x.1, x.2, f x.3, x.4)
+  gathers_on fell' level' so' f l g statuses.DiskFault x = (g comes.Fault x.0, f x.1, x.2)
   gathers_on fell' level' so' f l g statuses.WriteFault x = (x.0, g x.0 x.1, x.2, due x.0 x.2 x.3, x.4)
     where
       due : (what : Collected) (line : List ℕ) → IsDue fell level what line → IsDue fell' level' what line
-      due (comes.Swept kept removed place) line (inl d) = inl (l d.0, d.1)
-      due (comes.Swept kept removed place) line (inr d) = inr (f d.0, d.1)
-      due (comes.Limit number) line (inl d) = inl (l d.0, d.1)
-      due (comes.Limit number) line (inr d) = inr (f d.0, d.1)
+      due (comes.Swept kept removed place) line d = (l d.0, d.1)
+      due (comes.Limit number) line d = (l d.0, d.1)
       due comes.Fault line d = (f d.0, d.1)
       due comes.NoMemory line d = absurd d
   gathers_on fell' level' so' f l g statuses.NoMemory x = (x.0, g x.0 x.1, unsaid x.0 x.2, x.3)
@@ -40,7 +38,7 @@ module _ (fell level : Type 0) (so : Collected → Type 0) (k : Sunk) where
       unsaid (comes.Swept kept removed place) u = l u
       unsaid (comes.Limit number) u = l u
       unsaid comes.Fault u = absurd u
-      unsaid comes.NoMemory u = tt
+      unsaid comes.NoMemory u = l u
   gathers_on fell' level' so' f l g statuses.Usage x = absurd x
   gathers_on fell' level' so' f l g statuses.Unreadable x = absurd x
   gathers_on fell' level' so' f l g statuses.ReadFault x = absurd x
@@ -49,7 +47,7 @@ module _ (fell level : Type 0) (so : Collected → Type 0) (k : Sunk) where
 
   -- the disks failed where the status says so, and not where it spares them
   pub disks_fell : (status : Status) → status ≡ statuses.DiskFault → Gathers fell level so k status → fell
-  disks_fell status is x = let y = subst (Gathers fell level so k) is x in y.3
+  disks_fell status is x = let y = subst (Gathers fell level so k) is x in y.1
 
   pub disks_level : (status : Status) → spares_disks status ≡ true → Gathers fell level so k status → level
   disks_level statuses.Done spares x = x.4
@@ -89,53 +87,44 @@ module _ (fell level paused : Type 0) (policy : Policy) (ahead to_come : Option 
       by (inl x) = x
       by (inr r) = r.cause
 
--- by the count of the disk's faults
-pub faulty : (most : ℕ) (failed : Bool) (what : Collected) → (failed ≡ true → 0 < most) → (what ≡ comes.Fault → 0 < most) → (failed ≡ true) ⊎ (what ≡ comes.Fault) → 0 < most
-faulty most failed what some failing (inl is) = some is
-faulty most failed what some failing (inr is) = failing is
-
-pub unfaulty : (most : ℕ) (failed : Bool) → (failed ≡ false → most ≡ 0) → failed ≡ false → most ≡ 0
-unfaulty most failed none is = none is
-
 -- ---- what is told
 
-module _ (what : Collected) (failed : Bool) (k : Sunk) where
+never_swept : (kept removed place : ℕ) → comes.Swept kept removed place ≢ comes.Fault
+never_swept kept removed place e = cc
+
+never_limited : (number : ℕ) → comes.Limit number ≢ comes.Fault
+never_limited number e = cc
+
+never_out : comes.NoMemory ≢ comes.Fault
+never_out e = cc
+
+module _ (what : Collected) (k : Sunk) where
   abbrev Reports : Status → Type 0
-  Reports status = Gathers ((failed ≡ true) ⊎ (what ≡ comes.Fault)) (failed ≡ false) (λ x. x ≡ what) k status
+  Reports status = Gathers (what ≡ comes.Fault) (what ≢ comes.Fault) (λ x. x ≡ what) k status
 
   by_line : (line : List ℕ) (status ending : Status) → EndsIn line status k ending → (IsWritten true line k → Reports status) → (IsWritten false line k → Reports statuses.WriteFault) → (TellsKnown no_memory_line k.held k.after k.before k.now → Reports statuses.NoMemory) → Reports ending
   by_line line status ending (inl (inl e)) whole front none = subst Reports (sym e.0) (whole e.1)
   by_line line status ending (inl (inr e)) whole front none = subst Reports (sym e.0) (front e.1)
   by_line line status ending (inr e) whole front none = subst Reports (sym e.0) (none e.1)
 
-  pub swept_told : (kept removed place : ℕ) (ending : Status) → what ≡ comes.Swept kept removed place → failed ≡ false → EndsIn (swept_line kept removed place) statuses.Done k ending → Reports ending
-  swept_told kept removed place ending is well told =
-      by_line (swept_line kept removed place) statuses.Done ending told (λ w. (kept, removed, place, sym is, well, w)) (λ w. (comes.Swept kept removed place, sym is, swept_line kept removed place, inl (well, refl), w))
+  pub swept_told : (kept removed place : ℕ) (ending : Status) → what ≡ comes.Swept kept removed place → EndsIn (swept_line kept removed place) statuses.Done k ending → Reports ending
+  swept_told kept removed place ending is told =
+      let well : what ≢ comes.Fault = λ fault. never_swept kept removed place (sym is ∙ fault) in
+      by_line (swept_line kept removed place) statuses.Done ending told (λ w. (kept, removed, place, sym is, well, w)) (λ w. (comes.Swept kept removed place, sym is, swept_line kept removed place, (well, refl), w))
       (λ t. (comes.Swept kept removed place, sym is, well, t))
 
-  pub limit_told : (number : ℕ) (ending : Status) → what ≡ comes.Limit number → failed ≡ false → EndsIn (limit_line number) statuses.Limit k ending → Reports ending
-  limit_told number ending is well told =
-      by_line (limit_line number) statuses.Limit ending told (λ w. (number, sym is, well, w)) (λ w. (comes.Limit number, sym is, limit_line number, inl (well, refl), w)) (λ t. (comes.Limit number, sym is, well, t))
+  pub limit_told : (number : ℕ) (ending : Status) → what ≡ comes.Limit number → EndsIn (limit_line number) statuses.Limit k ending → Reports ending
+  limit_told number ending is told =
+      let well : what ≢ comes.Fault = λ fault. never_limited number (sym is ∙ fault) in
+      by_line (limit_line number) statuses.Limit ending told (λ w. (number, sym is, well, w)) (λ w. (comes.Limit number, sym is, limit_line number, (well, refl), w)) (λ t. (comes.Limit number, sym is, well, t))
 
   -- the line of a disk's fault takes no memory
-  pub fault_told : (ending : Status) → (failed ≡ true) ⊎ (what ≡ comes.Fault) → what ≢ comes.NoMemory → EndsWith disk_fault_line statuses.DiskFault k ending → Reports ending
-  fault_told ending fell some (inl e) = subst Reports (sym e.0) (what, refl, some, fell, e.1)
-  fault_told ending fell some (inr e) = subst Reports (sym e.0) (what, refl, disk_fault_line, due what some, e.1)
-    where
-      due : (x : Collected) → x ≢ comes.NoMemory → IsDue ((failed ≡ true) ⊎ (what ≡ comes.Fault)) (failed ≡ false) x disk_fault_line
-      due (comes.Swept kept removed place) other = inr (fell, refl)
-      due (comes.Limit number) other = inr (fell, refl)
-      due comes.Fault other = (fell, refl)
-      due comes.NoMemory other = absurd (other refl)
-
   pub failing_told : (ending : Status) → what ≡ comes.Fault → EndsWith disk_fault_line statuses.DiskFault k ending → Reports ending
-  failing_told ending is told = fault_told ending (inr is) (λ no. never (sym is ∙ no)) told
-    where
-      never : comes.Fault ≢ comes.NoMemory
-      never e = cc
+  failing_told ending is (inl e) = subst Reports (sym e.0) (sym is, is, e.1)
+  failing_told ending is (inr e) = subst Reports (sym e.0) (comes.Fault, sym is, disk_fault_line, (is, refl), e.1)
 
   pub memory_told : (ending : Status) → what ≡ comes.NoMemory → ending ≡ statuses.NoMemory → TellsKnown no_memory_line k.held k.after k.before k.now → Reports ending
-  memory_told ending is by told = subst Reports (sym by) (comes.NoMemory, sym is, tt, told)
+  memory_told ending is by told = subst Reports (sym by) (comes.NoMemory, sym is, (λ fault. never_out (sym is ∙ fault)), told)
 
 -- ---- the disk is back at its path
 
@@ -163,14 +152,14 @@ module _ {D : Type 0} (told : D → Option (List ℕ)) (may_leave : D → List �
         (survives_at told may_leave moment left_since place disk again (grown g.payloads g.opened g.book g.added 0 g.flying) is g.crash);
   }
 
-  -- by the status; level is so where the disk didn't fail
-  pub gathers : (fell level paused : Type 0) (policy : Policy) (ahead to_come : Option (ℕ → ℕ)) (k : Sunk) (most : ℕ) (what : Collected) (failed : Bool) (status : Status)
+  -- by the status; level is so where its append didn't fail
+  pub gathers : (fell level paused : Type 0) (policy : Policy) (ahead to_come : Option (ℕ → ℕ)) (k : Sunk) (what : Collected) (status : Status)
       → Collects policy ahead to_come (told disk) (told again) (images_of may_leave moment left_since disk again) what
-      → Gathers ((failed ≡ true) ⊎ (what ≡ comes.Fault)) (failed ≡ false) (λ x. x ≡ what) k status
-      → (failed ≡ true → 0 < most) → (failed ≡ false → most ≡ 0) → (what ≡ comes.Fault → 0 < most) → (0 < most → fell) → (most ≡ 0 → level)
+      → Gathers (what ≡ comes.Fault) (what ≢ comes.Fault) (λ x. x ≡ what) k status
+      → (what ≡ comes.Fault → fell) → (what ≢ comes.Fault → level)
       → CollectsKnown fell level paused policy ahead to_come k (told_at told place) (told_at told place') (images_at may_leave moment left_since place place') status
-  gathers fell level paused policy ahead to_come k most what failed status g told_so some none failing falls stays =
-      inl (gathers_on ((failed ≡ true) ⊎ (what ≡ comes.Fault)) (failed ≡ false) (λ x. x ≡ what) k fell level
+  gathers fell level paused policy ahead to_come k what status g told_so falls stays =
+      inl (gathers_on (what ≡ comes.Fault) (what ≢ comes.Fault) (λ x. x ≡ what) k fell level
       (Collects policy ahead to_come (told_at told place) (told_at told place') (images_at may_leave moment left_since place place'))
-      (λ f. falls (faulty most failed what some failing f)) (λ f. stays (none f))
+      falls stays
       (λ x same. subst (Collects policy ahead to_come (told_at told place) (told_at told place') (images_at may_leave moment left_since place place')) (sym same) (collects_there policy ahead to_come what g)) status told_so)

@@ -86,7 +86,7 @@ module _ {In Out : Type 0} (ends : BothEnds In Out) (service : Service) (a m b :
   pub comes : (paused : Type 0) (end : Served)
       → (end ≢ serveds.NoMemory → ServesAll ends desk service.attempts service.workers m.tells m.waiting b.waiting m.returned b.returned m.rejoined b.rejoined m.dealt b.dealt m.faults b.faults p ahead q now)
       → (end ≡ serveds.End → IsTrue m.tells → b.waiting ≡ [])
-      → (end ≡ serveds.NoMemory → Remembers p q × paused × (IsTrue m.tells → (b.waiting ≡ m.waiting) × (b.returned ≡ m.returned) × ComesBack m.dealt m.rejoined b.rejoined))
+      → (end ≡ serveds.NoMemory → Remembers p q × paused × (IsTrue m.tells → (b.waiting ≡ m.waiting) × (b.returned ≡ m.returned) × ComesBack m.dealt b.dealt m.rejoined b.rejoined))
       → (end ≡ serveds.ListenerFault → Rose m.faults b.faults) → (end ≢ serveds.ListenerFault → CountStays m.faults b.faults)
       → Comes (WorksOn ends service a b desk p ahead q now) (Remembers p q × paused) service a b end
   comes paused serveds.End serves done none cause same =
@@ -99,7 +99,7 @@ module _ {In Out : Type 0} (ends : BothEnds In Out) (service : Service) (a m b :
           listening = listening;
           waiting = λ t. (n.2 (still_tells t)).0 ∙ waiting;
           returned = λ t. (n.2 (still_tells t)).1 ∙ returned;
-          back = λ t. subst (λ (z : List (List (In × Out)) × List (List (In × Out))). ComesBack z.0 z.1 b.rejoined) (λ i. (dealt i, rejoined i)) (n.2 (still_tells t)).2;
+          back = λ t. subst (λ (z : List (List (In × Out)) × List (List (In × Out))). ComesBack z.0 b.dealt z.1 b.rejoined) (λ i. (dealt i, rejoined i)) (n.2 (still_tells t)).2;
           level = count_from (same none_began);
         },
       )
@@ -175,8 +175,9 @@ module _ {In Out D K : Type 0} (ends : BothEnds In Out) (service : Service) (a b
   is_new x (inl was) = was
   is_new x (inr old_one) = absurd (let wrong : None ≡ Some x = sym up ∙ old_one in cc)
 
-  hosted : (to : ℕ → Type 0) → ((x : FailedAppend) → new.mark.fault ≡ Some x → to x.count) → Hosts ends service a b ahead now old new → Hosted ends to service a b ahead now (told disk) (told again) (images_of may_leave moment left_since disk again)
-  hosted to counted h =
+  hosted : (to : ℕ → Type 0) (stays : Type 0) → ((x : FailedAppend) → new.mark.fault ≡ Some x → to x.count) → (new.mark.fault ≡ None → stays) → Hosts ends service a b ahead now old new
+      → Hosted ends to stays service a b ahead now (told disk) (told again) (images_of may_leave moment left_since disk again)
+  hosted to stays counted level h =
       let added = h.given.0 in
       let grows : seen h.last ≡ reverse old.book.log ++ added = h.given.1 ∙ ap (λ (l : List LogEntry). l ++ added) h.begun in
       let log : reverse new.book.log ≡ reverse old.book.log ++ added = ap (λ (l : List LogEntry). reverse l) h.log_is ∙ reverse-reverse (seen h.last) ∙ grows in
@@ -216,6 +217,7 @@ module _ {In Out D K : Type 0} (ends : BothEnds In Out) (service : Service) (a b
             (subst (λ (o : Opened). Left o (flying_at h.last)) (h.opened_is ∙ h.opened) (subst (Left new.opened) flying leaves));
         format_stays = shaped;
         cause = if_fault (mark_of h.last).fault (λ f. to f.count) (λ x is. counted x (h.fault_is ∙ is));
+        level = λ none. level (h.fault_is ∙ none);
         told = if_fault (mark_of h.last).fault (λ f. CallerWasTold f (all_shares ends h.desk service.attempts h.works.serves)) (λ x is.
             all_told ends h.desk service.attempts h.works.serves x clean is (all_among ends h.desk service.attempts h.works.serves h.number_is h.splits x.caller (is_new x (h.marked.fault x is))));
       }
@@ -228,8 +230,8 @@ module _ {In Out D K : Type 0} (ends : BothEnds In Out) (service : Service) (a b
       (unbased (told disk) (kept old.keeper) (kept new.keeper) had stored.payloads left.payloads old.opened (reverse old.book.log) stored.are
       (had_are since had early (told disk) (moment disk) (may_leave disk) stored.payloads begun stored.begins.recovers) stored.spelled (sym bases.1 ∙ same ∙ bases.0) left.are left.goes_on (stands_now old.opened (reverse old.book.log) left.payloads left.stand))
 
-  opened_only : (paused : Type 0) → IsAsBefore old new × paused → OpenedOnly paused (told disk) (told again) (images_of may_leave moment left_since disk again)
-  opened_only paused s =
+  opened_only : (paused stays : Type 0) → (new.mark.fault ≡ None → stays) → IsAsBefore old new × paused → OpenedOnly paused stays (told disk) (told again) (images_of may_leave moment left_since disk again)
+  opened_only paused stays level s =
       let none : new.mark.fault ≡ None = ap (λ (m : Mark). m.fault) s.0.mark ∙ up in
       let idle : in_flight new.keeper ≡ None = flies ∙ ap (option_map (λ (x : FailedAppend). x.payload)) none in
       let left : IfSome (told again) (LeavesLog since had early (may_leave again) (left_since again) old.opened (reverse old.book.log) (kept new.keeper) None) =
@@ -245,9 +247,10 @@ module _ {In Out D K : Type 0} (ends : BothEnds In Out) (service : Service) (a b
               (subst (λ (d : D). IfSome (kept new.keeper) (IsStillSo start count past began (in_flight new.keeper) (moment d) (may_leave d) (left_since d))) (sym back) still);
         },
         s.1,
+        level none,
       )
 
-  -- by how serving ended
-  pub comes_down : (paused : Type 0) (to : ℕ → Type 0) (end : Served) → ((x : FailedAppend) → new.mark.fault ≡ Some x → to x.count) → Comes (Hosts ends service a b ahead now old new) (IsAsBefore old new × paused) service a b end
-      → Comes (Hosted ends to service a b ahead now (told disk) (told again) (images_of may_leave moment left_since disk again)) (OpenedOnly paused (told disk) (told again) (images_of may_leave moment left_since disk again)) service a b end
-  comes_down paused to end counted c = comes_on _ _ _ _ service a b end (hosted to counted) (opened_only paused) c
+  -- by how serving ended; where no append failed stays is so
+  pub comes_down : (paused : Type 0) (to : ℕ → Type 0) (stays : Type 0) (end : Served) → ((x : FailedAppend) → new.mark.fault ≡ Some x → to x.count) → (new.mark.fault ≡ None → stays) → Comes (Hosts ends service a b ahead now old new) (IsAsBefore old new × paused) service a b end
+      → Comes (Hosted ends to stays service a b ahead now (told disk) (told again) (images_of may_leave moment left_since disk again)) (OpenedOnly paused stays (told disk) (told again) (images_of may_leave moment left_since disk again)) service a b end
+  comes_down paused to stays end counted level c = comes_on _ _ _ _ service a b end (hosted to stays counted level) (opened_only paused stays level) c

@@ -5,7 +5,7 @@ use Rattle.cat_model.specs.Book.{Book}
 use Rattle.cat_model.specs.Mark.{FailedAppend, Mark}
 use Rattle.cat_model.specs.Turns.{Opened}
 use Rattle.cat_model.specs.Requests.{Journal}
-use Rattle.cat_core.specs.Stored.{Stored, opened_of}
+use Rattle.cat_core.specs.Stored.{Stored, faults_at, opened_of}
 use Rattle.cat_desk.specs.Pass.{DeskId, mark_of}
 use Rattle.cat_desk.specs.declared.pass.Pass.{Pass}
 use Rattle.cat_work.specs.Passes.{book_of}
@@ -46,6 +46,19 @@ pub fallen_at : (P : ℕ → Type 0) (down : Option ℕ) (fault : Option FailedA
     → (count : ℕ) → down ≡ Some count → P count
 fallen_at P down None is holds count fell = absurd (not_none count (sym is ∙ fell))
 fallen_at P down (Some x) is holds count fell = subst P (some_is x.count count (sym is ∙ fell)) (holds x refl)
+
+-- none is told where the keeper isn't down
+pub none_told : (down : Option ℕ) (fault : Option FailedAppend) → down ≡ option_map (λ (x : FailedAppend). x.count) fault → down ≡ None → fault ≡ None
+none_told down None is up = refl
+none_told down (Some x) is up = absurd (not_none x.count (sym up ∙ is))
+
+-- the count of faults is that of the append that failed
+pub counted_at : (fault : Option FailedAppend) (faults began : ℕ) (x : FailedAppend) → faults ≡ faults_at began fault → fault ≡ Some x → x.count ≡ faults
+counted_at fault faults began x level is = sym (level ∙ ap (λ (f : Option FailedAppend). faults_at began f) is)
+
+-- or where none did, the one at which the store was opened
+pub level_at : (fault : Option FailedAppend) (faults began : ℕ) → faults ≡ faults_at began fault → fault ≡ None → faults ≡ began
+level_at fault faults began level none = level ∙ ap (λ (f : Option FailedAppend). faults_at began f) none
 
 -- the count of faults at which the store was opened is as it was
 pub began_on : {K : Type 0} (old new : Stored K) (opened : Opened) → opened ≡ opened_of old → opened_of new ≡ opened → new.opened.faults ≡ old.opened.faults

@@ -23,8 +23,8 @@ use Rattle.cat_cli.specs.declared.unopened.Unopened.{Unopened}
 use Rattle.cat_cli.specs.declared.unopened.Unopened.TheVariants as whys
 use Rattle.cat_cli.specs.Journals.{Begins, DisksFell, IsBack, RoseBy, StandsFor, TellsAs, told_at}
 use Rattle.cat_cli.specs.Opening.{FaultKnown, FaultTold, IsReason, IsStored, Refused, RefusedKnown, by_journal, by_store, is_unreadable}
-use Rattle.cat_cli.specs.Runs.{CountedBy, Refuses, RefusesSo, Seen, UnspoiledBy, spares_disks}
-use Rattle.cat_cli.specs.Surviving.{Images, Spared, Unspoiled}
+use Rattle.cat_cli.specs.Runs.{CountedBy, Refuses, Seen, UnmigratedBy, UnspoiledBy, spares_disks}
+use Rattle.cat_cli.specs.Surviving.{Images, Spared, Unspoiled, Unwritten}
 use Rattle.cat_serve.proofs.Told.{some_is, not_none}
 
 -- ---- counts of faults
@@ -37,13 +37,15 @@ rose_first fresh now is rose = omega (arith, is, rose)
 rose_more : (before mid now more : ℕ) → mid ≡ before → now ≡ raised_by more mid → 0 < more → Rose before now
 rose_more before mid now more is by some = omega (arith, is, by, some)
 
--- one whose count rose to this one at least
-rose_by : (before mid now kept count : ℕ) → mid ≡ before → now ≡ raised_by kept mid → 0 < count → count ≤ kept → RoseBy before now count
-rose_by before mid now kept count is by some most = record { counted = some; rose = omega (arith, is, by, most) }
+-- one whose count is this one
+rose_by : (before mid now kept count : ℕ) → mid ≡ before → now ≡ raised_by kept mid → 0 < count → count ≡ kept → RoseBy before now count
+rose_by before mid now kept count is by some same =
+    let so : raised_by kept mid ≡ raised_by count before = (λ i. raised_by (sym same i) (is i)) in
+    record { counted = some; rose = by ∙ so }
 
 -- an append failed at this count, on a disk that had counted no fault
-pub counted_by : (began kept most count : ℕ) → began ≡ 0 → most ≡ kept → Rose began count × (count ≤ kept) → CountedBy most count
-counted_by began kept most count fresh is rose = (rose_first began count fresh rose.0, omega (arith, is, rose.1))
+pub counted_by : (began kept most count : ℕ) → began ≡ 0 → most ≡ kept → Rose began count × (count ≡ kept) → CountedBy most count
+counted_by began kept most count fresh is rose = (rose_first began count fresh rose.0, rose.1 ∙ sym is)
 
 pub rose_there : (before mid now most count : ℕ) → mid ≡ before → now ≡ raised_by most mid → CountedBy most count → RoseBy before now count
 rose_there before mid now most count is by counted = rose_by before mid now most count is by counted.0 counted.1
@@ -183,25 +185,42 @@ unreadable_ends : (status : Status) → status ≡ statuses.Unreadable → (stat
 unreadable_ends status is (inl e) = let wrong : statuses.Unreadable ≡ statuses.DiskFault = sym is ∙ e in absurd cc
 unreadable_ends status is (inr e) = let wrong : statuses.Unreadable ≡ statuses.WriteFault = sym is ∙ e in absurd cc
 
-pub unspoiled_by : (journal left : Option (List ℕ)) (images : Images) (why : Unopened) (status : Status) → EndsAtFault why status → ((why ≡ whys.Fault → ⊥) → Unspoiled journal left images) → UnspoiledBy journal left images status
-unspoiled_by journal left images why statuses.Unreadable ends same = same (λ is. unreadable_ends statuses.Unreadable refl (ends is))
-unspoiled_by journal left images why statuses.NoMemory ends same = same (λ is. ⊎_elim memory_is_no_fault memory_is_no_write (ends is))
-unspoiled_by journal left images why statuses.DiskFault ends same = tt
-unspoiled_by journal left images why statuses.WriteFault ends same = tt
-unspoiled_by journal left images why statuses.Done ends same = tt
-unspoiled_by journal left images why statuses.Usage ends same = tt
-unspoiled_by journal left images why statuses.ReadFault ends same = tt
-unspoiled_by journal left images why statuses.ListenerFault ends same = tt
-unspoiled_by journal left images why statuses.Cut ends same = tt
-unspoiled_by journal left images why statuses.Limit ends same = tt
+pub unmigrated_by : (journal left : Option (List ℕ)) (images : Images) (why : Unopened) (status : Status) → EndsAtFault why status → ((why ≡ whys.Fault → ⊥) → Unspoiled journal left images) → UnmigratedBy journal left images status
+unmigrated_by journal left images why statuses.Unreadable ends same = same (λ is. unreadable_ends statuses.Unreadable refl (ends is))
+unmigrated_by journal left images why statuses.NoMemory ends same = same (λ is. ⊎_elim memory_is_no_fault memory_is_no_write (ends is))
+unmigrated_by journal left images why statuses.DiskFault ends same = tt
+unmigrated_by journal left images why statuses.WriteFault ends same = tt
+unmigrated_by journal left images why statuses.Done ends same = tt
+unmigrated_by journal left images why statuses.Usage ends same = tt
+unmigrated_by journal left images why statuses.ReadFault ends same = tt
+unmigrated_by journal left images why statuses.ListenerFault ends same = tt
+unmigrated_by journal left images why statuses.Cut ends same = tt
+unmigrated_by journal left images why statuses.Limit ends same = tt
 
-pub refuses_known : (fell level : Type 0) (why : Unopened) (status : Status) (held after journal left : Option (List ℕ)) (images : Images) (before now : ℕ) (w : List ℕ)
-    → IsReason journal why → (why ≡ whys.Fault → fell) → ((why ≡ whys.Fault → ⊥) → level) → EndsAtFault why status → StandsFor journal left → Spared journal left images → ((why ≡ whys.Fault → ⊥) → Unspoiled journal left images) → RefusedKnown why held status after before now → held ≡ Some w
-    → (h : List ℕ) × (after ≡ Some h) × RefusesSo fell level (record { written = w; held = h; before = before; now = now; journal = journal; left = left; images = images }) status
-refuses_known fell level why status held after journal left images before now w reason cause spares ends stands spared same told e =
+-- or no more than a part of a new journal was
+pub unspoiled_by : (journal left : Option (List ℕ)) (images : Images) (why : Unopened) (status : Status) → EndsAtFault why status → ((why ≡ whys.Fault → ⊥) → Unspoiled journal left images) → Unwritten journal left images → UnspoiledBy journal left images status
+unspoiled_by journal left images why statuses.Unreadable ends same few = same (λ is. unreadable_ends statuses.Unreadable refl (ends is))
+unspoiled_by journal left images why statuses.NoMemory ends same few = same (λ is. ⊎_elim memory_is_no_fault memory_is_no_write (ends is))
+unspoiled_by journal left images why statuses.DiskFault ends same few = few
+unspoiled_by journal left images why statuses.WriteFault ends same few = few
+unspoiled_by journal left images why statuses.Done ends same few = few
+unspoiled_by journal left images why statuses.Usage ends same few = few
+unspoiled_by journal left images why statuses.ReadFault ends same few = few
+unspoiled_by journal left images why statuses.ListenerFault ends same few = few
+unspoiled_by journal left images why statuses.Cut ends same few = few
+unspoiled_by journal left images why statuses.Limit ends same few = few
+
+-- with what is so of the bytes
+abbrev pub RefusesWith : Type 0 → Type 0 → Type 0 → Seen → Status → Type 0
+RefusesWith so fell level s status = Refuses fell level s status × StandsFor s.journal s.left × Spared s.journal s.left s.images × so
+
+pub refuses_known : (fell level so : Type 0) (why : Unopened) (status : Status) (held after journal left : Option (List ℕ)) (images : Images) (before now : ℕ) (w : List ℕ)
+    → IsReason journal why → (why ≡ whys.Fault → fell) → ((why ≡ whys.Fault → ⊥) → level) → EndsAtFault why status → StandsFor journal left → Spared journal left images → so → RefusedKnown why held status after before now → held ≡ Some w
+    → (h : List ℕ) × (after ≡ Some h) × RefusesWith so fell level (record { written = w; held = h; before = before; now = now; journal = journal; left = left; images = images }) status
+refuses_known fell level so why status held after journal left images before now w reason cause spares ends stands spared same told e =
     let x = told w e in
     let s : Seen = record { written = w; held = x.0; before = before; now = now; journal = journal; left = left; images = images } in
-    (x.0, x.1, (refuses fell level s why status reason cause spares ends x.2, stands, spared, unspoiled_by journal left images why status ends same))
+    (x.0, x.1, (refuses fell level s why status reason cause spares ends x.2, stands, spared, same))
 
 spares_fault : (status : Status) → spares_disks status ≡ true → status ≡ statuses.DiskFault → ⊥
 spares_fault status is e = let no : false ≡ true = subst (λ (st : Status). spares_disks st ≡ true) e is in clash no

@@ -13,7 +13,7 @@ use Rattle.cat_cli.specs.declared.status.Status.{Status}
 use Rattle.cat_cli.specs.declared.status.Status.TheVariants as statuses
 use Rattle.cat_cli.specs.Journals.{Holds, IsBasedAt, IsJournalOf, KeepsFormat, opened_format, told_at}
 use Rattle.cat_cli.specs.Opening.{IsStored, status_of}
-use Rattle.cat_cli.specs.Runs.{Answers, CountedBy, Ran, RanKnown, RanWell, SaysKnown, Seen, grown, spares_disks, start, tells_all}
+use Rattle.cat_cli.specs.Runs.{Answers, CountedBy, Ran, RanIll, RanKnown, RanWell, SaysKnown, Seen, grown, spares_disks, start, tells_all}
 use Rattle.cat_serve.specs.Sessions.{Readings, ReadsOn, Fallen, Ends, journal_by, journal_from}
 use Rattle.cat_serve.specs.SessionLaws.{log_grows}
 use Rattle.cat_cli.specs.Stores.{RunsKnown}
@@ -30,21 +30,25 @@ log_of before after news grew = ap (λ (l : List LogEntry). reverse l) grew ∙ 
 
 -- by how it ended, and whether the disk failed
 module _ (to : ℕ → Type 0) (stays : Type 0) (clock : Readings) (to_come : ℕ → Type 0) (bytes : List ℕ) (unread : Option (List ℕ)) (s : Seen) where
-  ran_well : (end : End) (ran : Ran to clock to_come bytes unread s end) → (ran.last.fallen ≡ None) × stays → RanWell to stays clock to_come bytes unread s end
+  ran_well : (end : End) (ran : Ran to stays clock to_come bytes unread s end) → (ran.last.fallen ≡ None) × stays → RanWell to stays clock to_come bytes unread s end
   ran_well end ran (none, same) = (ran, none, same)
 
-  pub answers : (end : End) (rose : Bool) (ran : Ran to clock to_come bytes unread s end) → (rose ≡ false → (ran.last.fallen ≡ None) × stays) → Answers to stays clock to_come bytes unread s (status_of end rose)
-  answers ends.NoMemory rose ran well = ran
-  answers ends.WriteFault rose ran well = ran
-  answers ends.ReadFault rose ran well = ran
-  answers ends.Closed true ran well = inl ran
-  answers ends.Closed false ran well = ran_well ends.Closed ran (well refl)
-  answers ends.Capped true ran well = inr (inl ran)
-  answers ends.Capped false ran well = inl (ran_well ends.Capped ran (well refl))
-  answers ends.BadHead true ran well = inr (inr (inl ran))
-  answers ends.BadHead false ran well = inr (inl (ran_well ends.BadHead ran (well refl)))
-  answers ends.TooLarge true ran well = inr (inr (inr ran))
-  answers ends.TooLarge false ran well = inr (inr (ran_well ends.TooLarge ran (well refl)))
+  ran_ill : (end : End) (ran : Ran to stays clock to_come bytes unread s end) → (f : Fallen) × (ran.last.fallen ≡ Some f) → RanIll to stays clock to_come bytes unread s end
+  ran_ill end ran (f, is) = (ran, f, is)
+
+  pub answers : (end : End) (rose : Bool) (ran : Ran to stays clock to_come bytes unread s end) → (rose ≡ false → (ran.last.fallen ≡ None) × stays) → (rose ≡ true → (f : Fallen) × (ran.last.fallen ≡ Some f))
+      → Answers to stays clock to_come bytes unread s (status_of end rose)
+  answers ends.NoMemory rose ran well ill = ran
+  answers ends.WriteFault rose ran well ill = ran
+  answers ends.ReadFault rose ran well ill = ran
+  answers ends.Closed true ran well ill = inl (ran_ill ends.Closed ran (ill refl))
+  answers ends.Closed false ran well ill = ran_well ends.Closed ran (well refl)
+  answers ends.Capped true ran well ill = inr (inl (ran_ill ends.Capped ran (ill refl)))
+  answers ends.Capped false ran well ill = inl (ran_well ends.Capped ran (well refl))
+  answers ends.BadHead true ran well ill = inr (inr (inl (ran_ill ends.BadHead ran (ill refl))))
+  answers ends.BadHead false ran well ill = inr (inl (ran_well ends.BadHead ran (well refl)))
+  answers ends.TooLarge true ran well ill = inr (inr (inr (ran_ill ends.TooLarge ran (ill refl))))
+  answers ends.TooLarge false ran well ill = inr (inr (ran_well ends.TooLarge ran (well refl)))
 
 pub read_failed : (end : End) (rose : Bool) → status_of end rose ≡ statuses.ReadFault → end ≡ ends.ReadFault
 read_failed ends.NoMemory rose e = cc
@@ -146,6 +150,11 @@ none_counted : (fallen : Option Fallen) (most : ℕ) → IfSome fallen (λ f. Co
 none_counted None most counted none = refl
 none_counted (Some f) most counted none = absurd (not_both most (omega (arith, counted.0, counted.1)) none)
 
+-- and one did where one is
+some_counted : (fallen : Option Fallen) (most : ℕ) → (fallen ≡ None → most ≡ 0) → 0 < most → (f : Fallen) × (fallen ≡ Some f)
+some_counted None most level some = absurd (not_both most some (level refl))
+some_counted (Some f) most level some = (f, refl)
+
 caused : (to to' : ℕ → Type 0) (fallen : Option Fallen) → ((c : ℕ) → to c → to' c) → IfSome fallen (λ f. to f.count) → IfSome fallen (λ f. to' f.count)
 caused to to' None on cause = tt
 caused to to' (Some f) on cause = on f.count cause
@@ -170,9 +179,9 @@ module _ {D K : Type 0} (told : D → Option (List ℕ)) (may_leave : D → List
   abbrev Left : Opened → Option (List ℕ) → Type 0
   Left o flying = IfSome (told again) (LeavesLog since had early (may_leave again) (left_since again) o (reverse new.book.log) (kept new.keeper) flying)
 
-  -- how it went, where to is so of the count at which an append failed
-  pub ran : (to : ℕ → Type 0) → ((c : ℕ) → down new.keeper ≡ Some c → to c) → RanKnown to ahead ahead' bytes unread held after before now (told disk) (told again) (images_of may_leave moment left_since disk again) end
-  ran to raised b w e f =
+  -- how it went, where to is so of the count at which an append failed, and stays where none did
+  pub ran : (to : ℕ → Type 0) (stays : Type 0) → ((c : ℕ) → down new.keeper ≡ Some c → to c) → (down new.keeper ≡ None → stays) → RanKnown to stays ahead ahead' bytes unread held after before now (told disk) (told again) (images_of may_leave moment left_since disk again) end
+  ran to stays raised level b w e f =
       let x = session b w e f in
       let last = x.4 in
       let left = x.6 in
@@ -204,6 +213,7 @@ module _ {D K : Type 0} (told : D → Option (List ℕ)) (may_leave : D → List
           based = λ none. subst (λ (n : ℕ). IfSome (told again) (IsBasedAt n)) left.base_is (based_now since had early (may_leave again) (left_since again) new.opened (reverse new.book.log) (told again) (kept new.keeper) (in_flight new.keeper) new.mark.base
               (left.flies ∙ ap (option_map (λ (f : Fallen). f.payload)) none) based leaves);
           cause = one_fell to (down new.keeper) last.fallen left.down_is raised;
+          level = λ none. level (left.down_is ∙ ap (option_map (λ (f : Fallen). f.count)) none);
           reads_on = x.7;
         },
       )
@@ -220,9 +230,9 @@ module _ {D : Type 0} (told : D → Option (List ℕ)) (may_leave : D → List �
   abbrev pub There : List ℕ → List ℕ → ℕ → ℕ → Seen
   There w h before now = record { written = w; held = h; before = before; now = now; journal = told_at told place; left = told_at told place'; images = images_at may_leave moment left_since place place' }
 
-  ran_there : (to to' : ℕ → Type 0) (clock : Readings) (to_come : ℕ → Type 0) (b : List ℕ) (unread : Option (List ℕ)) (w h : List ℕ) (before now : ℕ) (end : End) → ((c : ℕ) → to c → to' c)
-      → Ran to clock to_come b unread (Here w h before now) end → Ran to' clock to_come b unread (There w h before now) end
-  ran_there to to' clock to_come b unread w h before now end on r = record {
+  ran_there : (to to' : ℕ → Type 0) (stays stays' : Type 0) (clock : Readings) (to_come : ℕ → Type 0) (b : List ℕ) (unread : Option (List ℕ)) (w h : List ℕ) (before now : ℕ) (end : End) → ((c : ℕ) → to c → to' c) → (stays → stays')
+      → Ran to stays clock to_come b unread (Here w h before now) end → Ran to' stays' clock to_come b unread (There w h before now) end
+  ran_there to to' stays stays' clock to_come b unread w h before now end on same r = record {
     payloads = r.payloads;
     opened = r.opened;
     book = r.book;
@@ -241,18 +251,20 @@ module _ {D : Type 0} (told : D → Option (List ℕ)) (may_leave : D → List �
     format_stays = format_back told place mid place' disk again (tells_of told may_leave moment left_since place disk is) out back r.format_stays;
     based = λ up. subst (λ (q : Option (Option D)). IfSome (told_at told q) (IsBasedAt r.last.session.journal.base)) (sym there) (left_at told place again (IsBasedAt r.last.session.journal.base) (r.based up));
     cause = caused to to' r.last.fallen on r.cause;
+    level = λ none. same (r.level none);
     reads_on = r.reads_on;
   }
 
   -- by the status; level is so where the disk didn't fail
   pub says : (fell : Type 0) (to : ℕ → Type 0) (level untouched : Type 0) (most : ℕ) (ahead ahead' : Option Readings) (bytes unread held after : Option (List ℕ)) (before now : ℕ) (end : End) (failed : Bool) (status : Status)
-      → RanKnown (CountedBy most) ahead ahead' bytes unread held after before now (told disk) (told again) (images_of may_leave moment left_since disk again) end
-      → status ≡ status_of end failed → ((c : ℕ) → CountedBy most c → to c) → (failed ≡ false → most ≡ 0) → (most ≡ 0 → level)
+      → RanKnown (CountedBy most) (most ≡ 0) ahead ahead' bytes unread held after before now (told disk) (told again) (images_of may_leave moment left_since disk again) end
+      → status ≡ status_of end failed → ((c : ℕ) → CountedBy most c → to c) → (failed ≡ true → 0 < most) → (failed ≡ false → most ≡ 0) → (most ≡ 0 → level)
       → SaysKnown fell to level untouched ahead ahead' bytes unread held status after before now (told_at told place) (told_at told place') (images_at may_leave moment left_since place place')
   unfolding ran_there
-  says fell to level untouched most ahead ahead' bytes unread held after before now end failed status known by on stays same b w e f =
+  says fell to level untouched most ahead ahead' bytes unread held after before now end failed status known by on some stays same b w e f =
       let x = known b w e f in
       let s = There w x.2 before now in
-      let run = ran_there (CountedBy most) to x.0 (ReadsOn ahead ahead') b unread w x.2 before now end on x.4 in
+      let run = ran_there (CountedBy most) to (most ≡ 0) level x.0 (ReadsOn ahead ahead') b unread w x.2 before now end on same x.4 in
       let well : failed ≡ false → (run.last.fallen ≡ None) × level = λ still. (none_counted x.4.last.fallen most x.4.cause (stays still), same (stays still)) in
-      (x.0, x.1, x.2, x.3, inl (subst (λ (st : Status). Answers to level x.0 (ReadsOn ahead ahead') b unread s st) (sym by) (answers to level x.0 (ReadsOn ahead ahead') b unread s end failed run well)))
+      let ill : failed ≡ true → (f : Fallen) × (run.last.fallen ≡ Some f) = λ fails. some_counted x.4.last.fallen most x.4.level (some fails) in
+      (x.0, x.1, x.2, x.3, inl (subst (λ (st : Status). Answers to level x.0 (ReadsOn ahead ahead') b unread s st) (sym by) (answers to level x.0 (ReadsOn ahead ahead') b unread s end failed run well ill)))

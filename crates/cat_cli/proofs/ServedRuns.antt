@@ -1,5 +1,5 @@
 -- What a run of `serve` says, once the journal's disk is back at its path.
-use Rattle.std.proofs.Common.{◌≡◌, ◌≢◌, ℕ, ◌<◌, ◌≤◌, List, Option, Some, None, IfSome, Bool, true, false, refl, sym, ◌∙◌, ap, subst, inl, inr, arith}
+use Rattle.std.proofs.Common.{◌≡◌, ◌≢◌, ℕ, ◌<◌, List, Option, Some, None, IfSome, Bool, true, false, refl, sym, ◌∙◌, ap, subst, inl, inr, arith}
 use Rattle.std.specs.Prelude.{◌⊎◌}
 use Rattle.cat_desk.specs.Pass.{mark_of}
 use Rattle.cat_io.specs.Places.{stood, taken}
@@ -18,29 +18,30 @@ use Rattle.cat_cli.specs.Journals.{StandsFor, opened_format, told_at}
 use Rattle.cat_cli.specs.Opening.{EndsFor, IsReason, RefusedKnown}
 use Rattle.cat_cli.specs.Lines.{no_memory_line}
 use Rattle.cat_cli.specs.Runs.{CountedBy, TellsKnown, grown, spares_disks, spares_listener}
-use Rattle.cat_cli.specs.Serving.{Ended, Hosted, HostedWell, IsToldOf, OpenedOnly, RefusedFor, RefusesKnown, ServesKnown, Sunk, bases_made, flying_at, status_after}
-use Rattle.cat_cli.specs.Surviving.{Spared, StandsAs, Survives, Unspoiled, images_at, images_of}
+use Rattle.cat_cli.specs.Serving.{Ended, Hosted, HostedIll, HostedWell, IsToldOf, OpenedOnly, RefusedFor, RefusesKnown, ServesKnown, Sunk, bases_made, flying_at, status_after}
+use Rattle.cat_cli.specs.Surviving.{Spared, StandsAs, Survives, Unspoiled, Unwritten, images_at, images_of}
 use Rattle.cat_cli.proofs.Counted.{opens_still_there}
 use Rattle.cat_cli.proofs.HostedStores.{comes_on}
 use Rattle.cat_cli.proofs.Opened.{EndsAtFault, begins_at, no_fault, reason_at, stands_back, stands_untouched, told_there, unspoiled_by}
 use Rattle.cat_cli.proofs.Refused.{never_opened, refused_there}
 use Rattle.cat_cli.proofs.Placed.{spared_at, spared_untouched, survives_at, tells_of}
-use Rattle.cat_cli.proofs.Unspoiled.{format_back, unspoiled_back, unspoiled_untouched}
+use Rattle.cat_cli.proofs.Unspoiled.{format_back, unspoiled_back, unspoiled_untouched, unwritten_back, unwritten_untouched}
 
 -- ---- by the status
 
-module _ {C : Type 0} (from only so well none level : Type 0) (service : Service) (a b : Heard C) (k : Sunk) (f : from → so) (g : only → none) where
-  ended_by : (end : Served) (failed wrote : Bool) → IsToldOf end wrote k → (failed ≡ false → (from → well) × level) → Comes from only service a b end → Ended so well none level service a b k (status_after end failed wrote)
-  ended_by serveds.End true wrote told sound c = inl (comes_on from so only none service a b serveds.End f g c, told)
-  ended_by serveds.End false wrote told sound c = (comes_on from well only none service a b serveds.End (sound refl).0 g c, (sound refl).1, told)
-  ended_by serveds.ListenerFault true true told sound c = inr (comes_on from so only none service a b serveds.ListenerFault f g c, told)
-  ended_by serveds.ListenerFault false true told sound c = (comes_on from well only none service a b serveds.ListenerFault (sound refl).0 g c, (sound refl).1, told)
-  ended_by serveds.ListenerFault true false told sound c = (comes_on from so only none service a b serveds.ListenerFault f g c, told)
-  ended_by serveds.ListenerFault false false told sound c = (comes_on from so only none service a b serveds.ListenerFault f g c, told)
-  ended_by serveds.NoMemory failed wrote told sound c = (comes_on from so only none service a b serveds.NoMemory f g c, told)
+module _ {C : Type 0} (from only so well ill none level : Type 0) (service : Service) (a b : Heard C) (k : Sunk) (f : from → so) (g : only → none) where
+  ended_by : (end : Served) (failed wrote : Bool) → IsToldOf end wrote k → (failed ≡ false → (from → well) × level) → (failed ≡ true → (from → ill) × (only → ⊥)) → Comes from only service a b end → Ended so well ill none level service a b k (status_after end failed wrote)
+  ended_by serveds.End true wrote told sound fell c = inl (comes_on from ill only ⊥ service a b serveds.End (fell refl).0 (fell refl).1 c, told)
+  ended_by serveds.End false wrote told sound fell c = (comes_on from well only none service a b serveds.End (sound refl).0 g c, (sound refl).1, told)
+  ended_by serveds.ListenerFault true true told sound fell c = inr (comes_on from ill only ⊥ service a b serveds.ListenerFault (fell refl).0 (fell refl).1 c, told)
+  ended_by serveds.ListenerFault false true told sound fell c = (comes_on from well only none service a b serveds.ListenerFault (sound refl).0 g c, (sound refl).1, told)
+  ended_by serveds.ListenerFault true false told sound fell c = (comes_on from so only none service a b serveds.ListenerFault f g c, told)
+  ended_by serveds.ListenerFault false false told sound fell c = (comes_on from so only none service a b serveds.ListenerFault f g c, told)
+  ended_by serveds.NoMemory failed wrote told sound fell c = (comes_on from so only none service a b serveds.NoMemory f g c, told)
 
-  ended : (end : Served) (failed wrote : Bool) (status : Status) → status ≡ status_after end failed wrote → IsToldOf end wrote k → (failed ≡ false → (from → well) × level) → Comes from only service a b end → Ended so well none level service a b k status
-  ended end failed wrote status is told sound c = subst (Ended so well none level service a b k) (sym is) (ended_by end failed wrote told sound c)
+  ended : (end : Served) (failed wrote : Bool) (status : Status) → status ≡ status_after end failed wrote → IsToldOf end wrote k → (failed ≡ false → (from → well) × level) → (failed ≡ true → (from → ill) × (only → ⊥)) → Comes from only service a b end
+      → Ended so well ill none level service a b k status
+  ended end failed wrote status is told sound fell c = subst (Ended so well ill none level service a b k) (sym is) (ended_by end failed wrote told sound fell c)
 
 -- the disk failed where the status says so, and not where it spares the disks
 pub disk_failed : (end : Served) (failed wrote : Bool) → status_after end failed wrote ≡ statuses.DiskFault → failed ≡ true
@@ -98,13 +99,18 @@ refused_for fell level journal why statuses.ListenerFault reason cause spares en
 refused_for fell level journal why statuses.Cut reason cause spares ends = absurd ends
 refused_for fell level journal why statuses.Limit reason cause spares ends = absurd ends
 
+not_both : (most : ℕ) → 0 < most → most ≡ 0 → ⊥
+not_both most some none = omega (arith, some, none)
+
 -- no append failed where none is counted
 none_counted : (fault : Option FailedAppend) (most : ℕ) → IfSome fault (λ f. CountedBy most f.count) → most ≡ 0 → fault ≡ None
 none_counted None most counted none = refl
-none_counted (Some f) most counted none = absurd (not_both f.count most counted.0 counted.1 none)
-  where
-    not_both : (count most : ℕ) → 0 < count → count ≤ most → most ≡ 0 → ⊥
-    not_both count most some below none = omega (arith, some, below, none)
+none_counted (Some f) most counted none = absurd (not_both most (omega (arith, counted.0, counted.1)) none)
+
+-- and one did where one is
+some_counted : (fault : Option FailedAppend) (most : ℕ) → (fault ≡ None → most ≡ 0) → 0 < most → (x : FailedAppend) × (fault ≡ Some x)
+some_counted None most level some = absurd (not_both most some (level refl))
+some_counted (Some x) most level some = (x, refl)
 
 caused : (to to' : ℕ → Type 0) (fault : Option FailedAppend) → ((c : ℕ) → to c → to' c) → IfSome fault (λ f. to f.count) → IfSome fault (λ f. to' f.count)
 caused to to' None on cause = tt
@@ -120,7 +126,8 @@ module _ {D : Type 0} (told : D → Option (List ℕ)) (may_leave : D → List �
     told = λ w e. let x = never_opened told may_leave moment left_since only_now place place' same fell level status k.held k.after k.before k.now w cause ends tells e in (x.0, x.1, x.2.0);
     stands = subst (λ (q : Option (Option D)). StandsFor (told_at told place) (told_at told q)) (sym same) (stands_untouched (told_at told place));
     spared = subst (λ (q : Option (Option D)). Spared (told_at told place) (told_at told q) (images_at may_leave moment left_since place q)) (sym same) (spared_untouched told may_leave moment left_since only_now place);
-    unspoiled = unspoiled_by (told_at told place) (told_at told place') (images_at may_leave moment left_since place place') whys.Fault status ends (λ other. absurd (other refl));
+    unspoiled =
+        unspoiled_by (told_at told place) (told_at told place') (images_at may_leave moment left_since place place') whys.Fault status ends (λ other. absurd (other refl)) (unwritten_untouched told may_leave moment left_since only_now place place' same);
     still = still;
   }
 
@@ -147,27 +154,28 @@ module _ {D : Type 0} (told : D → Option (List ℕ)) (may_leave : D → List �
 
   -- of its journal no catalogue was opened
   pub refused_back : (fell level untouched : Type 0) (k : Sunk) (why : Unopened) (status : Status) → IsReason (told disk) why → StandsFor (told disk) (told again) → Spared (told disk) (told again) (images_of may_leave moment left_since disk again) → (why ≢ whys.Fault → Unspoiled (told disk) (told again) (images_of may_leave moment left_since disk again))
-      → (why ≡ whys.Fault → fell) → (why ≢ whys.Fault → level) → untouched → EndsAtFault why status → EndsFor why status → RefusedKnown why k.held status k.after k.before k.now
+      → Unwritten (told disk) (told again) (images_of may_leave moment left_since disk again) → (why ≡ whys.Fault → fell) → (why ≢ whys.Fault → level) → untouched → EndsAtFault why status → EndsFor why status → RefusedKnown why k.held status k.after k.before k.now
       → RefusesKnown fell level untouched k (told_at told place) (told_at told place') (images_at may_leave moment left_since place place') status
-  refused_back fell level untouched k why status reason stands spares sound cause same still ends by tells = record {
+  refused_back fell level untouched k why status reason stands spares sound few cause same still ends by tells = record {
     cause = refused_for fell level (told_at told place) why status (reason_at told place disk why (tells_of told may_leave moment left_since place disk is) reason) cause same by;
-    told = λ w e. let x = refused_there told may_leave moment left_since place mid place' disk again is out back fell level why status k.held k.after k.before k.now w reason stands spares sound cause same ends tells e in (x.0, x.1, x.2.0);
+    told = λ w e. let x = refused_there told may_leave moment left_since place mid place' disk again is out back fell level why status k.held k.after k.before k.now w reason stands spares sound few cause same ends tells e in (x.0, x.1, x.2.0);
     stands = stands_back told place mid place' disk again (tells_of told may_leave moment left_since place disk is) out back stands;
     spared = subst (λ (q : Option (Option D)). Spared (told_at told place) (told_at told q) (images_at may_leave moment left_since place q)) (sym there) (spared_at told may_leave moment left_since place disk again is spares);
     unspoiled =
         unspoiled_by (told_at told place) (told_at told place') (images_at may_leave moment left_since place place') why status ends
-        (λ other. unspoiled_back told may_leave moment left_since place mid place' disk again is out back (sound other));
+        (λ other. unspoiled_back told may_leave moment left_since place mid place' disk again is out back (sound other))
+        (unwritten_back told may_leave moment left_since place mid place' disk again is out back few);
     still = still;
   }
 
-  opened_back : (paused : Type 0) → OpenedOnly paused (told disk) (told again) (images_of may_leave moment left_since disk again) → OpenedOnly paused (told_at told place) (told_at told place') (images_at may_leave moment left_since place place')
-  opened_back paused o = (o.0, opens_still_there told may_leave moment left_since place mid place' disk again is out back o.0 o.1, o.2)
+  opened_back : (paused stays stays' : Type 0) → (stays → stays') → OpenedOnly paused stays (told disk) (told again) (images_of may_leave moment left_since disk again) → OpenedOnly paused stays' (told_at told place) (told_at told place') (images_at may_leave moment left_since place place')
+  opened_back paused stays stays' same o = (o.0, opens_still_there told may_leave moment left_since place mid place' disk again is out back o.0 o.1, o.2, same o.3)
 
   -- or its journal was served from
   module _ {In Out : Type 0} (ends : BothEnds In Out) (service : Service) (a b : Heard (In × Out)) (ahead now : Option Readings) where
-    hosted_there : (to to' : ℕ → Type 0) → ((c : ℕ) → to c → to' c) → Hosted ends to service a b ahead now (told disk) (told again) (images_of may_leave moment left_since disk again)
-        → Hosted ends to' service a b ahead now (told_at told place) (told_at told place') (images_at may_leave moment left_since place place')
-    hosted_there to to' on h = record {
+    hosted_there : (to to' : ℕ → Type 0) (stays stays' : Type 0) → ((c : ℕ) → to c → to' c) → (stays → stays') → Hosted ends to stays service a b ahead now (told disk) (told again) (images_of may_leave moment left_since disk again)
+        → Hosted ends to' stays' service a b ahead now (told_at told place) (told_at told place') (images_at may_leave moment left_since place place')
+    hosted_there to to' stays stays' on same h = record {
       payloads = h.payloads;
       started = h.started;
       book = h.book;
@@ -199,18 +207,21 @@ module _ {D : Type 0} (told : D → Option (List ℕ)) (may_leave : D → List �
           (survives_at told may_leave moment left_since place disk again (grown h.payloads h.started h.book h.added (bases_made h.first h.last) (flying_at h.last)) is h.crash);
       format_stays = format_back told place mid place' disk again (tells_of told may_leave moment left_since place disk is) out back h.format_stays;
       cause = caused to to' (mark_of h.last).fault on h.cause;
+      level = λ none. same (h.level none);
       told = h.told;
     }
 
     -- by the status
     pub serves_there : (fell : Type 0) (to : ℕ → Type 0) (level untouched paused : Type 0) (k : Sunk) (most : ℕ) (end : Served) (failed wrote : Bool) (status : Status)
-        → Comes (Hosted ends (CountedBy most) service a b ahead now (told disk) (told again) (images_of may_leave moment left_since disk again)) (OpenedOnly paused (told disk) (told again) (images_of may_leave moment left_since disk again)) service a b end
-        → ((c : ℕ) → CountedBy most c → to c) → (failed ≡ false → most ≡ 0) → (most ≡ 0 → level) → status ≡ status_after end failed wrote → IsToldOf end wrote k
+        → Comes (Hosted ends (CountedBy most) (most ≡ 0) service a b ahead now (told disk) (told again) (images_of may_leave moment left_since disk again)) (OpenedOnly paused (most ≡ 0) (told disk) (told again) (images_of may_leave moment left_since disk again)) service a b end
+        → ((c : ℕ) → CountedBy most c → to c) → (failed ≡ true → 0 < most) → (failed ≡ false → most ≡ 0) → (most ≡ 0 → level) → status ≡ status_after end failed wrote → IsToldOf end wrote k
         → ServesKnown ends fell to level untouched paused service a b ahead now k (told_at told place) (told_at told place') (images_at may_leave moment left_since place place') status
     unfolding hosted_there
-    serves_there fell to level untouched paused k most end failed wrote status c on stays same by tells =
+    serves_there fell to level untouched paused k most end failed wrote status c on some stays same by tells =
         inl (ended
-        (Hosted ends (CountedBy most) service a b ahead now (told disk) (told again) (images_of may_leave moment left_since disk again)) (OpenedOnly paused (told disk) (told again) (images_of may_leave moment left_since disk again))
-        (Hosted ends to service a b ahead now (told_at told place) (told_at told place') (images_at may_leave moment left_since place place')) (HostedWell ends to service a b ahead now (told_at told place) (told_at told place') (images_at may_leave moment left_since place place'))
-        (OpenedOnly paused (told_at told place) (told_at told place') (images_at may_leave moment left_since place place')) level service a b k (hosted_there (CountedBy most) to on) (opened_back paused) end failed wrote status by tells
-        (λ still. (λ h. (hosted_there (CountedBy most) to on h, none_counted (mark_of h.last).fault most h.cause (stays still)), same (stays still))) c)
+        (Hosted ends (CountedBy most) (most ≡ 0) service a b ahead now (told disk) (told again) (images_of may_leave moment left_since disk again)) (OpenedOnly paused (most ≡ 0) (told disk) (told again) (images_of may_leave moment left_since disk again))
+        (Hosted ends to level service a b ahead now (told_at told place) (told_at told place') (images_at may_leave moment left_since place place')) (HostedWell ends to level service a b ahead now (told_at told place) (told_at told place') (images_at may_leave moment left_since place place'))
+        (HostedIll ends to level service a b ahead now (told_at told place) (told_at told place') (images_at may_leave moment left_since place place')) (OpenedOnly paused level (told_at told place) (told_at told place') (images_at may_leave moment left_since place place')) level service a b k
+        (hosted_there (CountedBy most) to (most ≡ 0) level on same) (opened_back paused (most ≡ 0) level same) end failed wrote status by tells
+        (λ still. (λ h. (hosted_there (CountedBy most) to (most ≡ 0) level on same h, none_counted (mark_of h.last).fault most h.cause (stays still)), same (stays still)))
+        (λ fails. (λ h. let x = some_counted (mark_of h.last).fault most h.level (some fails) in (hosted_there (CountedBy most) to (most ≡ 0) level on same h, x.0, x.1), λ o. not_both most (some fails) o.3)) c)

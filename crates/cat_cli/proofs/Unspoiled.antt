@@ -8,38 +8,60 @@ use Rattle.cat_journal.specs.Reading.{OnlyReads, OpensOnly}
 use Rattle.cat_keeper.specs.Moments.{followed, weaker}
 use Rattle.cat_model.specs.declared.log_entry.LogEntry.{LogEntry}
 use Rattle.cat_model.specs.Turns.{Opened}
-use Rattle.cat_cli.specs.Journals.{IsJournalOf, IsUntouched, KeepsFormat, TellsAs, opened_format, told_at}
+use Rattle.cat_cli.specs.Journals.{IsJournalOf, IsUntouched, IsUnwritten, KeepsFormat, TellsAs, opened_format, told_at}
 use Rattle.cat_cli.specs.Migrating.{IsLookedAt, IsOpenedAs}
-use Rattle.cat_cli.specs.Surviving.{Images, IsEarlier, IsStoodOn, LeavesLog, StandsAs, Unspoiled, images_at, images_of}
+use Rattle.cat_cli.specs.Surviving.{Images, IsEarlier, IsStoodOn, LeavesLog, LeavesSo, StandsAs, Unspoiled, Unwritten, images_at, images_of}
 use Rattle.cat_cli.specs.Unadded.{IsStillSo}
 use Rattle.cat_cli.proofs.Surviving.{payloads_are}
 use Rattle.cat_cli.proofs.Unadded.{IsKept}
 
+-- a new journal has 17 bytes
+new_is_short : length new_journal ≤ 17
+new_is_short = let is : length new_journal ≡ 17 = refl in omega (arith, is)
+
+-- where nothing but a new journal was written, no more was than a part of one
+pub unwritten_of : (journal left : Option (List ℕ)) (images : Images) → Unspoiled journal left images → Unwritten journal left images
+unwritten_of None left images u = tt
+unwritten_of (Some before) None images u = tt
+unwritten_of (Some before) (Some now) images u = (by u.0, u.1)
+  where
+    by : IsUntouched before now → IsUnwritten before now
+    by (inl same) = inl same
+    by (inr new) = inr (new.0, subst (λ (l : List ℕ). length l ≤ 17) (sym new.1) new_is_short)
+
 -- ---- at a path
 
 -- what is said of a disk is said of one that is the same
-moved : (t t' left : Option (List ℕ)) (a b : Images) → t' ≡ t → ((c : List ℕ) → a.before c → b.before c) → ((c : List ℕ) → b.since c → a.since c) → Unspoiled t left a → Unspoiled t' left b
-moved t t' left a b same earlier later u = subst (λ (x : Option (List ℕ)). Unspoiled x left b) (sym same) (by t left u)
+moved : (are : List ℕ → List ℕ → Type 0) (t t' left : Option (List ℕ)) (a b : Images) → t' ≡ t → ((c : List ℕ) → a.before c → b.before c) → ((c : List ℕ) → b.since c → a.since c) → LeavesSo are t left a → LeavesSo are t' left b
+moved are t t' left a b same earlier later u = subst (λ (x : Option (List ℕ)). LeavesSo are x left b) (sym same) (by t left u)
   where
-    by : (x l : Option (List ℕ)) → Unspoiled x l a → Unspoiled x l b
+    by : (x l : Option (List ℕ)) → LeavesSo are x l a → LeavesSo are x l b
     by None l u = tt
     by (Some bytes) None u = tt
     by (Some bytes) (Some now) u = (u.0, λ c there. ⊎_elim (λ was. inl (earlier c was)) (λ few. inr few) (u.1 c (later c there)))
 
 module _ {D : Type 0} (told : D → Option (List ℕ)) (may_leave : D → List ℕ → Type 0) (moment : D → ℕ) (left_since : D → ℕ → List ℕ → Type 0) where
-  unspoiled_at : (place : Option (Option D)) (disk again : D) → StandsAs told may_leave moment place disk → Unspoiled (told disk) (told again) (images_of may_leave moment left_since disk again)
-      → Unspoiled (told_at told place) (told_at told (stood again (taken place))) (images_at may_leave moment left_since place (stood again (taken place)))
-  unspoiled_at None disk again is u = tt
-  unspoiled_at (Some None) disk again is u = absurd is
-  unspoiled_at (Some (Some d)) disk again is u =
-      moved (told disk) (told d) (told again) (images_of may_leave moment left_since disk again) (images_of may_leave moment left_since d again) is.tells is.leaves
+  left_at : (are : List ℕ → List ℕ → Type 0) (place : Option (Option D)) (disk again : D) → StandsAs told may_leave moment place disk → LeavesSo are (told disk) (told again) (images_of may_leave moment left_since disk again)
+      → LeavesSo are (told_at told place) (told_at told (stood again (taken place))) (images_at may_leave moment left_since place (stood again (taken place)))
+  left_at are None disk again is u = tt
+  left_at are (Some None) disk again is u = absurd is
+  left_at are (Some (Some d)) disk again is u =
+      moved are (told disk) (told d) (told again) (images_of may_leave moment left_since disk again) (images_of may_leave moment left_since d again) is.tells is.leaves
       (λ c there. subst (λ (t : ℕ). left_since again t c) is.moment_is there) u
 
   -- the disk was taken from its path, and given back there
+  left_back : (are : List ℕ → List ℕ → Type 0) (place mid place' : Option (Option D)) (disk again : D) → StandsAs told may_leave moment place disk → mid ≡ taken place → place' ≡ stood again mid → LeavesSo are (told disk) (told again) (images_of may_leave moment left_since disk again)
+      → LeavesSo are (told_at told place) (told_at told place') (images_at may_leave moment left_since place place')
+  left_back are place mid place' disk again is out back u =
+      subst (λ (q : Option (Option D)). LeavesSo are (told_at told place) (told_at told q) (images_at may_leave moment left_since place q)) (sym (back ∙ ap (stood again) out)) (left_at are place disk again is u)
+
   pub unspoiled_back : (place mid place' : Option (Option D)) (disk again : D) → StandsAs told may_leave moment place disk → mid ≡ taken place → place' ≡ stood again mid → Unspoiled (told disk) (told again) (images_of may_leave moment left_since disk again)
       → Unspoiled (told_at told place) (told_at told place') (images_at may_leave moment left_since place place')
-  unspoiled_back place mid place' disk again is out back u =
-      subst (λ (q : Option (Option D)). Unspoiled (told_at told place) (told_at told q) (images_at may_leave moment left_since place q)) (sym (back ∙ ap (stood again) out)) (unspoiled_at place disk again is u)
+  unspoiled_back place mid place' disk again is out back u = left_back IsUntouched place mid place' disk again is out back u
+
+  pub unwritten_back : (place mid place' : Option (Option D)) (disk again : D) → StandsAs told may_leave moment place disk → mid ≡ taken place → place' ≡ stood again mid → Unwritten (told disk) (told again) (images_of may_leave moment left_since disk again)
+      → Unwritten (told_at told place) (told_at told place') (images_at may_leave moment left_since place place')
+  unwritten_back place mid place' disk again is out back u = left_back IsUnwritten place mid place' disk again is out back u
 
   -- no disk was opened
   pub unspoiled_untouched : ((d : D) (c : List ℕ) → left_since d (moment d) c → may_leave d c) → (place : Option (Option D)) → Unspoiled (told_at told place) (told_at told place) (images_at may_leave moment left_since place place)
@@ -51,6 +73,11 @@ module _ {D : Type 0} (told : D → Option (List ℕ)) (may_leave : D → List �
       untouched None = tt
       untouched (Some bytes) = (inl refl, λ c there. inl (only_now disk c there))
 
+  pub unwritten_untouched : ((d : D) (c : List ℕ) → left_since d (moment d) c → may_leave d c) → (place place' : Option (Option D)) → place' ≡ place → Unwritten (told_at told place) (told_at told place') (images_at may_leave moment left_since place place')
+  unwritten_untouched only_now place place' same =
+      subst (λ (q : Option (Option D)). Unwritten (told_at told place) (told_at told q) (images_at may_leave moment left_since place q)) (sym same)
+      (unwritten_of (told_at told place) (told_at told place) (images_at may_leave moment left_since place place) (unspoiled_untouched only_now place))
+
   -- ---- the journal wasn't opened
 
   earlier : (disk : D) (bytes c : List ℕ) → (may_leave disk c ⊎ ((bytes ≡ []) × (length c ≤ 17))) → IsEarlier (may_leave disk) (Some bytes) c
@@ -60,6 +87,21 @@ module _ {D : Type 0} (told : D → Option (List ℕ)) (may_leave : D → List �
   unspoiled_unopened disk again None t' same run = tt
   unspoiled_unopened disk again (Some bytes) None same run = tt
   unspoiled_unopened disk again (Some bytes) (Some now) same run = (inl same, λ c there. earlier disk bytes c (run.each c there))
+
+  -- nor was it where a call of its disk failed
+  pub unwritten_unopened : (disk again : D) → IfSome (told disk) (λ bytes. 0 < length bytes → OnlyReads told may_leave moment left_since disk again) → Told (told disk) (told again) (λ before after. before ≡ [] → length after ≤ 17) → IfSome (told disk) (OpensOnly may_leave moment left_since disk again)
+      → Unwritten (told disk) (told again) (images_of may_leave moment left_since disk again)
+  unwritten_unopened disk again reads few run = by (told disk) (told again) reads (λ r. r.same) few run
+    where
+      unwritten : (bytes now : List ℕ) → (0 < length bytes → OnlyReads told may_leave moment left_since disk again) → (OnlyReads told may_leave moment left_since disk again → now ≡ bytes) → (bytes ≡ [] → length now ≤ 17) → IsUnwritten bytes now
+      unwritten [] now reads same few = inr (refl, few refl)
+      unwritten (x ∷ xs) now reads same few = inl (same (reads (omega arith)))
+
+      by : (t t' : Option (List ℕ)) → IfSome t (λ bytes. 0 < length bytes → OnlyReads told may_leave moment left_since disk again) → (OnlyReads told may_leave moment left_since disk again → Told t t' (λ a b. b ≡ a)) → Told t t' (λ before after. before ≡ [] → length after ≤ 17)
+          → IfSome t (OpensOnly may_leave moment left_since disk again) → Unwritten t t' (images_of may_leave moment left_since disk again)
+      by None t' reads same few run = tt
+      by (Some bytes) None reads same few run = tt
+      by (Some bytes) (Some now) reads same few run = (unwritten bytes now reads same few, λ c there. earlier disk bytes c (run.each c there))
 
   pub looked_unopened : (disk again : D) → Told (told disk) (told again) (λ b a. a ≡ b) → IfSome (told disk) (OpensOnly may_leave moment left_since disk again) → IsLookedAt told may_leave moment left_since disk again
   looked_unopened disk again same run = record { bytes = bytes (told disk) (told again) same; time = time (told disk) run }
@@ -130,9 +172,6 @@ module _ {D : Type 0} (told : D → Option (List ℕ)) (may_leave : D → List �
           → IfSome ps (IsStillSo since count past began flying (moment again) (may_leave again) (left_since again)) → Unspoiled (told disk) (told again) (images_of may_leave moment left_since disk again)
       let_go again ps flying none are still = by (told disk) (told again) s (image disk) (image again) are
         where
-          new_is_short : length new_journal ≤ 17
-          new_is_short = let is : length new_journal ≡ 17 = refl in omega (arith, is)
-
           by : (t t' : Option (List ℕ)) → IsStoodOn since count past began shape t (moment disk) (may_leave disk) (left_since disk) → ((c : List ℕ) → t ≡ Some c → may_leave disk c) → ((c : List ℕ) → t' ≡ Some c → may_leave again c)
               → IfSome t (λ bytes. IfSome t' (λ now. ps ≡ Some (payloads bytes))) → Unspoiled t t' (images_of may_leave moment left_since disk again)
           by None t' st was now are = tt

@@ -1,5 +1,5 @@
 -- What a run of `gc` does, by its status.
-use Rattle.std.specs.Prelude.{ℕ, ◌≡◌, ◌≢◌, ◌⊎◌, List, [], ◌∷◌, ◌++◌, reverse, Option, Some, None, Result, Ok, Err, true, false}
+use Rattle.std.specs.Prelude.{ℕ, ◌≡◌, ◌⊎◌, List, [], ◌∷◌, ◌++◌, reverse, Option, Some, None, Result, Ok, Err, true, false}
 use Rattle.sha2.specs.Sha256.{sha256}
 use Rattle.cat_checks.specs.Histories.{IsLegalFrom}
 use Rattle.cat_core.specs.Stored.{Stored, opened_of}
@@ -123,10 +123,10 @@ pub record Collects (policy : Policy) (ahead to_come : Option (ℕ → ℕ)) (jo
 
 -- ---- a run
 
--- the line that is due after it: its own, or that of the disk's fault; fell says why the disks' count of faults rose, and level that it is as it was
+-- the line that is due after it: its own, or where its append failed, that of the disk's fault; fell says why the disks' count of faults rose, and level that it is as it was
 abbrev pub IsDue : Type 0 → Type 0 → Collected → List ℕ → Type 0
-IsDue fell level (comes.Swept kept removed place) line = (level × (line ≡ swept_line kept removed place)) ⊎ (fell × (line ≡ disk_fault_line))
-IsDue fell level (comes.Limit number) line = (level × (line ≡ limit_line number)) ⊎ (fell × (line ≡ disk_fault_line))
+IsDue fell level (comes.Swept kept removed place) line = level × (line ≡ swept_line kept removed place)
+IsDue fell level (comes.Limit number) line = level × (line ≡ limit_line number)
 IsDue fell level comes.Fault line = fell × (line ≡ disk_fault_line)
 IsDue fell level comes.NoMemory line = ⊥
 
@@ -135,7 +135,7 @@ abbrev pub IsUnsaid : Type 0 → Collected → Type 0
 IsUnsaid level (comes.Swept kept removed place) = level
 IsUnsaid level (comes.Limit number) = level
 IsUnsaid level comes.Fault = ⊥
-IsUnsaid level comes.NoMemory = Unit {0}
+IsUnsaid level comes.NoMemory = level
 
 -- a line was told, and the run ends with this status; or a front of it was
 abbrev pub EndsWith : List ℕ → Status → Sunk → Status → Type 0
@@ -145,11 +145,11 @@ EndsWith line status k ending = ((ending ≡ status) × IsWritten true line k) �
 abbrev pub EndsIn : List ℕ → Status → Sunk → Status → Type 0
 EndsIn line status k ending = EndsWith line status k ending ⊎ ((ending ≡ statuses.NoMemory) × TellsKnown no_memory_line k.held k.after k.before k.now)
 
--- a collection was made, by the status; so says to what it came
+-- a collection was made, by the status; so says to what it came: a fault of the disk's is told only where the append of its entry failed
 abbrev pub Gathers : Type 0 → Type 0 → (Collected → Type 0) → Sunk → Status → Type 0
 Gathers fell level so k statuses.Done = (kept removed place : ℕ) × so (comes.Swept kept removed place) × level × IsWritten true (swept_line kept removed place) k
 Gathers fell level so k statuses.Limit = (number : ℕ) × so (comes.Limit number) × level × IsWritten true (limit_line number) k
-Gathers fell level so k statuses.DiskFault = (what : Collected) × so what × (what ≢ comes.NoMemory) × fell × IsWritten true disk_fault_line k
+Gathers fell level so k statuses.DiskFault = so comes.Fault × fell × IsWritten true disk_fault_line k
 Gathers fell level so k statuses.WriteFault = (what : Collected) × so what × (line : List ℕ) × IsDue fell level what line × IsWritten false line k
 Gathers fell level so k statuses.NoMemory = (what : Collected) × so what × IsUnsaid level what × TellsKnown no_memory_line k.held k.after k.before k.now
 Gathers fell level so k _ = ⊥

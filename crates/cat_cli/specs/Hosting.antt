@@ -64,12 +64,12 @@ pub record IsListening {C : Type 0} (service : Service) (a b : Heard C) : Type 0
   pub out : IsTrue a.tells → b.out ≡ a.out
   pub twins : IsTrue a.tells → b.twins ≡ a.twins
 
--- and no connection was accepted; twins came back with what they were dealt
+-- and no connection was accepted; twins came back with what they were dealt, and what those to come are dealt is what is left behind theirs
 pub record IsIdle {C : Type 0} (service : Service) (a b : Heard C) : Type 0 where
   pub listening : IsListening service a b
   pub waiting : IsTrue a.tells → b.waiting ≡ a.waiting
   pub returned : IsTrue a.tells → b.returned ≡ a.returned
-  pub back : IsTrue a.tells → ComesBack a.dealt a.rejoined b.rejoined
+  pub back : IsTrue a.tells → ComesBack a.dealt b.dealt a.rejoined b.rejoined
   pub level : CountStays a.faults b.faults
 
 -- or its own were all given, and no call of it or of a twin failed

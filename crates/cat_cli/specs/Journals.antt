@@ -46,10 +46,10 @@ pub record DisksFell {D : Type 0} (refuses : Type 0) (faults : D → ℕ) (after
   pub rose : Rose before now
   pub cause : refuses ⊎ DiskFailed faults after
 
--- the disks' count of faults rose by this one, and maybe further
+-- the disks' count of faults rose by this one, and no further
 pub record RoseBy (before now count : ℕ) : Type 0 where
   pub counted : 0 < count
-  pub rose : raised_by count before ≤ now
+  pub rose : now ≡ raised_by count before
 
 -- ---- what a journal stands for
 
@@ -97,6 +97,10 @@ StandsFor told after =
 -- the bytes are as they were; or there were none, and they are those of a new journal
 abbrev pub IsUntouched : List ℕ → List ℕ → Type 0
 IsUntouched before now = (now ≡ before) ⊎ ((before ≡ []) × (now ≡ new_journal))
+
+-- the bytes are as they were; or there were none, and they are no more than a new journal has
+abbrev pub IsUnwritten : List ℕ → List ℕ → Type 0
+IsUnwritten before now = (now ≡ before) ⊎ ((before ≡ []) × (length now ≤ 17))
 
 -- the bytes are a journal of the payloads, with its header
 abbrev pub IsJournalOf : List (List ℕ) → List ℕ → Type 0

@@ -1,5 +1,5 @@
 -- What a run's status says.
-use Rattle.std.specs.Prelude.{ℕ, ◌<◌, ◌≤◌, ◌≡◌, ◌⊎◌, List, ◌++◌, take, reverse, Option, Some, None, IfSome, Bool, true, false}
+use Rattle.std.specs.Prelude.{ℕ, ◌<◌, ◌≡◌, ◌⊎◌, List, ◌++◌, take, reverse, Option, Some, None, IfSome, Bool, true, false}
 use Rattle.cat_io.specs.Causes.{Rose}
 use Rattle.cat_model.specs.declared.log_entry.LogEntry.{LogEntry}
 use Rattle.cat_model.specs.Book.{Book}
@@ -19,7 +19,7 @@ use Rattle.cat_cli.specs.declared.status.Status.TheVariants as statuses
 use Rattle.cat_cli.specs.Journals.{Begins, IsBasedAt, IsJournalOf, KeepsFormat, StandsFor, opened_format, unopened_of}
 use Rattle.cat_cli.specs.Lines.{check_line, disk_fault_line, migrated_line, no_memory_line, unopened_line}
 use Rattle.cat_serve.specs.Sessions.{AreAhead, Readings, ReadsOn, Fallen, Point, Standing, Ends, journal_from}
-use Rattle.cat_cli.specs.Surviving.{Grown, Images, Spared, Survives, Unspoiled, bases_between}
+use Rattle.cat_cli.specs.Surviving.{Grown, Images, Spared, Survives, Unspoiled, Unwritten, bases_between}
 
 -- the process's status
 abbrev pub code_of : Status → ℕ
@@ -116,13 +116,13 @@ Refuses fell level s statuses.Unreadable = level × (why : Unopened) × unopened
 Refuses fell level s statuses.NoMemory = level × Tells no_memory_line s
 Refuses fell level s _ = ⊥
 
--- where no fault of the disk's is the reason, nothing was written, but a new journal where there were no bytes
+-- nothing was written, but a new journal where there were no bytes, or where a fault of the disk's is the reason, maybe a part of one
 abbrev pub UnspoiledBy : Option (List ℕ) → Option (List ℕ) → Images → Status → Type 0
 UnspoiledBy journal left images statuses.Unreadable = Unspoiled journal left images
 UnspoiledBy journal left images statuses.NoMemory = Unspoiled journal left images
-UnspoiledBy journal left images _ = Unit {0}
+UnspoiledBy journal left images _ = Unwritten journal left images
 
--- and the journal stands for what it did, after a crash too; unless a fault of the disk's is the reason, its bytes are as they were, or of an empty file those of a new journal
+-- and the journal stands for what it did, after a crash too; its bytes are as they were, or of an empty file those of a new journal, and where a fault of the disk's is the reason, no more than these
 abbrev pub RefusesSo : Type 0 → Type 0 → Seen → Status → Type 0
 RefusesSo fell level s status = Refuses fell level s status × StandsFor s.journal s.left × Spared s.journal s.left s.images × UnspoiledBy s.journal s.left s.images status
 
@@ -136,8 +136,8 @@ start journal book bytes written = record { left = 1000; standing = record { ses
 abbrev pub grown : List (List ℕ) → Opened → Book → List LogEntry → ℕ → Option (List ℕ) → Grown
 grown payloads o book added bases flying = record { had = payloads; opened = o; begun = reverse book.log; added = added; bases = bases; flying = flying }
 
--- a session on the journal's catalogue, in the format that the journal has once it is opened, ended so, and the journal keeps its entries, and has a base more for each checkpoint that was accepted, after a crash too; its base is then that of the session's last accepted checkpoint, or the one that it had, where no append failed; it has the format still; where an append failed, to is so of the count of faults that is told of it; and to_come is so of how many readings were taken
-pub record Ran (to : ℕ → Type 0) (clock : Readings) (to_come : ℕ → Type 0) (bytes : List ℕ) (unread : Option (List ℕ)) (s : Seen) (end : End) : Type 0 where
+-- a session on the journal's catalogue, in the format that the journal has once it is opened, ended so, and the journal keeps its entries, and has a base more for each checkpoint that was accepted, after a crash too; its base is then that of the session's last accepted checkpoint, or the one that it had, where no append failed; it has the format still; where an append failed, to is so of the count of faults that is told of it, and where none did, stays is so; and to_come is so of how many readings were taken
+pub record Ran (to : ℕ → Type 0) (stays : Type 0) (clock : Readings) (to_come : ℕ → Type 0) (bytes : List ℕ) (unread : Option (List ℕ)) (s : Seen) (end : End) : Type 0 where
   pub payloads : List (List ℕ)
   pub opened : Opened
   pub book : Book
@@ -154,34 +154,39 @@ pub record Ran (to : ℕ → Type 0) (clock : Readings) (to_come : ℕ → Type 
   pub based : last.fallen ≡ None → IfSome s.left (IsBasedAt last.session.journal.base)
   pub format_stays : KeepsFormat s.journal s.left
   pub cause : IfSome last.fallen (λ f. to f.count)
+  pub level : last.fallen ≡ None → stays
   pub reads_on : to_come last.session.readings
 
 -- the same where the source and the sink tell what they have, by some readings: the clock's own, where it tells them
-abbrev pub RanKnown : (ℕ → Type 0) → Option Readings → Option Readings → Option (List ℕ) → Option (List ℕ) → Option (List ℕ) → Option (List ℕ) → ℕ → ℕ → Option (List ℕ) → Option (List ℕ) → Images → End → Type 0
-RanKnown to ahead to_come bytes unread held after before now journal left images end =
+abbrev pub RanKnown : (ℕ → Type 0) → Type 0 → Option Readings → Option Readings → Option (List ℕ) → Option (List ℕ) → Option (List ℕ) → Option (List ℕ) → ℕ → ℕ → Option (List ℕ) → Option (List ℕ) → Images → End → Type 0
+RanKnown to stays ahead to_come bytes unread held after before now journal left images end =
     (b w : List ℕ) → bytes ≡ Some b → held ≡ Some w
     → (clock : Readings) × AreAhead ahead clock
-    × (h : List ℕ) × (after ≡ Some h) × Ran to clock (ReadsOn ahead to_come) b unread (record { written = w; held = h; before = before; now = now; journal = journal; left = left; images = images }) end
+    × (h : List ℕ) × (after ≡ Some h) × Ran to stays clock (ReadsOn ahead to_come) b unread (record { written = w; held = h; before = before; now = now; journal = journal; left = left; images = images }) end
 
--- the count of a fault, which isn't 0 and is at most this one
+-- the count of a fault, which isn't 0 and is this one
 abbrev pub CountedBy : ℕ → ℕ → Type 0
-CountedBy most count = (0 < count) × (count ≤ most)
+CountedBy most count = (0 < count) × (count ≡ most)
 
 -- and no append failed; stays says that the disks' count of faults is as it was
 abbrev pub RanWell : (ℕ → Type 0) → Type 0 → Readings → (ℕ → Type 0) → List ℕ → Option (List ℕ) → Seen → End → Type 0
-RanWell to stays clock to_come bytes unread s end = (ran : Ran to clock to_come bytes unread s end) × (ran.last.fallen ≡ None) × stays
+RanWell to stays clock to_come bytes unread s end = (ran : Ran to stays clock to_come bytes unread s end) × (ran.last.fallen ≡ None) × stays
 
--- a session was held, by the status
+-- or one did
+abbrev pub RanIll : (ℕ → Type 0) → Type 0 → Readings → (ℕ → Type 0) → List ℕ → Option (List ℕ) → Seen → End → Type 0
+RanIll to stays clock to_come bytes unread s end = (ran : Ran to stays clock to_come bytes unread s end) × (f : Fallen) × (ran.last.fallen ≡ Some f)
+
+-- a session was held, by the status: a fault of the disk's is told only where an append failed, and at each status the disks' count of faults is as it was where none did
 abbrev pub Answers : (ℕ → Type 0) → Type 0 → Readings → (ℕ → Type 0) → List ℕ → Option (List ℕ) → Seen → Status → Type 0
 Answers to stays clock to_come bytes unread s statuses.Done = RanWell to stays clock to_come bytes unread s ends.Closed
 Answers to stays clock to_come bytes unread s statuses.Cut =
     RanWell to stays clock to_come bytes unread s ends.Capped ⊎ RanWell to stays clock to_come bytes unread s ends.BadHead ⊎ RanWell to stays clock to_come bytes unread s ends.TooLarge
 Answers to stays clock to_come bytes unread s statuses.DiskFault =
-    Ran to clock to_come bytes unread s ends.Closed ⊎ Ran to clock to_come bytes unread s ends.Capped
-    ⊎ Ran to clock to_come bytes unread s ends.BadHead ⊎ Ran to clock to_come bytes unread s ends.TooLarge
-Answers to stays clock to_come bytes unread s statuses.ReadFault = Ran to clock to_come bytes unread s ends.ReadFault
-Answers to stays clock to_come bytes unread s statuses.WriteFault = Ran to clock to_come bytes unread s ends.WriteFault
-Answers to stays clock to_come bytes unread s statuses.NoMemory = Ran to clock to_come bytes unread s ends.NoMemory
+    RanIll to stays clock to_come bytes unread s ends.Closed ⊎ RanIll to stays clock to_come bytes unread s ends.Capped
+    ⊎ RanIll to stays clock to_come bytes unread s ends.BadHead ⊎ RanIll to stays clock to_come bytes unread s ends.TooLarge
+Answers to stays clock to_come bytes unread s statuses.ReadFault = Ran to stays clock to_come bytes unread s ends.ReadFault
+Answers to stays clock to_come bytes unread s statuses.WriteFault = Ran to stays clock to_come bytes unread s ends.WriteFault
+Answers to stays clock to_come bytes unread s statuses.NoMemory = Ran to stays clock to_come bytes unread s ends.NoMemory
 Answers to stays clock to_come bytes unread s _ = ⊥
 
 -- what a run of `script` does with these readings, by its status; the clock tells ahead before it, and then what is to come: where no session was held neither the source nor the clock was read, which untouched says
@@ -241,9 +246,19 @@ Migrated stays s statuses.Done = (book : Book) × Migrates s.journal s.left s.im
 Migrated stays s statuses.WriteFault = (book : Book) × Migrates s.journal s.left s.images book × IsFront (migrated_line book.state.place) s.written s.held s.before s.now × stays
 Migrated stays s _ = ⊥
 
+-- where no fault of the disk's is the reason why it wasn't, nothing was written, but a new journal where there were no bytes; a fault may come as the format's gate is opened, and of the bytes nothing is said then
+abbrev pub UnmigratedBy : Option (List ℕ) → Option (List ℕ) → Images → Status → Type 0
+UnmigratedBy journal left images statuses.Unreadable = Unspoiled journal left images
+UnmigratedBy journal left images statuses.NoMemory = Unspoiled journal left images
+UnmigratedBy journal left images _ = Unit {0}
+
+-- and the journal stands for what it did, after a crash too; unless a fault of the disk's is the reason, its bytes are as they were, or of an empty file those of a new journal
+abbrev pub RefusesMigration : Type 0 → Type 0 → Seen → Status → Type 0
+RefusesMigration fell level s status = Refuses fell level s status × StandsFor s.journal s.left × Spared s.journal s.left s.images × UnmigratedBy s.journal s.left s.images status
+
 -- what a run of `migrate` does, by its status
 abbrev pub MigratesSo : Type 0 → Type 0 → Seen → Status → Type 0
-MigratesSo fell stays s status = Migrated stays s status ⊎ RefusesSo fell stays s status
+MigratesSo fell stays s status = Migrated stays s status ⊎ RefusesMigration fell stays s status
 
 -- the same where the sink tells what it has
 abbrev pub MigratesKnown : Type 0 → Type 0 → Option (List ℕ) → Status → Option (List ℕ) → ℕ → ℕ → Option (List ℕ) → Option (List ℕ) → Images → Type 0

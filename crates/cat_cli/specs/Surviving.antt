@@ -13,7 +13,7 @@ use Rattle.cat_model.specs.declared.log_entry.LogEntry.{LogEntry}
 use Rattle.cat_model.specs.Book.{Book}
 use Rattle.cat_model.specs.Turns.{Opened}
 use Rattle.cat_state.specs.Kept.{spellings}
-use Rattle.cat_cli.specs.Journals.{Holds, IsUntouched, opened_format}
+use Rattle.cat_cli.specs.Journals.{Holds, IsUntouched, IsUnwritten, opened_format}
 
 -- ---- what is known of the disk
 
@@ -127,9 +127,17 @@ pub record Survives (journal left : Option (List ℕ)) (images : Images) (g : Gr
 abbrev pub Spared : Option (List ℕ) → Option (List ℕ) → Images → Type 0
 Spared journal left images = IfSome journal (λ bytes. IfSome left (λ now. (c : List ℕ) → images.since c → IsEarlier images.before journal c ⊎ (recovered c ≡ recovered bytes)))
 
--- Nothing was written, but a new journal where there were no bytes: the bytes are as they were, or those of a new journal, and a crash at any moment of the run leaves what one might have left before it, or no more than a new journal has where there were no bytes.
+-- The bytes before and those that are left are so, and a crash at any moment of the run leaves what one might have left before it, or no more than a new journal has where there were no bytes.
+abbrev pub LeavesSo : (List ℕ → List ℕ → Type 0) → Option (List ℕ) → Option (List ℕ) → Images → Type 0
+LeavesSo are journal left images = IfSome journal (λ before. IfSome left (λ now. are before now × ((c : List ℕ) → images.since c → IsEarlier images.before journal c)))
+
+-- Nothing was written, but a new journal where there were no bytes: the bytes are as they were, or those of a new journal, and so a crash leaves them.
 abbrev pub Unspoiled : Option (List ℕ) → Option (List ℕ) → Images → Type 0
-Unspoiled journal left images = IfSome journal (λ before. IfSome left (λ now. IsUntouched before now × ((c : List ℕ) → images.since c → IsEarlier images.before journal c)))
+Unspoiled journal left images = LeavesSo IsUntouched journal left images
+
+-- Nothing was written, but maybe a part of a new journal where there were no bytes: the bytes are as they were, or there were none, and they are no more than a new journal has, and so a crash leaves them.
+abbrev pub Unwritten : Option (List ℕ) → Option (List ℕ) → Images → Type 0
+Unwritten journal left images = LeavesSo IsUnwritten journal left images
 
 -- ---- on a store, while its keeper is watched
 

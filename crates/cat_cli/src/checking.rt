@@ -7,7 +7,7 @@ ghost use Rattle.cat_cli.specs.Journals.{DisksFell, IsBack, StandsFor, told_at};
 ghost use Rattle.cat_cli.specs.Lines.{check_line, counts_line};
 ghost use Rattle.cat_cli.specs.Opening.{CountedKnown, IsReason};
 ghost use Rattle.cat_cli.specs.Runs.{ChecksKnown, OpensStill, spares_disks, tells_all};
-ghost use Rattle.cat_cli.specs.Surviving.{IsBegun, IsStoodOn, Spared, Unspoiled, images_at, images_of};
+ghost use Rattle.cat_cli.specs.Surviving.{IsBegun, IsStoodOn, Spared, Unspoiled, Unwritten, images_at, images_of};
 ghost use Rattle.cat_model.specs.Book.{Book};
 
 use crate::journal::{disk_of, store_on};
@@ -67,9 +67,9 @@ pub(crate) fn tell_line<K: Sink>(line: &str, sink: &mut K) -> Status
     }
 }
 
-// The line of the journal of a disk, or why there is none. The disk comes back, and where it didn't
-// fail, with the bytes that it had; an empty one maybe with those of a new journal. It is watched
-// what a crash might have left of it since it was given here.
+// The line of the journal of a disk, or why there is none. The disk comes back with the bytes that
+// it had; an empty one maybe with those of a new journal, or where it failed, with no more bytes
+// than these. It is watched what a crash might have left of it since it was given here.
 fn line_on<B: Since + Send, T: Stood + Send, D: Disk + Send>(
     alloc: Global,
     disk: D,
@@ -90,6 +90,9 @@ fn line_on<B: Since + Send, T: Stood + Send, D: Disk + Send>(
         (images_of D.may_leave D.moment D.left_since disk result.0)) }
     ensures unspoiled { IfErr result.1
         (λ why. why ≢ Unopened.Fault → Unspoiled (D.told disk) (D.told result.0)
+        (images_of D.may_leave D.moment D.left_since disk result.0)) }
+    ensures unwritten { IfErr result.1
+        (λ _. Unwritten (D.told disk) (D.told result.0)
         (images_of D.may_leave D.moment D.left_since disk result.0)) }
     ensures cause { IfErr result.1 (λ why. why ≡ Unopened.Fault → Rose 0 (D.faults result.0)) }
     ensures level { MatchResult result.1 (λ _. D.faults result.0 ≡ 0)

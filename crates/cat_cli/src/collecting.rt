@@ -1,10 +1,13 @@
 //! A collection on the catalogue of a journal.
 
-ghost use Rattle.std.specs.Prelude.{◌≡◌, ◌≢◌, ◌⊎◌, IfErr, IfOk, IsTrue, List, None, Some, map, string_bytes, true, false, ℕ};
+ghost use Rattle.std.specs.Prelude.{◌≡◌, ◌≢◌, ◌⊎◌, IfErr, IfOk, IsTrue, List, MatchResult, None, Some, map, string_bytes, ℕ};
+ghost use Rattle.std.specs.Option.{option_map};
 ghost use Rattle.cat_io.specs.Causes.{Rose};
 ghost use Rattle.cat_io.specs.Places.{OthersStay};
+ghost use Rattle.cat_core.specs.Stored.{faults_at};
 ghost use Rattle.cat_keeper.specs.Bases.{bases_in};
 ghost use Rattle.cat_model.specs.Drafts.{nothing_open};
+ghost use Rattle.cat_model.specs.Mark.{FailedAppend};
 ghost use Rattle.cat_policy.specs.declared.policy.Policy.{Policy};
 ghost use Rattle.cat_policy.specs.Policies.{HasCounts, HasFew, policy_of};
 ghost use Rattle.cat_cli.specs.Collecting.{Collects, CollectsKnown, EndsIn, EndsWith, Gathers, IsAnswer, IsGathered, Means};
@@ -12,7 +15,7 @@ ghost use Rattle.cat_cli.specs.Journals.{DisksFell, IsBack, StandsFor, told_at};
 ghost use Rattle.cat_cli.specs.Lines.{limit_line, no_memory_line, swept_line, usage_line};
 ghost use Rattle.cat_cli.specs.Opening.{IsReason};
 ghost use Rattle.cat_cli.specs.Runs.{TellsKnown, spares_disks, tells_all};
-ghost use Rattle.cat_cli.specs.Surviving.{IsBegun, IsStoodOn, Spared, Unspoiled, images_at, images_of};
+ghost use Rattle.cat_cli.specs.Surviving.{IsBegun, IsStoodOn, Spared, Unspoiled, Unwritten, images_at, images_of};
 
 use crate::journal::{disk_of, store_on};
 use crate::scripting::MARKERS;
@@ -73,8 +76,9 @@ fn meaning(answer: &Result<Told, Refused>) -> Collected
     }
 }
 
-// A collection on a store, through a desk with one pass, after which the store comes back. Where
-// memory runs out before it begins, it comes back as it was.
+// A collection on a store, through a desk with one pass, after which the store comes back. Its
+// keeper's count of faults is as it was opened, or where an append failed, the one that the mark
+// tells of. Where memory runs out before it begins, the store comes back as it was.
 fn hold_collection<R: Threads + Wait + Sync, K0: Keeper, C: Clock>(
     rt: &R,
     alloc: Global,
@@ -90,8 +94,14 @@ fn hold_collection<R: Threads + Wait + Sync, K0: Keeper, C: Clock>(
         (λ t. IsGathered K0.in_flight policy.now (C.ahead clock.old) (C.ahead clock.new) store t.0
         t.1) }
     ensures bases { IfOk result (λ t. t.0.mark.bases ≡ bases_in (K0.told t.0.keeper)) }
+    ensures flies { IfOk result
+        (λ t. K0.in_flight t.0.keeper
+        ≡ option_map (λ (x : FailedAppend). x.payload) t.0.mark.fault) }
+    ensures level { IfOk result
+        (λ t. K0.faults t.0.keeper ≡ faults_at store.opened.faults t.0.mark.fault) }
     ensures rose { IfOk result
-        (λ t. t.1 ≡ Collected.Fault → Rose store.opened.faults (K0.faults t.0.keeper)) }
+        (λ t. (x : FailedAppend) → t.0.mark.fault ≡ Some x
+        → Rose store.opened.faults x.count) }
     ensures back { IfErr result (λ e. e.0 ≡ store) }
     ensures paused { IfErr result (λ _. clock.new ≡ clock.old) }
 {
@@ -143,8 +153,12 @@ fn collection_on<
     ensures unspoiled { IfErr result.1
         (λ why. why ≢ Unopened.Fault → Unspoiled (D.told disk) (D.told result.0)
         (images_of D.may_leave D.moment D.left_since disk result.0)) }
+    ensures unwritten { IfErr result.1
+        (λ _. Unwritten (D.told disk) (D.told result.0)
+        (images_of D.may_leave D.moment D.left_since disk result.0)) }
     ensures cause { IfErr result.1 (λ why. why ≡ Unopened.Fault → Rose 0 (D.faults result.0)) }
-    ensures level { IfErr result.1 (λ why. why ≢ Unopened.Fault → D.faults result.0 ≡ 0) }
+    ensures level { MatchResult result.1 (λ what. what ≢ Collected.Fault → D.faults result.0 ≡ 0)
+        (λ why. why ≢ Unopened.Fault → D.faults result.0 ≡ 0) }
     ensures paused { IfErr result.1 (λ _. clock.new ≡ clock.old) }
 {
     match store_on::<B, T, D>(alloc, disk) {
@@ -209,10 +223,9 @@ fn end_with_text<K: Sink>(text: Result<String, AllocError>, status: Status, sink
     }
 }
 
-// The status after a collection, by whether the disk failed. Its line is told.
-fn tell_collected<K: Sink>(alloc: Global, what: Collected, failed: bool, sink: &mut K) -> Status
-    ensures told { Gathers ((failed ≡ true) ⊎ (what ≡ Collected.Fault)) (failed ≡ false)
-        (λ x. x ≡ what)
+// The status after a collection. Its line is told.
+fn tell_collected<K: Sink>(alloc: Global, what: Collected, sink: &mut K) -> Status
+    ensures told { Gathers (what ≡ Collected.Fault) (what ≢ Collected.Fault) (λ x. x ≡ what)
         (record {
           held = K.held sink.old;
           after = K.held sink.new;
@@ -225,7 +238,6 @@ fn tell_collected<K: Sink>(alloc: Global, what: Collected, failed: bool, sink: &
     match what {
         Collected::NoMemory => tell_no_memory(sink),
         Collected::Fault => end_with(b"nessie: disk fault\n", Status::DiskFault, sink),
-        _ if failed => end_with(b"nessie: disk fault\n", Status::DiskFault, sink),
         Collected::Limit(number) => end_with_text(limit_line(alloc, number), Status::Limit, sink),
         Collected::Swept {
             kept,
@@ -276,10 +288,9 @@ fn collect_at<R: Threads + Wait + Sync, O: Disks, K: Sink, C: Clock>(
         return refuse(alloc, Unopened::Fault, sink);
     };
     let (disk, done) = collection_on::<Brand, Brand, R, O::D, C>(rt, alloc, disk, policy, clock);
-    let failed = disk.fault_count() > 0;
     disks.back(path, disk);
     match done {
-        Ok(what) => tell_collected(alloc, what, failed, sink),
+        Ok(what) => tell_collected(alloc, what, sink),
         Err(why) => refuse(alloc, why, sink),
     }
 }

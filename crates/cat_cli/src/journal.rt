@@ -9,7 +9,7 @@ ghost use Rattle.cat_journal.specs.Journals.{journal_disk};
 ghost use Rattle.cat_keeper.specs.Bases.{bases_in};
 ghost use Rattle.cat_cli.specs.Journals.{StandsFor, opened_format};
 ghost use Rattle.cat_cli.specs.Opening.{IsReason, IsStored};
-ghost use Rattle.cat_cli.specs.Surviving.{IsBegun, IsStoodOn, KeepsThrough, Spared, Unspoiled, images_of};
+ghost use Rattle.cat_cli.specs.Surviving.{IsBegun, IsStoodOn, KeepsThrough, Spared, Unspoiled, Unwritten, images_of};
 ghost use Rattle.cat_cli.specs.Unadded.{IsStill};
 
 use crate::still::{Still, Stood};
@@ -24,8 +24,8 @@ use std::marker::Send;
 
 /// The store of a journal's catalogue, over the journal. It is watched what a crash might have left
 /// of the disk since it was given here, and that the bytes stay while nothing is added. Where no
-/// store is opened the disk comes back, and where it didn't fail, with the bytes that it had; an
-/// empty one maybe with those of a new journal.
+/// store is opened the disk comes back with the bytes that it had; an empty one maybe with those of
+/// a new journal, or where it failed, with no more bytes than these.
 pub(crate) fn store_on<B: Since + Send, T: Stood + Send, D: Disk + Send>(
     alloc: Global,
     disk: D,
@@ -57,6 +57,9 @@ pub(crate) fn store_on<B: Since + Send, T: Stood + Send, D: Disk + Send>(
         (images_of D.may_leave D.moment D.left_since disk e.0)) }
     ensures unspoiled { IfErr result
         (λ e. e.1 ≢ Unopened.Fault → Unspoiled (D.told disk) (D.told e.0)
+        (images_of D.may_leave D.moment D.left_since disk e.0)) }
+    ensures unwritten { IfErr result
+        (λ e. Unwritten (D.told disk) (D.told e.0)
         (images_of D.may_leave D.moment D.left_since disk e.0)) }
     ensures cause { IfErr result (λ e. e.1 ≡ Unopened.Fault → Rose (D.faults disk) (D.faults e.0)) }
     ensures level { MatchResult result

@@ -67,12 +67,15 @@ pub fn run<R: Threads + Wait + Sync, O: Disks, S: Source, K: Sink, C: Clock + Dr
         (K.faults sink.new) }
     // What a script writes are the replies to the requests in the bytes of the source, the journal
     // has the entries of all that they changed, and the clock stands where their moments left it.
-    // Its base is that of the last checkpoint among them, or the one that it had.
-    // Where a read failed, no whole request was read that isn't answered. A crash at any moment
-    // leaves a journal with the old entries and a front of these, or what one might have left
-    // before. Where no session was held neither the source nor the clock was read, and the journal
-    // stands for what it did: its bytes are as they were, unless a fault of the disks is told, or
-    // of an empty file those of a new journal. So it is of each command that opens no catalogue.
+    // Its base is that of the last checkpoint among them, or the one that it had. Once a session is
+    // held the disks' count of faults rises only where an append fails, and by the count that is
+    // told of it, and only there a fault of theirs is told. Where a read failed, no whole request
+    // was read that isn't answered. A crash at any moment leaves a journal with the old entries and
+    // a front of these, or what one might have left before. Where no session was held neither the
+    // source nor the clock was read, and the journal stands for what it did: its bytes are as they
+    // were, or of an empty file those of a new journal, and where a fault of the disks is told, no
+    // more than these. So it is of each command that opens no catalogue, but for a migration where
+    // a fault of the disks is told.
     ensures replies { (journal : List ℕ)
         → asked (map (λ word. word.now) words.now) ≡ Some (script journal)
         → SaysKnown
@@ -115,9 +118,10 @@ pub fn run<R: Threads + Wait + Sync, O: Disks, S: Source, K: Sink, C: Clock + Dr
     // A collection adds the entry of one sweep to the journal, that of the catalogue as it was
     // opened, under the policy of the words at one reading of the clock, and what it writes is the
     // line of its reply: behind all that the journal had stands just this entry, where its append
-    // didn't fail. It is refused for a limit exactly where the rules refuse that sweep so. A
-    // crash at any moment leaves a journal with the old entries, with or without this one, or what
-    // one might have left before.
+    // didn't fail. Once the catalogue is opened the disks' count of faults rises, and a fault of
+    // theirs is told, only where that fails. It is refused for a limit exactly where the rules
+    // refuse that sweep so. A crash at any moment leaves a journal with the old entries, with or
+    // without this one, or what one might have left before.
     ensures collected { (journal default : List ℕ) (rules : List (List ℕ)) (policy : Policy)
         → asked (map (λ word. word.now) words.now) ≡ Some (gc journal default rules)
         → policy_of default rules ≡ Some policy
@@ -146,8 +150,9 @@ pub fn run<R: Threads + Wait + Sync, O: Disks, S: Source, K: Sink, C: Clock + Dr
     // session on a pass of one desk, and what its pass had seen is a beginning of the one legal log
     // that the journal has at the end, which begins with the log that was opened. A crash at any
     // moment leaves a journal with the old entries and a front of what was added, or what one might
-    // have left before. Where no call of the listener failed its own connections were all given,
-    // and stand served.
+    // have left before. Once the catalogue is opened the disks' count of faults rises, and a fault
+    // of theirs is told, only where an append fails, and a request is told so. Where no call of the
+    // listener failed its own connections were all given, and stand served.
     ensures served { (journal address : List ℕ) (workers attempts connections : ℕ)
         → asked (map (λ word. word.now) words.now)
         ≡ Some (serve journal address workers attempts connections)

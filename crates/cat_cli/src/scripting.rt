@@ -1,6 +1,6 @@
 //! A session on the catalogue of a journal.
 
-ghost use Rattle.std.specs.Prelude.{ℕ, List, ◌≡◌, ◌≢◌, ◌≤◌, IfErr, IfOk, IsTrue, None, Some};
+ghost use Rattle.std.specs.Prelude.{ℕ, List, ◌≡◌, ◌≢◌, IfErr, IfOk, IsTrue, None, Some};
 ghost use Rattle.cat_io.specs.Causes.{Rose};
 ghost use Rattle.cat_io.specs.Places.{OthersStay};
 ghost use Rattle.cat_keeper.specs.Bases.{bases_in, first_of};
@@ -8,7 +8,7 @@ ghost use Rattle.cat_cli.specs.Journals.{DisksFell, IsBack, RoseBy, StandsFor, t
 ghost use Rattle.cat_cli.specs.Opening.{IsReason, status_of};
 ghost use Rattle.cat_cli.specs.Runs.{CountedBy, RanKnown, SaysKnown, spares_disks, tells_all};
 ghost use Rattle.cat_cli.specs.Stores.{RunsKnown};
-ghost use Rattle.cat_cli.specs.Surviving.{IsBegun, IsStoodOn, Spared, Unspoiled, images_at, images_of};
+ghost use Rattle.cat_cli.specs.Surviving.{IsBegun, IsStoodOn, Spared, Unspoiled, Unwritten, images_at, images_of};
 ghost use Rattle.cat_model.specs.Drafts.{nothing_open};
 
 use crate::journal::{disk_of, store_on};
@@ -47,8 +47,9 @@ fn status_of(end: Session, failed: bool) -> Status
     }
 }
 
-// A session on a store, through a desk with one pass, after which the store comes back. Where
-// memory runs out before the session begins, it comes back as it was.
+// A session on a store, through a desk with one pass, after which the store comes back. Its keeper's
+// count of faults is as it was opened, or where an append failed, the one at which it is down. Where
+// memory runs out before the session begins, the store comes back as it was.
 fn hold_session<R: Threads + Wait + Sync, K0: Keeper, S: Source, K: Sink, C: Clock>(
     rt: &R,
     alloc: Global,
@@ -65,10 +66,11 @@ fn hold_session<R: Threads + Wait + Sync, K0: Keeper, S: Source, K: Sink, C: Clo
     ensures bases { IfOk result (λ t. t.0.mark.bases ≡ bases_in (K0.told t.0.keeper)) }
     ensures based { IfOk result
         (λ t. (ps : List (List ℕ)) → K0.told t.0.keeper ≡ Some ps → first_of ps ≡ t.0.mark.base) }
-    ensures later { IfOk result (λ t. store.opened.faults ≤ K0.faults t.0.keeper) }
+    ensures level { IfOk result
+        (λ t. K0.down t.0.keeper ≡ None → K0.faults t.0.keeper ≡ store.opened.faults) }
     ensures rose { IfOk result
         (λ t. (c : ℕ) → K0.down t.0.keeper ≡ Some c
-        → Rose store.opened.faults c × (c ≤ K0.faults t.0.keeper)) }
+        → Rose store.opened.faults c × (c ≡ K0.faults t.0.keeper)) }
     ensures read { IfOk result
         (λ t. t.1 ≡ Session.ReadFault → Rose (S.faults source.old) (S.faults source.new)) }
     ensures write { IfOk result
@@ -123,7 +125,8 @@ fn session_on<
         (D.moment disk) (D.may_leave disk) (D.left_since disk) }
     requires fresh { D.faults disk ≡ 0 }
     ensures ran { IfOk result.1
-        (λ end. RanKnown (CountedBy (D.faults result.0)) (C.ahead clock.old) (C.ahead clock.new)
+        (λ end. RanKnown (CountedBy (D.faults result.0)) (D.faults result.0 ≡ 0)
+        (C.ahead clock.old) (C.ahead clock.new)
         (S.left source.old) (S.left source.new) (K.held sink.old) (K.held sink.new)
         (K.faults sink.old) (K.faults sink.new) (D.told disk) (D.told result.0)
         (images_of D.may_leave D.moment D.left_since disk result.0) end) }
@@ -142,6 +145,9 @@ fn session_on<
         (images_of D.may_leave D.moment D.left_since disk result.0)) }
     ensures unspoiled { IfErr result.1
         (λ why. why ≢ Unopened.Fault → Unspoiled (D.told disk) (D.told result.0)
+        (images_of D.may_leave D.moment D.left_since disk result.0)) }
+    ensures unwritten { IfErr result.1
+        (λ _. Unwritten (D.told disk) (D.told result.0)
         (images_of D.may_leave D.moment D.left_since disk result.0)) }
     ensures cause { IfErr result.1 (λ why. why ≡ Unopened.Fault → Rose 0 (D.faults result.0)) }
     ensures level { IfErr result.1 (λ why. why ≢ Unopened.Fault → D.faults result.0 ≡ 0) }

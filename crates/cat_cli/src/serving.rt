@@ -1,9 +1,10 @@
 //! Workers on the catalogue of a journal, who serve the connections of a listener.
 
-ghost use Rattle.std.specs.Prelude.{◌≡◌, ◌≢◌, ◌≤◌, Bool, IfErr, IfOk, IsTrue, Some};
+ghost use Rattle.std.specs.Prelude.{◌≡◌, ◌≢◌, Bool, IfErr, IfOk, IsTrue, Some};
 ghost use Rattle.std.specs.Option.{option_map};
 ghost use Rattle.cat_io.specs.Causes.{Rose};
 ghost use Rattle.cat_io.specs.Places.{OthersStay};
+ghost use Rattle.cat_core.specs.Stored.{faults_at};
 ghost use Rattle.cat_keeper.specs.Bases.{bases_in};
 ghost use Rattle.cat_desk.specs.Pass.{Remembers, spare_of};
 ghost use Rattle.cat_model.specs.Drafts.{nothing_open};
@@ -16,7 +17,7 @@ ghost use Rattle.cat_cli.specs.Journals.{DisksFell, IsBack, RoseBy, StandsFor, t
 ghost use Rattle.cat_cli.specs.Opening.{IsReason};
 ghost use Rattle.cat_cli.specs.Runs.{CountedBy, spares_disks, spares_listener, tells_all};
 ghost use Rattle.cat_cli.specs.Serving.{Hosted, OpenedOnly, ServesKnown, IsToldOf, status_after};
-ghost use Rattle.cat_cli.specs.Surviving.{IsBegun, IsStoodOn, Spared, Unspoiled, images_at, images_of};
+ghost use Rattle.cat_cli.specs.Surviving.{IsBegun, IsStoodOn, Spared, Unspoiled, Unwritten, images_at, images_of};
 
 use crate::journal::{disk_of, store_on};
 use crate::scripting::MARKERS;
@@ -101,8 +102,9 @@ fn serve_at<R: Threads + Wait + Sync, K0: Keeper, L: Listener, C: Clock + Drop>(
     }
 }
 
-// Serves on a store, through a desk, after which the store comes back. Where no desk can be made it
-// comes back as it was.
+// Serves on a store, through a desk, after which the store comes back. Its keeper's count of faults
+// is as it was opened, or where an append failed, the one that the mark tells of. Where no desk can
+// be made the store comes back as it was.
 fn hold_serving<R: Threads + Wait + Sync, K0: Keeper, L: Listener, C: Clock + Drop>(
     rt: &R,
     alloc: Global,
@@ -132,9 +134,11 @@ fn hold_serving<R: Threads + Wait + Sync, K0: Keeper, L: Listener, C: Clock + Dr
         (λ t. K0.in_flight t.0.keeper
         ≡ option_map (λ (x : FailedAppend). x.payload) t.0.mark.fault) }
     ensures bases { IfOk result (λ t. t.0.mark.bases ≡ bases_in (K0.told t.0.keeper)) }
-    ensures counted { IfOk result
+    ensures level { IfOk result
+        (λ t. K0.faults t.0.keeper ≡ faults_at store.opened.faults t.0.mark.fault) }
+    ensures rose { IfOk result
         (λ t. (x : FailedAppend) → t.0.mark.fault ≡ Some x
-        → Rose store.opened.faults x.count × (x.count ≤ K0.faults t.0.keeper)) }
+        → Rose store.opened.faults x.count) }
     ensures cause { IfOk result
         (λ t. t.1 ≡ Served.ListenerFault → Rose (L.faults listener.old) (L.faults listener.new)) }
     ensures stays { IfOk result
@@ -181,13 +185,13 @@ fn serve_on<
     ensures comes { IfOk result.1
         (λ end. Comes
         (Hosted (ends_of L.In.left L.In.faults L.Out.held L.Out.faults)
-        (CountedBy (D.faults result.0)) (service_of options.entry)
+        (CountedBy (D.faults result.0)) (D.faults result.0 ≡ 0) (service_of options.entry)
         (heard_of L.tells L.listens L.waiting L.returned L.rejoined L.out L.twins L.dealt L.faults
         listener.old)
         (heard_of L.tells L.listens L.waiting L.returned L.rejoined L.out L.twins L.dealt L.faults
         listener.new) (C.ahead clock.old) (C.ahead clock.new) (D.told disk) (D.told result.0)
         (images_of D.may_leave D.moment D.left_since disk result.0))
-        (OpenedOnly (clock.new ≡ clock.old) (D.told disk) (D.told result.0)
+        (OpenedOnly (clock.new ≡ clock.old) (D.faults result.0 ≡ 0) (D.told disk) (D.told result.0)
         (images_of D.may_leave D.moment D.left_since disk result.0)) (service_of options.entry)
         (heard_of L.tells L.listens L.waiting L.returned L.rejoined L.out L.twins L.dealt L.faults
         listener.old)
@@ -205,6 +209,9 @@ fn serve_on<
         (images_of D.may_leave D.moment D.left_since disk result.0)) }
     ensures unspoiled { IfErr result.1
         (λ why. why ≢ Unopened.Fault → Unspoiled (D.told disk) (D.told result.0)
+        (images_of D.may_leave D.moment D.left_since disk result.0)) }
+    ensures unwritten { IfErr result.1
+        (λ _. Unwritten (D.told disk) (D.told result.0)
         (images_of D.may_leave D.moment D.left_since disk result.0)) }
     ensures cause { IfErr result.1 (λ why. why ≡ Unopened.Fault → Rose 0 (D.faults result.0)) }
     ensures level { IfErr result.1 (λ why. why ≢ Unopened.Fault → D.faults result.0 ≡ 0) }

@@ -20,7 +20,7 @@ use Rattle.cat_core.specs.Kept.{IsTold}
 use Rattle.cat_core.specs.Stored.{IsDownAt, IsUp, Stored}
 use Rattle.cat_core.specs.Sweeps.{AreAllMarked, AreGiven, Closes, Completes, Drops, IsClosing, IsSettledSweep, MayBeClosed, Sweeps, called_sweep, given_by, kept_by, shut, sweep_in, sweep_on}
 use Rattle.cat_core.proofs.Collecting.{all_marked}
-use Rattle.cat_core.proofs.Settling.{still, still_leaves, up_not_down}
+use Rattle.cat_core.proofs.Settling.{still, still_leaves, up_not_down, up_rests}
 
 -- ---- the one that is open
 
@@ -55,6 +55,7 @@ module _ {K : Type 0} (members : Ghosts K)
     refers = (ap (λ (p : ℕ). Some p) same_place, fell, left);
     keeps = λ up. absurd (up_not_down s count up fell);
     crash = λ up. absurd (up_not_down s count up fell);
+    rests = λ x failed. keeper_same left;
   }
 
   -- memory ran out
@@ -63,17 +64,18 @@ module _ {K : Type 0} (members : Ghosts K)
     refers = (refl, left ∙ ap (λ (k : K). record (shut s o) { keeper = k }) (sym (keeper_same left)));
     keeps = λ up. record { done = tt; fault = λ is_fault. absurd cc; other = λ no. still members safe only_now s.keeper s'.keeper (keeper_same left) };
     crash = λ up. still_leaves members safe only_now s.keeper s'.keeper (called_sweep s o moment).logged (keeper_same left) (is_up up);
+    rests = λ x failed. keeper_same left;
   }
 
   -- it was made, or refused
-  pub ended_made : (closed : Stored K) (c : Closing) (result : Result Told Refused) → closed ≡ shut s o → IsClosing o c → IsTold members c.ticket.caller closed s' (sweep_on c.ticket.caller closed.book moment (sweep_in c)) result → It result
-  ended_made closed c result left is told =
+  pub ended_made : IsUp s → (closed : Stored K) (c : Closing) (result : Result Told Refused) → closed ≡ shut s o → IsClosing o c → IsTold members c.ticket.caller closed s' (sweep_on c.ticket.caller closed.book moment (sweep_in c)) result → It result
+  ended_made up closed c result left is told =
       let caller : c.ticket.caller ≡ o.opening.caller = ap (λ (x : Opening). x.caller) is.opening in
       let whole : IsTold members o.opening.caller (shut s o) s' (called_sweep s o moment) result =
       subst (λ (x : Stored K). IsTold members o.opening.caller x s' (sweep_on o.opening.caller x.book moment (sweep_of o.opening.place o.policy o.names)) result) left
       (subst (λ (w : Sweep). IsTold members o.opening.caller closed s' (sweep_on o.opening.caller closed.book moment w) result) is.sweep
       (subst (λ (n : ℕ). IsTold members n closed s' (sweep_on n closed.book moment (sweep_in c)) result) caller told)) in
-      record { refers = whole.refers; keeps = λ up. whole.keeps; crash = λ up. whole.crash }
+      record { refers = whole.refers; keeps = λ u. whole.keeps; crash = λ u. whole.crash; rests = up_rests s s' up }
 
 -- ---- it may be made
 

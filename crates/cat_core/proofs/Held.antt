@@ -80,7 +80,7 @@ sound_held start book after left_open held t c sound takes next is =
 
 pub step_held : {K : Type 0} (members : Ghosts K) (start : Start) (book after : Book) (keeper : K) (fallen : Option Fallen) (number : ℕ) → after ≡ taking book number → IsInStep members (opened_held book.base start) book keeper fallen → IsInStep members (opened_held after.base start) after keeper fallen
 step_held {K} members start book after keeper fallen number takes was =
-    subst (λ (b : Book). IsInStep members (opened_held b.base start) b keeper fallen) (sym takes) record { payloads = was.payloads; number = was.number; fallen = was.fallen; later = was.later; rose = was.rose; counted = was.counted; flies = was.flies }
+    subst (λ (b : Book). IsInStep members (opened_held b.base start) b keeper fallen) (sym takes) record { payloads = was.payloads; number = was.number; fallen = was.fallen; level = was.level; rose = was.rose; flies = was.flies }
 
 -- ---- one less
 

@@ -1,5 +1,5 @@
 -- The keeper has the entries of the log.
-use Rattle.std.proofs.Common.{◌≡◌, ◌≤◌, ℕ, inr, max, arith, List, [], ◌∷◌, ◌++◌, reverse, Option, Some, None, Result, Ok, Err, Bool, true, false, nat_lt, if◌then◌else◌, IfSome, le_refl, refl, sym, ap, subst, ◌∙◌}
+use Rattle.std.proofs.Common.{◌≡◌, ◌≤◌, ℕ, inr, max, List, [], ◌∷◌, ◌++◌, reverse, Option, Some, None, Result, Ok, Err, Bool, true, false, nat_lt, if◌then◌else◌, IfSome, refl, sym, ap, subst, ◌∙◌}
 use Rattle.std.proofs.lemmas.List.{append-nil, reverse-append}
 use Rattle.sha2.specs.Sha256.{sha256}
 use Rattle.cat_checks.specs.Histories.{IsLegalFrom}
@@ -100,8 +100,9 @@ pub still : {K : Type 0} (told : K → Option (List (List ℕ))) (o : Opened) (o
 still told o old new before after same log is =
     subst (λ (l : List LogEntry). IfSome (told new) (StandThrough o (reverse l))) (sym log) (subst (λ (t : Option (List (List ℕ))). IfSome t (StandThrough o (reverse before.log))) (sym same) is)
 
-pub rose_since : (began old new : ℕ) → began ≤ old → Rose old new → Rose began new
-rose_since began old new later rose = omega (arith, later, rose)
+-- a call failed, and none before it
+pub rose_from : (began old new : ℕ) → old ≡ began → old ≤ new → Rose old new → (began ≤ new) × Rose began new
+rose_from began old new level later rose = subst (λ (n : ℕ). (n ≤ new) × Rose n new) level (later, rose)
 
 each_told : (told : Option (List (List ℕ))) (P Q : List (List ℕ) → Type 0) → ((ps : List (List ℕ)) → P ps → Q ps) → IfSome told P → IfSome told Q
 each_told None P Q f is = tt
@@ -110,37 +111,27 @@ each_told (Some ps) P Q f is = f ps is
 module _ {K : Type 0} (members : Ghosts K) where
   module _ (old new : K) (caller : ℕ) (called : Called) (o : Opened) (before after : Book) (right : LogsRight called) (legal : IsLegalFrom o (reverse (called.logged ++ before.log))) (was : IsInStep members o before old None) (number : reached members new ≡ after.state.place) where
     stayed : after.log ≡ before.log → Stayed members old new → IsInStep members o after new None
-    stayed log keeps =
-        let later : o.faults ≤ members.faults old = was.later in
-        let more : members.faults old ≤ members.faults new = keeps.later in
-        record { payloads = still members.told o old new before after keeps.payloads log was.payloads; number = number; fallen = keeps.fallen ∙ was.fallen; later = omega arith; rose = tt; counted = tt; flies = tt }
+    stayed log keeps = record { payloads = still members.told o old new before after keeps.payloads log was.payloads; number = number; fallen = keeps.fallen ∙ was.fallen; level = keeps.level ∙ was.level; rose = tt; flies = tt }
 
     -- after a call
     pub in_step : IfSome (members.told old) (FirstStands o before.log called.logged) → (made : Result Told Unmade) → Runs called before after made → Keeps members old new called.logged made → IsInStep members o after new (fallen_by caller (members.faults new) None made)
-    in_step stands (Ok told_is) runs keeps =
-        let later : o.faults ≤ members.faults old = was.later in
-        let more : members.faults old ≤ members.faults new = keeps.later in
-        record {
-          payloads = subst (λ (b : Book). IfSome (members.told new) (StandThrough o (reverse b.log))) (sym runs.book) (told_more o (members.told old) (members.told new) before.log _ right.few keeps.read stands was.payloads keeps.payloads);
-          number = number;
-          fallen = keeps.up;
-          later = omega arith;
-          rose = tt;
-          counted = tt;
-          flies = tt;
-        }
+    in_step stands (Ok told_is) runs keeps = record {
+      payloads = subst (λ (b : Book). IfSome (members.told new) (StandThrough o (reverse b.log))) (sym runs.book) (told_more o (members.told old) (members.told new) before.log _ right.few keeps.read stands was.payloads keeps.payloads);
+      number = number;
+      fallen = keeps.up;
+      level = keeps.level ∙ was.level;
+      rose = tt;
+      flies = tt;
+    }
     in_step stands (Err NotKept) runs keeps =
-        let later : o.faults ≤ members.faults old = was.later in
-        let more : members.faults old ≤ members.faults new = keeps.later in
         let behind : IsLegalFrom o (reverse after.log ++ keeps.entry ∷ []) =
         subst (IsLegalFrom o) (ap (λ (l : List LogEntry). reverse (l ++ before.log)) keeps.one ∙ reverse-append (keeps.entry ∷ []) before.log ∙ ap (λ (l : List LogEntry). reverse l ++ keeps.entry ∷ []) (sym runs.log)) legal in
         record {
           payloads = subst (λ (l : List LogEntry). IfSome (members.told new) (StandThrough o (reverse l))) (sym runs.log) (told_same o (members.told old) (members.told new) before.log was.payloads keeps.payloads);
           number = number;
           fallen = keeps.fallen;
-          later = omega arith;
-          rose = rose_since o.faults (members.faults old) (members.faults new) was.later keeps.rose;
-          counted = (rose_since o.faults (members.faults old) (members.faults new) was.later keeps.rose, le_refl (members.faults new));
+          level = refl;
+          rose = rose_from o.faults (members.faults old) (members.faults new) was.level keeps.later keeps.rose;
           flies = subst (λ (t : Option (List ℕ)). IfSome t (λ p. IfSome (members.told new) (IsInFlight o (reverse after.log) p))) (sym keeps.flies)
               (still_told (members.told old) (members.told new) (IsInFlight o (reverse after.log) (spelling keeps.entry)) keeps.payloads
               (each_told (members.told old) _ _ (λ ps one. inr (keeps.entry, refl, keeps.read, behind, subst (λ (l : List LogEntry). MayStand o (reverse l) ps keeps.entry) (sym runs.log) (subst (λ (l : List LogEntry). FirstStands o before.log l ps) keeps.one one))) stands));

@@ -32,7 +32,7 @@ use Rattle.cat_core.specs.Kept.{IsTold}
 use Rattle.cat_core.specs.Made.{fallen_by, told_at}
 use Rattle.cat_core.specs.RecordLaws.{stands_now}
 use Rattle.cat_core.specs.Records.{IsInFlight, StandFlown, StandThrough}
-use Rattle.cat_core.specs.Stored.{IsUp, MayBeDown, Stored, failed, held_mark, held_open, log_of, opened_held}
+use Rattle.cat_core.specs.Stored.{IsUp, MayBeDown, Stored, failed, fallen_faults, faults_at, held_mark, held_open, log_of, opened_held}
 use Rattle.cat_core.proofs.BaseCounts.{bases_fell, bases_grew, bases_stayed}
 use Rattle.cat_core.proofs.InStep.{LogsRight}
 use Rattle.cat_core.proofs.Keeping.{keeps_told, leaves_made}
@@ -105,17 +105,28 @@ module _ {K : Type 0} (down : K → Option ℕ) (in_flight : K → Option (List 
   tells_flight k None is = waits k is
   tells_flight k (Some f) is = let x = fell_as k f is in x.3 ∙ sym (ap (option_map (λ (x : FailedAppend). x.payload)) x.1)
 
+  -- the mark tells at which count
+  faults_told : (began : ℕ) (k : K) (fallen : Option Fallen) → down k ≡ option_map (λ (f : Fallen). f.count) fallen → fallen_faults began fallen ≡ faults_at began (failed fallen (in_flight k))
+  faults_told began k None is = refl
+  faults_told began k (Some f) is = let x = fell_as k f is in sym x.2 ∙ sym (ap (faults_at began) x.1)
+
+  pub faults_seen : (faults : K → ℕ) (fallen : Option Fallen) (s v : Stored K) → s ≡ v → s.mark.fault ≡ failed fallen (in_flight s.keeper) → down s.keeper ≡ option_map (λ (f : Fallen). f.count) fallen → faults s.keeper ≡ fallen_faults s.opened.faults fallen → faults v.keeper ≡ faults_at v.opened.faults v.mark.fault
+  faults_seen faults fallen s v same fault is level =
+      subst (λ (z : Stored K). faults z.keeper ≡ faults_at z.opened.faults z.mark.fault) same (level ∙ faults_told s.opened.faults s.keeper fallen is ∙ ap (faults_at s.opened.faults) (sym fault))
+
 pub down_none : {K : Type 0} (down : K → Option ℕ) (k : K) (fallen : Option Fallen) → down k ≡ option_map (λ (f : Fallen). f.count) fallen → fallen ≡ None → down k ≡ None
 down_none down k fallen is none = is ∙ ap (option_map (λ (f : Fallen). f.count)) none
 
-pub rose_at : (began now : ℕ) (fallen : Option Fallen) (flight : Option (List ℕ)) → IfSome fallen (λ f. Rose began now) → (x : FailedAppend) → failed fallen flight ≡ Some x → Rose began now
-rose_at began now None flight rose x is = absurd (up_of x is)
-rose_at began now (Some f) flight rose x is = rose
+-- that count is above the one at the log's start, or at its type's end
+rose_at : (began : ℕ) (fallen : Option Fallen) (flight : Option (List ℕ)) → IfSome fallen (λ f. (began ≤ f.count) × Rose began f.count) → (x : FailedAppend) → failed fallen flight ≡ Some x → (began ≤ x.count) × Rose began x.count
+rose_at began None flight rose x is = absurd (up_of x is)
+rose_at began (Some f) None rose x is = absurd (up_of x is)
+rose_at began (Some f) (Some payload) rose x is = let same : f.count ≡ x.count = cc in subst (λ (n : ℕ). (began ≤ n) × Rose began n) same rose
 
-pub counted_at : (began now : ℕ) (fallen : Option Fallen) (flight : Option (List ℕ)) → IfSome fallen (λ f. Rose began f.count × (f.count ≤ now)) → (x : FailedAppend) → failed fallen flight ≡ Some x → Rose began x.count × (x.count ≤ now)
-counted_at began now None flight counted x is = absurd (up_of x is)
-counted_at began now (Some f) None counted x is = absurd (up_of x is)
-counted_at began now (Some f) (Some payload) counted x is = let same : f.count ≡ x.count = cc in subst (λ (n : ℕ). Rose began n × (n ≤ now)) same counted
+pub rose_seen : {K : Type 0} (in_flight : K → Option (List ℕ)) (fallen : Option Fallen) (s v : Stored K) → s ≡ v → s.mark.fault ≡ failed fallen (in_flight s.keeper) → IfSome fallen (λ f. (s.opened.faults ≤ f.count) × Rose s.opened.faults f.count) → (x : FailedAppend) → v.mark.fault ≡ Some x
+    → (v.opened.faults ≤ x.count) × Rose v.opened.faults x.count
+rose_seen {K} in_flight fallen s v same fault rose x is =
+    subst (λ (z : Stored K). (z.opened.faults ≤ x.count) × Rose z.opened.faults x.count) same (rose_at s.opened.faults fallen (in_flight s.keeper) rose x (sym fault ∙ ap (λ (z : Stored K). z.mark.fault) same ∙ is))
 
 -- what is in flight is the last of payloads that stand for the log, or for it and one entry more
 flown_told : (o : Opened) (log : List LogEntry) (told : Option (List (List ℕ))) (p : List ℕ) → IfSome told (IsInFlight o log p) → IfSome told (StandThrough o log) → IfSome told (λ ps. StandFlown o log p (ps ++ p ∷ []))

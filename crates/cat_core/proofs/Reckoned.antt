@@ -19,9 +19,9 @@ use Rattle.cat_model.specs.declared.log_entry.LogEntry.{LogEntry}
 use Rattle.cat_model.specs.Book.{Book, first_book}
 use Rattle.cat_frames.specs.Standing.{may_start}
 use Rattle.cat_model.specs.Turns.{Opened}
-use Rattle.cat_state.specs.Kept.{AreReadBack, Stayed, spellings}
+use Rattle.cat_state.specs.Kept.{AreReadBack, spellings}
 use Rattle.cat_core.specs.declared.tickets.Start.{Start}
-use Rattle.cat_core.specs.Opening.{IsAdded, IsEntryAt, IsIllegalAt, IsLedSoFar, IsLedTo, MayStart, next_by}
+use Rattle.cat_core.specs.Opening.{IsAdded, IsEntryAt, IsIllegalAt, IsLedSoFar, IsLedTo, MayStart, WasRead, next_by}
 use Rattle.cat_core.specs.Records.{IsBaseAt, StandFor, StandThrough}
 use Rattle.cat_core.specs.Stored.{opened_held}
 use Rattle.cat_core.proofs.Records.{through_opened}
@@ -99,7 +99,7 @@ same_told {A} (Some x) (Some y) same = ap (λ (z : A). Some z) same
 module _ {K : Type 0} (members : Ghosts K) where
   -- after one more that changed nothing
   pub stays_on : ((k : K) (t : ℕ) (c : Option (List (List ℕ))) → t ≤ members.moment k → members.may_leave k c → members.left_since k t c) → (old mid new : K)
-      → Stayed members old mid → Stayed members mid new → Stayed members old new
+      → WasRead members old mid → WasRead members mid new → WasRead members old new
   stays_on counts_now old mid new one two = record {
     payloads = two.payloads ∙ one.payloads;
     number = two.number ∙ one.number;
@@ -112,10 +112,10 @@ module _ {K : Type 0} (members : Ghosts K) where
   }
 
   -- a fault after calls that changed nothing
-  pub rose_on : (old mid new : K) → Stayed members old mid → Rose (members.faults mid) (members.faults new) → Rose (members.faults old) (members.faults new)
+  pub rose_on : (old mid new : K) → WasRead members old mid → Rose (members.faults mid) (members.faults new) → Rose (members.faults old) (members.faults new)
   rose_on old mid new one rose = omega (arith, one.later, rose)
 
-  module _ (old now : K) (counted : (ps : List (List ℕ)) → members.told old ≡ Some ps → length (entries_of ps) ≡ members.kept old) (stayed : Stayed members old now) (limits : Limits) (o : Opened) (starts : StartsAt (members.told old) limits o) (i : ℕ) (there : i < members.kept old)
+  module _ (old now : K) (counted : (ps : List (List ℕ)) → members.told old ≡ Some ps → length (entries_of ps) ≡ members.kept old) (stayed : WasRead members old now) (limits : Limits) (o : Opened) (starts : StartsAt (members.told old) limits o) (i : ℕ) (there : i < members.kept old)
       (before : Book) (so_far : IsLedSoFar (members.told old) o i before) where
     as_before : (payload : List ℕ) → IsEntryAt (members.told now) i payload → IsEntryAt (members.told old) i payload
     as_before payload is = subst (λ (t : Option (List (List ℕ))). IsEntryAt t i payload) stayed.payloads is
@@ -129,7 +129,7 @@ module _ {K : Type 0} (members : Ghosts K) where
     next_refused place one = illegal_here (members.told old) limits o starts i (members.kept old) counted there before one.1.0 so_far (as_before one.1.0 one.1.1) place one.0 one.1.2
 
   -- the keeper's payloads stand for the log that they led to
-  pub opened_payloads : (old new : K) (limits : Limits) (o : Opened) (book : Book) → IsLedTo (members.told old) (members.kept old) limits o book → Stayed members old new → IfSome (members.told new) (StandThrough o (reverse book.log))
+  pub opened_payloads : (old new : K) (limits : Limits) (o : Opened) (book : Book) → IsLedTo (members.told old) (members.kept old) limits o book → WasRead members old new → IfSome (members.told new) (StandThrough o (reverse book.log))
   opened_payloads old new limits o book led stayed = subst (λ (t : Option (List (List ℕ))). IfSome t (StandThrough o (reverse book.log))) (sym stayed.payloads)
       (if_told (members.told old) _ (λ ps here.
       let its : o.state.limits ≡ limits = limits_opened limits o.payloads o.faults o (base_of led.payloads) led.begins in

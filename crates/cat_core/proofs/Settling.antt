@@ -14,6 +14,7 @@ use Rattle.cat_model.specs.declared.reply.Told.{Told}
 use Rattle.cat_model.specs.Book.{attempt_on}
 use Rattle.cat_model.specs.Calls.{Called, in_draft}
 use Rattle.cat_model.specs.Drafts.{Open}
+use Rattle.cat_model.specs.Mark.{FailedAppend}
 use Rattle.cat_model.specs.Refusing.{Tested}
 use Rattle.cat_model.specs.State.{State, reference_of}
 use Rattle.cat_model.specs.Step.{opening, opens_draft}
@@ -177,6 +178,9 @@ draft_refused called s d r OldFormat s' is = inr is
 pub up_not_down : {K : Type 0} (s : Stored K) (count : ℕ) → IsUp s → IsDownAt s count → ⊥
 up_not_down s count up down = up_of down.0 (sym up ∙ down.1)
 
+pub up_rests : {K : Type 0} (s s' : Stored K) → IsUp s → (x : FailedAppend) → s.mark.fault ≡ Some x → s'.keeper ≡ s.keeper
+up_rests s s' up x is = absurd (up_of x (sym up ∙ is))
+
 err_not_ok : (t : Tested) (why : Refusal) → t ≡ Err why → t ≡ Ok tt → ⊥
 err_not_ok t why e o = cc
 
@@ -212,6 +216,7 @@ module _ {K : Type 0} (members : Ghosts K)
       settles = (λ up passes other. absurd (up_not_down s count up fell), (ap (λ (p : ℕ). Some p) same_place, fell, left));
       keeps = λ up. absurd (up_not_down s count up fell);
       crash = λ up. absurd (up_not_down s count up fell);
+      rests = λ x failed. keeper_same left;
     }
 
     -- the tests before a draft refuse it
@@ -227,6 +232,7 @@ module _ {K : Type 0} (members : Ghosts K)
           settles = (λ u passes other. absurd (err_not_ok _ why fails passes), refuses_draft called s d here why s' there (refuses called d.caller s here s' (closed s d) why other (record { up = up; said = called_so.said; none = none; after = same_as left })));
           keeps = λ u. record { done = tt; fault = λ is_fault. absurd (not_fault why other is_fault); other = λ no. still s.keeper s'.keeper (keeper_same left) };
           crash = crash_same (keeper_same left);
+          rests = λ x failed. keeper_same left;
         }
 
     -- the branch has another head
@@ -236,6 +242,7 @@ module _ {K : Type 0} (members : Ghosts K)
       settles = (λ u p no. absurd (no refl), (refl, same_as back.1));
       keeps = λ u. record { done = tt; fault = λ is_fault. absurd cc; other = λ no. still s.keeper s'.keeper (keeper_same back.1) };
       crash = crash_same (keeper_same back.1);
+      rests = λ x failed. keeper_same back.1;
     }
     settled_moved head (settled.Moved e view) up passes has other back =
         let same : s'.keeper ≡ s.keeper = ap (λ (x : Stored K). x.keeper) back.2 in
@@ -243,9 +250,10 @@ module _ {K : Type 0} (members : Ghosts K)
           settles = record { up = up; passes = passes; other = λ on. other (one_head s.book.state (command_in d) head built.head has on); draft = back.0; view_is = back.1; after = back.2 };
           keeps = λ u. still s.keeper s'.keeper same;
           crash = crash_same same;
+          rests = λ x failed. same;
         }
 
-    module _ (shut : Stored K) (on : IsOn s d built) (left : shut ≡ record s { left_open = closed s d }) where
+    module _ (up : IsUp s) (shut : Stored K) (on : IsOn s d built) (left : shut ≡ record s { left_open = closed s d }) where
       abbrev Tells : Stored K → Result Told Refused → Type 0
       Tells made result = IsTold members d.caller shut made (attempt_on sha256 shut.book (in_draft d.caller at d.number d.place) (command_in d)) result
 
@@ -256,13 +264,13 @@ module _ {K : Type 0} (members : Ghosts K)
       pub settled_done : (x : Told) → Tells s' (Ok x) → It (settled.Done x)
       settled_done x is =
           let own = told_of s' (Ok x) is in
-          record { settles = (on, record { up = own.refers.up; said = own.refers.said; after = own.refers.after }); keeps = λ u. own.keeps; crash = λ u. own.crash }
+          record { settles = (on, record { up = own.refers.up; said = own.refers.said; after = own.refers.after }); keeps = λ u. own.keeps; crash = λ u. own.crash; rests = up_rests s s' up }
 
       -- it is refused, not for contents that are gone
       pub settled_unmade : (r : Refused) → is_expired r.why ≡ false → Tells s' (Err r) → It (settled.Refused r)
       settled_unmade r there is =
           let own = told_of s' (Err r) is in
-          record { settles = (λ u p no. on, refuses_draft called s d r r.why s' there (refused_on s called d.caller r s' (closed s d) r.why own.refers)); keeps = λ u. own.keeps; crash = λ u. own.crash }
+          record { settles = (λ u p no. on, refuses_draft called s d r r.why s' there (refused_on s called d.caller r s' (closed s d) r.why own.refers)); keeps = λ u. own.keeps; crash = λ u. own.crash; rests = up_rests s s' up }
 
       -- it is refused for these, and the mark tells of the draft then
       pub settled_expired : (r : Refused) (made : Stored K) → is_expired r.why ≡ true → s' ≡ record made { mark = record (made.mark) { expired = Some (opening_in d) } } → Tells made (Err r) → It (settled.Refused r)
@@ -283,4 +291,5 @@ module _ {K : Type 0} (members : Ghosts K)
             settles = (λ u p no. on, subst (λ (w : Refusal). RefusesDraft called s d r w s') (sym why) expires);
             keeps = λ u. subst (λ (k : K). KeepsTold members s.keeper k called.logged (Err r)) (sym keeper) own.keeps;
             crash = λ u. subst (λ (k : K). Leaves members s.keeper k called.logged) (sym keeper) own.crash;
+            rests = up_rests s s' up;
           }

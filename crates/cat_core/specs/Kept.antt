@@ -1,7 +1,8 @@
 -- What a call does to what keeps the log, by what was told.
-use Rattle.std.specs.Prelude.{◌≡◌, ℕ, List, Result, Ok, Err, IfErr, OnOk}
+use Rattle.std.specs.Prelude.{◌≡◌, ℕ, List, Some, Result, Ok, Err, IfErr, OnOk}
 use Rattle.cat_keeper.specs.declared.keeper.Keeper.{Ghosts}
 use Rattle.cat_model.specs.Calls.{Called}
+use Rattle.cat_model.specs.Mark.{FailedAppend}
 use Rattle.cat_model.specs.declared.log_entry.LogEntry.{LogEntry}
 use Rattle.cat_model.specs.declared.refusal.Refusal.TheVariants.{Fault}
 use Rattle.cat_model.specs.declared.refusal.Refused.{Refused}
@@ -38,8 +39,9 @@ pub record IsTold {K : Type 0} (members : Ghosts K) (caller : ℕ) (s s' : Store
   pub keeps : KeepsTold members s.keeper s'.keeper called.logged result
   pub crash : Leaves members s.keeper s'.keeper called.logged
 
--- all that is told of settling a draft
+-- all that is told of settling a draft: once an append has failed, the keeper isn't called any more
 pub record IsSettled {K : Type 0} (members : Ghosts K) (s s' : Stored K) (d : Draft) (built : Built) (at : ℕ) (result : Settled) : Type 0 where
   pub settles : Settles s d built at result s'
   pub keeps : IsUp s → KeepsSettled members s.keeper s'.keeper (called_in s d at).logged result
   pub crash : IsUp s → Leaves members s.keeper s'.keeper (called_in s d at).logged
+  pub rests : (x : FailedAppend) → s.mark.fault ≡ Some x → s'.keeper ≡ s.keeper

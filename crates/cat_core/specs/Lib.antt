@@ -14,7 +14,6 @@ pub mod Made
 pub mod Kept
 pub mod Opening
 pub mod Replays
-pub mod Whole
 pub mod Sweeping
 pub mod Sweeps
 pub mod Checkpointing

@@ -9,6 +9,8 @@ use Rattle.cat_checks.specs.Legal.{draft_is_new, draft_may_come, has_its_draft, 
 use Rattle.cat_checks.specs.Upheld.{Upholds}
 use Rattle.cat_frames.specs.Bases.{from_nothing, opened_by}
 use Rattle.cat_frames.specs.Entries.{is_logged, log_entry_code, of_nobody}
+use Rattle.cat_io.specs.Crashes.{LeavesOnly}
+use Rattle.cat_keeper.specs.declared.keeper.Keeper.{Ghosts}
 use Rattle.cat_keeper.specs.Bases.{base_of, base_place, entries_of}
 use Rattle.cat_model.specs.declared.limits.Limits.{Limits}
 use Rattle.cat_model.specs.declared.log_entry.LogEntry.{LogEntry}
@@ -132,6 +134,19 @@ may_follow o book entry = draft_may_come o entry.draft && may_stand book entry
 -- the numbers are those of the entries' drafts
 abbrev pub AreDrafts : List ℕ → List LogEntry → Type 0
 AreDrafts numbers log = (draft : ℕ) → list_any (nat_eq draft) numbers ≡ list_any (λ entry. nat_eq draft entry.draft) log
+
+-- ---- the keeper
+
+-- it was only read: all is as before, but for the count of faults, which a read that fails raises
+pub record WasRead {K : Type 0} (members : Ghosts K) (old new : K) : Type 0 where
+  pub payloads : members.told new ≡ members.told old
+  pub number : members.kept new ≡ members.kept old
+  pub first : members.start new ≡ members.start old
+  pub format : members.form new ≡ members.form old
+  pub fallen : members.down new ≡ members.down old
+  pub flies : members.in_flight new ≡ members.in_flight old
+  pub later : members.faults old ≤ members.faults new
+  pub crash : LeavesOnly members.moment members.left_since old new (members.may_leave old)
 
 -- ---- the payloads so far
 

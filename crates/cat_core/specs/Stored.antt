@@ -69,6 +69,11 @@ abbrev pub MayBeDown : {K : Type 0} → Stored K → Option ℕ → Type 0
 MayBeDown s None = IsUp s
 MayBeDown s (Some count) = IsDownAt s count
 
+-- the count of faults by the mark: the one at the log's start, or the one at which an append or a rebase failed
+abbrev pub faults_at : ℕ → Option FailedAppend → ℕ
+faults_at began None = began
+faults_at began (Some x) = x.count
+
 -- the mark tells of the open sweep, and its number isn't below that of the last one that was closed
 abbrev pub IsMarked : Mark → Option drafts.OpenSweep → Type 0
 IsMarked m None = m.sweep ≡ None
@@ -87,6 +92,11 @@ abbrev pub failed : Option Fallen → Option (List ℕ) → Option FailedAppend
 failed (Some f) (Some payload) = Some (record { caller = f.caller; count = f.count; payload = payload })
 failed (Some f) None = None
 failed None payload = None
+
+-- the count of faults by what is held of it
+abbrev pub fallen_faults : ℕ → Option Fallen → ℕ
+fallen_faults began None = began
+fallen_faults began (Some f) = f.count
 
 abbrev pub sweep_held : OpenSweep → drafts.OpenSweep
 sweep_held s = record {
@@ -123,14 +133,13 @@ held_open left_open sweep = record { drafts = map draft_held left_open; sweep = 
 
 -- ---- what holds of it
 
--- the keeper's payloads stand for the log, as far as they are told; and it is known at which count an append or a rebase failed, and what is in flight then
+-- the keeper's payloads stand for the log, as far as they are told; its count of faults is the one at the log's start, or the one at which an append or a rebase failed, which isn't below that and is above it, or at its type's end; and it is known what is in flight then
 pub record IsInStep {K : Type 0} (members : Ghosts K) (o : Opened) (book : Book) (keeper : K) (fell : Option Fallen) : Type 0 where
   pub payloads : IfSome (members.told keeper) (StandThrough o (reverse book.log))
   pub number : reached members keeper ≡ book.state.place
   pub fallen : members.down keeper ≡ option_map (λ (f : Fallen). f.count) fell
-  pub later : o.faults ≤ members.faults keeper
-  pub rose : IfSome fell (λ f. Rose o.faults (members.faults keeper))
-  pub counted : IfSome fell (λ f. Rose o.faults f.count × (f.count ≤ members.faults keeper))
+  pub level : members.faults keeper ≡ fallen_faults o.faults fell
+  pub rose : IfSome fell (λ f. (o.faults ≤ f.count) × Rose o.faults f.count)
   pub flies : IfSome fell (λ f. IfSome (members.in_flight keeper) (λ p. IfSome (members.told keeper) (IsInFlight o (reverse book.log) p)))
 
 -- behind the payloads that are told an entry of each open draft may come, and their base isn't after the open sweep

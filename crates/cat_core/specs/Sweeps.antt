@@ -24,7 +24,7 @@ use Rattle.cat_model.specs.Calls.{Called}
 use Rattle.cat_model.specs.Chain.{Commits}
 use Rattle.cat_model.specs.Cutoffs.{cutoff_for}
 use Rattle.cat_model.specs.Drafts.{Names, OpenDraft, OpenSweep, Opening}
-use Rattle.cat_model.specs.Mark.{Mark, last_sweep}
+use Rattle.cat_model.specs.Mark.{FailedAppend, Mark, last_sweep}
 use Rattle.cat_model.specs.Past.{Course, course, past_of}
 use Rattle.cat_model.specs.State.{State}
 use Rattle.cat_model.specs.Sweeps.{hash_set, saved, since, sweep_call, sweep_of}
@@ -225,11 +225,12 @@ Drops s (Some o) s' = s' ≡ shut s o
 abbrev pub IsOpened : Option OpenSweep → Type 0
 IsOpened sweep = (o : OpenSweep) × (sweep ≡ Some o)
 
--- all that is told of settling one
+-- all that is told of settling one: once an append has failed, the keeper isn't called any more
 pub record IsSettledSweep {K : Type 0} (members : Ghosts K) (s s' : Stored K) (o : OpenSweep) (moment : ℕ) (result : Result Told Refused) : Type 0 where
   pub refers : Refers (called_sweep s o moment) o.opening.caller (shut s o) s' result
   pub keeps : IsUp s → KeepsTold members s.keeper s'.keeper (called_sweep s o moment).logged result
   pub crash : IsUp s → Leaves members s.keeper s'.keeper (called_sweep s o moment).logged
+  pub rests : (x : FailedAppend) → s.mark.fault ≡ Some x → s'.keeper ≡ s.keeper
 
 -- once it is closed it may be logged
 abbrev pub MayBeClosed : Book → Option OpenSweep → Type 0

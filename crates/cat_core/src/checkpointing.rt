@@ -1,9 +1,10 @@
 //! Checkpoints: the state is written into the journal, which goes on from it.
 
-ghost use Rattle.std.specs.Prelude.{◌≡◌, IfOk, filter, map, nat_lt};
+ghost use Rattle.std.specs.Prelude.{◌≡◌, IfOk, Some, filter, map, nat_lt};
 ghost use Rattle.std.specs.Ordering.{nat_cmp};
 ghost use Rattle.cat_checks.specs.Histories.{IsLegalFrom};
 ghost use Rattle.cat_model.specs.KeySets.{set_of};
+ghost use Rattle.cat_model.specs.Mark.{FailedAppend};
 ghost use Rattle.cat_model.specs.Resuming.{drafts_below};
 ghost use Rattle.cat_model.specs.Turns.{Acts};
 ghost use Rattle.cat_state.specs.Kept.{LeavesBase};
@@ -80,7 +81,7 @@ impl<K: Keeper> Store<K> {
     /// of memory aside: `OldFormat` exactly where the journal's format has no checkpoints, and
     /// otherwise `SweepOpen` exactly where a sweep is open. `Ok` acknowledges it; after a `Fault` the
     /// journal may go on from it or not, and each later call is refused as `Down` at the count of
-    /// faults then.
+    /// faults then. Once an append or a checkpoint has failed, the keeper isn't called any more.
     #[tactic(auto, using(cat_keeper::specs::KeeperLaws::old_format))]
     pub fn checkpoint(&mut self, alloc: Global, caller: u32) -> Result<Told, Refused>
         ensures checkpoints { Checkpoints caller self.old self.new result }
@@ -90,6 +91,8 @@ impl<K: Keeper> Store<K> {
             (base_bytes self.old) result }
         ensures crash { IsUp self.old
             → LeavesBase K.Keeper self.old.keeper self.new.keeper (base_bytes self.old) }
+        ensures rests { (x : FailedAppend) → self.old.mark.fault ≡ Some x
+            → self.new.keeper ≡ self.old.keeper }
     {
         self.is_sound();
         let place = self.ledger.place();

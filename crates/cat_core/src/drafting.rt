@@ -1,6 +1,6 @@
 //! Calls that open a draft: opened in one turn, settled or dropped in a later one.
 
-ghost use Rattle.std.specs.Prelude.{◌≡◌, ◌+◌, Ok, true, IfErr, IfOk, IsTrue, OnErr, OnOk};
+ghost use Rattle.std.specs.Prelude.{◌≡◌, ◌+◌, Ok, Some, true, IfErr, IfOk, IsTrue, OnErr, OnOk};
 ghost use Rattle.sha2.specs.Sha256.{sha256};
 ghost use Rattle.cat_decisions.specs.Builds.{HasHead, IsBuilt, IsGivenBy, command_of};
 ghost use Rattle.cat_checks.specs.Histories.{IsLegalFrom};
@@ -13,6 +13,7 @@ ghost use Rattle.cat_model.specs.Book.{attempt_on};
 ghost use Rattle.cat_model.specs.Calls.{in_draft};
 ghost use Rattle.cat_model.specs.Drafts.{drafts_of};
 ghost use Rattle.cat_model.specs.Later.{IsLater};
+ghost use Rattle.cat_model.specs.Mark.{FailedAppend};
 ghost use Rattle.cat_model.specs.State.{State};
 ghost use Rattle.cat_model.specs.Step.{opening, opens_draft};
 ghost use Rattle.cat_model.specs.Turns.{Acts};
@@ -268,7 +269,8 @@ impl<K: Keeper> Store<K> {
     /// Settles a draft by what was built for it, unless the branch has another head than the one
     /// that was built on. `Done` acknowledges the entry of an accepted call; a `Fault` may have
     /// kept it or not, and each later call is refused as `Down` at the count of faults then.
-    /// `Expired` names only keys whose content was there at no moment since the draft's opening.
+    /// `Expired` names only keys whose content was there at no moment since the draft's opening. Once
+    /// an append has failed, the keeper isn't called any more.
     pub fn settle<'a>(
         &mut self,
         alloc: Global,
@@ -290,6 +292,8 @@ impl<K: Keeper> Store<K> {
         ensures crash { IsUp self.old
             → Leaves K.Keeper self.old.keeper self.new.keeper
             (called_in self.old draft.entry moment).logged }
+        ensures rests { (x : FailedAppend) → self.old.mark.fault ≡ Some x
+            → self.new.keeper ≡ self.old.keeper }
     {
         self.is_sound();
         self.settled(alloc, draft, built, moment)

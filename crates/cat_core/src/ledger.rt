@@ -4,7 +4,7 @@
 //! for a fault of the keeper, which leave state and log as they were. What a call comes to is
 //! decided on the catalogue as it stands, and carried out then. The call of an entry may be made
 //! again, in the entry's own draft. The log starts from the empty catalogue, or from that of a
-//! checkpoint. The map at each commit is well-formed.
+//! checkpoint.
 
 ghost use Rattle.std.specs.Prelude.{◌≡◌, ◌≤◌, [], None, true, false, IfOk, IfSome, IsTrue, length, reverse};
 ghost use Rattle.sha2.specs.Sha256.{sha256};
@@ -15,8 +15,6 @@ ghost use Rattle.cat_model.specs.Book.{first_book};
 ghost use Rattle.cat_model.specs.Resuming.{last_draft};
 ghost use Rattle.cat_frames.specs.Standing.{may_start};
 ghost use Rattle.cat_tables.specs.References.{names_ascend};
-ghost use Rattle.cat_model.specs.Chain.{entries};
-ghost use Rattle.cat_model.specs.Namespaces.{is_well_formed};
 ghost use Rattle.cat_model.specs.Pages.{first};
 ghost use Rattle.std.specs.Option.{option_copied};
 
@@ -36,7 +34,6 @@ use cat_codes::fault::NoMemory;
 use cat_frames::Checkpoint;
 use cat_model::limits::Limits;
 use cat_model::log_entry::LogEntry;
-use cat_names::hash::Hash;
 use cat_state::catalogue::Catalogue;
 use cat_state::shared::SharedCatalogue;
 use cat_state::view::View;
@@ -157,13 +154,6 @@ impl Ledger {
         ensures { result ≡ last_draft start (reverse self.now.log) }
     {
         last_of(self.log.as_slice(), start)
-    }
-
-    /// What holds of the map at each commit: the parent of each key is there as a namespace.
-    pub fn map_is_well_formed(&self, hash: &Hash)
-        ensures { IsTrue (is_well_formed (entries self.now.state.commits hash.now)) }
-    {
-        self.catalogue().map_is_well_formed(hash)
     }
 
     /// The newest entry of the log.

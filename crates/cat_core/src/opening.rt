@@ -7,8 +7,8 @@ ghost use Rattle.cat_frames.specs.Checkpoints.{checkpoint_code};
 ghost use Rattle.cat_io.specs.Causes.{Rose};
 ghost use Rattle.cat_keeper.specs.Bases.{base_place};
 ghost use Rattle.cat_frames.specs.Standing.{may_start};
-ghost use Rattle.cat_state.specs.Kept.{Stayed, reached};
-ghost use Rattle.cat_core.specs.Opening.{HasBase, IsAdded, IsEntryAt, IsIllegalAt, IsLedTo, led_base, next_by};
+ghost use Rattle.cat_state.specs.Kept.{reached};
+ghost use Rattle.cat_core.specs.Opening.{HasBase, IsAdded, IsEntryAt, IsIllegalAt, IsLedTo, WasRead, led_base, next_by};
 ghost use Rattle.cat_core.specs.Replays.{Begins, ReadsBase, StartsBy, StartsOn, replayed_from};
 ghost use Rattle.cat_core.specs.Stored.{opened_held};
 ghost use Rattle.cat_core.specs.Sweeping.{IsFollowed};
@@ -73,7 +73,7 @@ fn add_payload<K: Keeper>(
         → Rose (K.faults keeper.old) (K.faults keeper.new) }
     ensures level { (IsErrOf result StoreFault.Fault → ⊥)
         → K.faults keeper.new ≡ K.faults keeper.old }
-    ensures stays { Stayed K.Keeper keeper.old keeper.new }
+    ensures stays { WasRead K.Keeper keeper.old keeper.new }
 {
     match keeper.entry(alloc, i) {
         Ok(payload) => {
@@ -98,7 +98,7 @@ fn base_of<K: Keeper>(alloc: Global, keeper: &mut K) -> Result<Option<Bytes>, St
         → Rose (K.faults keeper.old) (K.faults keeper.new) }
     ensures level { (IsErrOf result StoreFault.Fault → ⊥)
         → K.faults keeper.new ≡ K.faults keeper.old }
-    ensures stays { Stayed K.Keeper keeper.old keeper.new }
+    ensures stays { WasRead K.Keeper keeper.old keeper.new }
 {
     match keeper.base(alloc) {
         Ok(base) => Ok(base),
@@ -255,7 +255,7 @@ fn started<K: Keeper>(alloc: Global, keeper: &mut K, limits: Limits) -> Result<R
         → Rose (K.faults keeper.old) (K.faults keeper.new) }
     ensures level { (IsErrOf result StoreFault.Fault → ⊥)
         → K.faults keeper.new ≡ K.faults keeper.old }
-    ensures stays { Stayed K.Keeper keeper.old keeper.new }
+    ensures stays { WasRead K.Keeper keeper.old keeper.new }
 {
     let payloads = keeper.total();
     let first = keeper.first();
@@ -283,7 +283,7 @@ pub(crate) fn led_to<K: Keeper>(
         → Rose (K.faults keeper.old) (K.faults keeper.new) }
     ensures level { (IsErrOf result StoreFault.Fault → ⊥)
         → K.faults keeper.new ≡ K.faults keeper.old }
-    ensures stays { Stayed K.Keeper keeper.old keeper.new }
+    ensures stays { WasRead K.Keeper keeper.old keeper.new }
 {
     let mut replay = started(alloc, keeper, limits)?;
     for i in 0..keeper.count() {

@@ -1,6 +1,6 @@
 //! Calls that open no draft.
 
-ghost use Rattle.std.specs.Prelude.{◌≡◌, None, false, IsTrue};
+ghost use Rattle.std.specs.Prelude.{◌≡◌, None, Some, false, IsTrue};
 ghost use Rattle.sha2.specs.Sha256.{sha256};
 ghost use Rattle.cat_checks.specs.Histories.{IsLegalFrom};
 ghost use Rattle.cat_core.specs.Drafts.{Refers};
@@ -8,6 +8,7 @@ ghost use Rattle.cat_core.specs.Kept.{IsTold, KeepsTold};
 ghost use Rattle.cat_core.specs.Stored.{IsUp, snap};
 ghost use Rattle.cat_state.specs.Kept.{Leaves};
 ghost use Rattle.cat_model.specs.Book.{call_on};
+ghost use Rattle.cat_model.specs.Mark.{FailedAppend};
 ghost use Rattle.cat_model.specs.Step.{opens_draft};
 ghost use Rattle.cat_model.specs.Turns.{Acts};
 ghost use Rattle.cat_model.specs.WellMade.{is_well_made};
@@ -46,7 +47,8 @@ impl<K: Keeper> Store<K> {
     }
 
     /// Makes, moves or removes a reference. `Ok` acknowledges the call's entry; a `Fault` may have
-    /// kept it or not, and each later call is refused as `Down` at the count of faults then.
+    /// kept it or not, and each later call is refused as `Down` at the count of faults then. Once an
+    /// append has failed, the keeper isn't called any more.
     pub fn refer(
         &mut self,
         alloc: Global,
@@ -65,6 +67,8 @@ impl<K: Keeper> Store<K> {
         ensures crash { IsUp self.old
             → Leaves K.Keeper self.old.keeper self.new.keeper
             (call_on sha256 caller self.old.book command.now moment).logged }
+        ensures rests { (x : FailedAppend) → self.old.mark.fault ≡ Some x
+            → self.new.keeper ≡ self.old.keeper }
     {
         self.is_sound();
         match self.down() {

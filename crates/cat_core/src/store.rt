@@ -12,20 +12,18 @@ ghost use Rattle.cat_model.specs.Maps.{entry_of};
 ghost use Rattle.cat_model.specs.declared.log_entry.LogEntry.{LogEntry};
 ghost use Rattle.cat_model.specs.Mark.{FailedAppend, new_mark};
 ghost use Rattle.cat_model.specs.Turns.{Opened};
-ghost use Rattle.cat_model.specs.Namespaces.{is_well_formed};
 ghost use Rattle.cat_frames.specs.Bases.{from_nothing};
 ghost use Rattle.cat_io.specs.Causes.{Rose};
 ghost use Rattle.cat_keeper.specs.Bases.{bases_in};
 ghost use Rattle.cat_keeper.specs.Keeping.{is_format};
 ghost use Rattle.cat_state.specs.Counting.{main_head};
-ghost use Rattle.cat_state.specs.Kept.{Stayed, reached};
+ghost use Rattle.cat_state.specs.Kept.{reached};
 ghost use Rattle.cat_core.specs.Lasting.{AreLasting, IsHolding};
-ghost use Rattle.cat_core.specs.Opening.{IsIllegalAt, IsLedTo, OpenThrough, Opens};
+ghost use Rattle.cat_core.specs.Opening.{IsIllegalAt, IsLedTo, OpenThrough, Opens, WasRead};
 ghost use Rattle.cat_core.specs.Records.{GoesOn, StandFlown, StandFor, StandThrough};
 ghost use Rattle.cat_graph.specs.Linked.{AreLinked};
-ghost use Rattle.cat_core.specs.Stored.{IsMarked, IsSound, KnowsNames, MayBeDown, is_headed, log_of, opened_held, opened_of};
+ghost use Rattle.cat_core.specs.Stored.{IsMarked, IsSound, KnowsNames, MayBeDown, faults_at, is_headed, log_of, opened_held, opened_of};
 ghost use Rattle.cat_core.specs.Sweeps.{MayBeClosed};
-ghost use Rattle.cat_core.specs.Whole.{HasHeads, HasVisible};
 
 use crate::ledger::Ledger;
 use crate::opening::{StoreFault, led_to};
@@ -38,7 +36,6 @@ use cat_model::limits::Limits;
 use cat_model::logged::Logged;
 use cat_model::refusal::Refused;
 use cat_model::reply::Told;
-use cat_names::hash::Hash;
 use cat_names::key::ContentKey;
 use cat_state::counts::Counts;
 use std::alloc::Global;
@@ -194,8 +191,8 @@ impl<K: Keeper> Store<K> {
         ensures place { IfOk result (λ store. store.opened.state.place ≡ K.start keeper) }
         ensures began { IfOk result (λ store. store.opened.faults ≡ K.faults store.keeper) }
         ensures stays { MatchResult result
-            (λ store. Stayed K.Keeper keeper store.keeper)
-            (λ e. Stayed K.Keeper keeper e.0) }
+            (λ store. WasRead K.Keeper keeper store.keeper)
+            (λ e. WasRead K.Keeper keeper e.0) }
         ensures illegal { IfErr result
             (λ e. (place : ℕ) → e.1 ≡ StoreFault.Illegal place
             → IsIllegalAt (K.told keeper) limits place) }
@@ -242,13 +239,6 @@ impl<K: Keeper> Store<K> {
         self.ledger.entry_on_main(key)
     }
 
-    /// What holds of the map at each commit: the parent of each key is there as a namespace.
-    pub fn map_is_well_formed(&self, hash: &Hash)
-        ensures { IsTrue (is_well_formed (entries self.now.book.state.commits hash.now)) }
-    {
-        self.ledger.map_is_well_formed(hash)
-    }
-
     /// What holds of the log: each entry is legal where it stands, and it leads to the state, in
     /// which `main` is a branch, and each commit and each content stands under its hash.
     pub fn history(&self)
@@ -259,15 +249,6 @@ impl<K: Keeper> Store<K> {
         ensures draft { self.now.mark.draft ≡ self.now.book.draft }
     {
         let _ = &self.fallen;
-    }
-
-    /// What holds of the state: each reference points at a commit that is there, or at the hash
-    /// that has no ancestor, and each content that is visible where one points is there.
-    pub fn nothing_is_missing(&self)
-        ensures heads { HasHeads sha256 self.now.book.state }
-        ensures visible { HasVisible self.now.book.state }
-    {
-        let _ = self.ledger.catalogue().references();
     }
 
     /// What holds of the book and of the drafts beside it.
@@ -319,7 +300,9 @@ impl<K: Keeper> Store<K> {
     /// What holds of the keeper: its payloads stand for the log, and the mark tells of its bases and
     /// of its failed append or rebase. With the payload that this left in flight they stand for the
     /// log, or for it and one entry more. With it or without it they are opened again, and so they
-    /// are at each length that they had since the log was opened.
+    /// are at each length that they had since the log was opened. No call of it failed since then
+    /// but that one: its count of faults is the one at the opening, or the one that the mark tells,
+    /// which is above that, or at its type's end.
     pub fn log_is_kept(&self)
         ensures payloads { IfSome (K.told self.now.keeper)
             (StandThrough self.now.opened (log_of self.now)) }
@@ -339,11 +322,10 @@ impl<K: Keeper> Store<K> {
         ensures again_flown { (x : FailedAppend) → self.now.mark.fault ≡ Some x
             → IfSome (K.told self.now.keeper)
             (λ ps. Opens self.now.opened.state.limits (ps ++ x.payload ∷ [])) }
-        ensures later { self.now.opened.faults ≤ K.faults self.now.keeper }
+        ensures level { K.faults self.now.keeper
+            ≡ faults_at self.now.opened.faults self.now.mark.fault }
         ensures rose { (x : FailedAppend) → self.now.mark.fault ≡ Some x
-            → Rose self.now.opened.faults (K.faults self.now.keeper) }
-        ensures counted { (x : FailedAppend) → self.now.mark.fault ≡ Some x
-            → Rose self.now.opened.faults x.count × (x.count ≤ K.faults self.now.keeper) }
+            → (self.now.opened.faults ≤ x.count) × Rose self.now.opened.faults x.count }
     {
         let _ = &self.fallen;
     }

@@ -8,7 +8,7 @@ ghost use Rattle.cat_checks.specs.Legal.{may_be_swept};
 ghost use Rattle.cat_frames.specs.Sweeps.{resolved_is_logged, sweep_is_logged};
 ghost use Rattle.cat_mark.specs.Walked.{HaveWalked};
 ghost use Rattle.cat_model.specs.Drafts.{OpenSweep as OpenSweepValue};
-ghost use Rattle.cat_model.specs.Mark.{closed_number};
+ghost use Rattle.cat_model.specs.Mark.{FailedAppend, closed_number};
 ghost use Rattle.cat_model.specs.Sweeps.{names_in};
 ghost use Rattle.cat_model.specs.Turns.{Acts};
 ghost use Rattle.cat_state.specs.Kept.{Leaves};
@@ -302,7 +302,7 @@ impl<K: Keeper> Store<K> {
     /// it marks what was made and named since they were given. The sweep is closed, whatever the
     /// answer, and what open drafts name is there if it was since their opening. `Ok` acknowledges
     /// its entry; a `Fault` may have kept it or not, and each later call is refused as `Down` at
-    /// the count of faults then.
+    /// the count of faults then. Once an append has failed, the keeper isn't called any more.
     pub fn sweep(
         &mut self,
         alloc: Global,
@@ -324,6 +324,8 @@ impl<K: Keeper> Store<K> {
             → (o : OpenSweepValue) → self.old.left_open.sweep ≡ Some o
             → Leaves K.Keeper self.old.keeper self.new.keeper
             (called_sweep self.old o moment).logged }
+        ensures rests { (x : FailedAppend) → self.old.mark.fault ≡ Some x
+            → self.new.keeper ≡ self.old.keeper }
         ensures lasting { AreLasting self.new.book self.new.left_open.drafts }
     {
         self.is_sound();

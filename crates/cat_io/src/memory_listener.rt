@@ -44,7 +44,7 @@ pub struct MemoryListener {
 }
 
 impl MemoryListener {
-    ghost use Rattle.std.specs.Prelude.{[], ◌-◌, ◌^◌, IfOk, map};
+    ghost use Rattle.std.specs.Prelude.{[], ◌-◌, ◌^◌, IfErr, IfOk, map};
     ghost use Rattle.std.specs.Option.{option_map};
     ghost use Rattle.cat_io.specs.Listening.{IsFresh};
     ghost use Rattle.cat_io.specs.MemoryListeners.{faults_in, heard_by, lists_in, out_of, plan_of, rejoined_to, returned_to, twins_of, waiting_in};
@@ -64,8 +64,32 @@ impl MemoryListener {
         ensures twins { IfOk result (λ l. twins_of l ≡ 0) }
         ensures faults { IfOk result (λ l. faults_in l ≡ 0) }
     {
-        let address = Vec::with_capacity(alloc, ADDRESS_ROOM)?;
-        let returned = Vec::with_capacity(alloc, own.connections.len())?;
+        match MemoryListener::of_list(alloc, own) {
+            Ok(mut listener) => {
+                listener.lists = VecDeque::from_vec(lists);
+                Ok(listener)
+            }
+            Err(_) => Err(AllocError),
+        }
+    }
+
+    // A listener of which no twin is given anything; where there is no room for it, the list.
+    fn of_list(alloc: Global, own: ConnectionList) -> Result<MemoryListener, ConnectionList>
+        ensures waiting { IfOk result (λ l. waiting_in l ≡ own.connections.items) }
+        ensures plan { IfOk result (λ l. plan_of l ≡ planned own.failing.items (2 ^ 64 - 1)) }
+        ensures lists { IfOk result (λ l. lists_in l ≡ []) }
+        ensures fresh { IfOk result (IsFresh heard_by returned_to out_of) }
+        ensures rejoined { IfOk result (λ l. rejoined_to l ≡ []) }
+        ensures twins { IfOk result (λ l. twins_of l ≡ 0) }
+        ensures faults { IfOk result (λ l. faults_in l ≡ 0) }
+        ensures refused { IfErr result (λ list. list ≡ own) }
+    {
+        let Ok(address) = Vec::with_capacity(alloc, ADDRESS_ROOM) else {
+            return Err(own);
+        };
+        let Ok(returned) = Vec::with_capacity(alloc, own.connections.len()) else {
+            return Err(own);
+        };
         Ok(MemoryListener {
             alloc,
             calls: Calls::new(own.failing),
@@ -75,7 +99,7 @@ impl MemoryListener {
             waiting: VecDeque::from_vec(own.connections),
             returned,
             out: 0,
-            lists: VecDeque::from_vec(lists),
+            lists: VecDeque::new(alloc),
             rejoined: Vec::new(alloc),
             twins: 0,
         })
@@ -116,7 +140,7 @@ impl MemoryListener {
 }
 
 impl Listener for MemoryListener {
-    ghost use Rattle.std.specs.Prelude.{◌-◌, IfOk, IsErr, OnOk, drop, is_err, true};
+    ghost use Rattle.std.specs.Prelude.{◌-◌, IfOk, IsErr, OnErr, OnOk, drop, is_err, true};
     ghost use Rattle.cat_io.specs.Causes.{HasCause, raised_by, raised_if};
     ghost use Rattle.cat_io.specs.Listening.{Deals, Gives, Hears, IsFresh, OwnStay, Stands, TakesBack, TwinsStay, count_given, count_made};
     ghost use Rattle.cat_io.specs.MemoryListeners.{IsMadeOf, dealt_by, faults_in, heard_by, kept_of, listen_fails, lists_in, out_of, plan_of, rejoined_to, returned_to, twins_of, waiting_in};
@@ -177,20 +201,29 @@ impl Listener for MemoryListener {
         ensures made { IfOk result (IsMadeOf (lists_in self.old)) }
         ensures lists { OnOk result (lists_in self.new ≡ drop 1 (lists_in self.old)) }
         ensures deals { IfOk result (Deals waiting_in (dealt_by self.old) (dealt_by self.new)) }
+        ensures stays { OnErr result (lists_in self.new ≡ lists_in self.old) }
     {
         if self.calls.next_fails() {
             return Err(AllocError);
         }
         let twins = self.twins.checked_add(1).ok_or(AllocError)?;
         self.rejoined.try_reserve(twins)?;
-        let list = match self.lists.pop_front() {
-            Some(list) => list,
-            None => ConnectionList {
-                connections: Vec::new(self.alloc),
-                failing: Vec::new(self.alloc),
+        let twin = match self.lists.pop_front() {
+            Some(list) => match MemoryListener::of_list(self.alloc, list) {
+                Ok(twin) => twin,
+                Err(list) => {
+                    self.lists.push_front_reserved(list);
+                    return Err(AllocError);
+                }
             },
+            None => {
+                let nothing = ConnectionList {
+                    connections: Vec::new(self.alloc),
+                    failing: Vec::new(self.alloc),
+                };
+                MemoryListener::new(self.alloc, nothing, Vec::new(self.alloc))?
+            }
         };
-        let twin = MemoryListener::new(self.alloc, list, Vec::new(self.alloc))?;
         self.twins = twins;
         Ok(twin)
     }

@@ -96,27 +96,31 @@ pub next_dealt : {L K : Type 0} (waiting : L → List K) (dealt now rest : List 
 next_dealt {L} {K} waiting dealt now rest n twin is deals = (deals.given ∙ ap (λ (l : List (List K)). first_of l) is, deals.rest ∙ ap (λ (l : List (List K)). drop 1 l) is ∙ drop-drop 1 n dealt)
 
 -- what twins were dealt comes back, none of it, and that of one more
-pub comes_back : {K : Type 0} (dealt groups : List (List K)) → ComesBack dealt groups groups
-comes_back dealt groups = record { twins = []; stands = sym (append-nil groups); as_dealt = tt }
+pub comes_back : {K : Type 0} (dealt groups : List (List K)) → ComesBack dealt dealt groups groups
+comes_back dealt groups = record { twins = []; stands = sym (append-nil groups); as_dealt = tt; rest = refl }
+
+behind : (n m : ℕ) → m ≡ n + 1 → 1 + n ≡ m
+behind n m is = omega (arith, is)
 
 module _ {K : Type 0} where
+  -- what is left behind as many groups, and the first before them
+  past_first : (dealt groups : List (List K)) (group : List K) → drop (length groups) (drop 1 dealt) ≡ drop (length (groups ++ group ∷ [])) dealt
+  past_first dealt groups group = drop-drop (length groups) 1 dealt ∙ ap (λ (n : ℕ). drop n dealt) (behind (length groups) (length (groups ++ group ∷ [])) (length_push groups group))
+
   as_dealt_more : (dealt groups : List (List K)) (group : List K) → AreAsDealt (drop 1 dealt) groups → group ≡ first_of dealt → AreAsDealt dealt (groups ++ group ∷ [])
   as_dealt_more dealt [] group all is = (is, tt)
-  as_dealt_more dealt (g ∷ groups) group (one, rest) is = (
-    one ∙ ap (λ (l : List (List K)). first_of l) (drop-drop (length groups) 1 dealt ∙ ap (λ (n : ℕ). drop n dealt) (behind (length groups) (length (groups ++ group ∷ [])) (length_push groups group))),
-    as_dealt_more dealt groups group rest is,
-  )
-    where
-      behind : (n m : ℕ) → m ≡ n + 1 → 1 + n ≡ m
-      behind n m is = omega (arith, is)
+  as_dealt_more dealt (g ∷ groups) group (one, rest) is = (one ∙ ap (λ (l : List (List K)). first_of l) (past_first dealt groups group), as_dealt_more dealt groups group rest is)
 
-  pub comes_back_more : (groups mid now dealt : List (List K)) (left rest : ℕ) (returned waits : List K) → ComesBack (drop left dealt) groups mid → returned ≡ [] → waits ≡ first_of (drop rest dealt) → rest + 1 ≡ left
-      → now ≡ mid ++ (returned ++ waits) ∷ [] → ComesBack (drop rest dealt) groups now
-  comes_back_more groups mid now dealt left rest returned waits b none is less one = record {
-    twins = b.twins ++ waits ∷ [];
-    stands = one ∙ ap (λ (l : List K). mid ++ (l ++ waits) ∷ []) none ∙ ap (λ (l : List (List K)). l ++ waits ∷ []) b.stands ∙ append_assoc groups b.twins (waits ∷ []);
-    as_dealt = as_dealt_more (drop rest dealt) b.twins waits (subst (λ (l : List (List K)). AreAsDealt l b.twins) (ap (λ (n : ℕ). drop n dealt) (sym less) ∙ sym (drop-drop 1 rest dealt)) b.as_dealt) is;
-  }
+  pub comes_back_more : (groups mid now dealt over : List (List K)) (left rest : ℕ) (returned waits : List K) → ComesBack (drop left dealt) over groups mid → returned ≡ [] → waits ≡ first_of (drop rest dealt) → rest + 1 ≡ left
+      → now ≡ mid ++ (returned ++ waits) ∷ [] → ComesBack (drop rest dealt) over groups now
+  comes_back_more groups mid now dealt over left rest returned waits b none is less one =
+      let next : drop left dealt ≡ drop 1 (drop rest dealt) = ap (λ (n : ℕ). drop n dealt) (sym less) ∙ sym (drop-drop 1 rest dealt) in
+      record {
+        twins = b.twins ++ waits ∷ [];
+        stands = one ∙ ap (λ (l : List K). mid ++ (l ++ waits) ∷ []) none ∙ ap (λ (l : List (List K)). l ++ waits ∷ []) b.stands ∙ append_assoc groups b.twins (waits ∷ []);
+        as_dealt = as_dealt_more (drop rest dealt) b.twins waits (subst (λ (l : List (List K)). AreAsDealt l b.twins) next b.as_dealt) is;
+        rest = b.rest ∙ ap (λ (l : List (List K)). drop (length b.twins) l) next ∙ past_first (drop rest dealt) b.twins waits;
+      }
 
 -- numbers of passes, where a worker is the last, and where one comes behind the others
 module _ {L C : Type 0} where

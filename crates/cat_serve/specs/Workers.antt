@@ -32,11 +32,12 @@ abbrev pub AreAsDealt : {K : Type 0} → List (List K) → List (List K) → Typ
 AreAsDealt dealt [] = Unit {0}
 AreAsDealt dealt (group ∷ groups) = (group ≡ first_of (drop (length groups) dealt)) × AreAsDealt dealt groups
 
--- twins came back with what they were dealt, as it was, and it stands behind what came back to earlier twins
-pub record ComesBack {K : Type 0} (dealt groups groups_now : List (List K)) : Type 0 where
+-- twins came back with what they were dealt, as it was, and it stands behind what came back to earlier twins; the rest is left for those to come
+pub record ComesBack {K : Type 0} (dealt left groups groups_now : List (List K)) : Type 0 where
   pub twins : List (List K)
   pub stands : groups_now ≡ groups ++ twins
   pub as_dealt : AreAsDealt dealt twins
+  pub rest : left ≡ drop (length twins) dealt
 
 module _ {In Out : Type 0} (e : Ends In Out) (desk : DeskId) (attempts : ℕ) where
   -- a connection was served, from one pass to another: its ends were given as x and left as y

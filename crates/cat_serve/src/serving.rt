@@ -1,6 +1,6 @@
 //! Serving a listener's connections by several workers at once.
 
-ghost use Rattle.std.specs.Prelude.{All, Bool, IfSome, IsTrue, List, Option, [], drop, false, length, max, true, vec_capacity, vec_len, ℕ, ◌+◌, ◌++◌, ◌-◌, ◌<◌, ◌^◌, ◌||◌, ◌≡◌, ◌≢◌, ◌≤◌};
+ghost use Rattle.std.specs.Prelude.{All, Bool, IfSome, IsTrue, List, None, Option, [], drop, false, length, max, true, vec_capacity, vec_len, ℕ, ◌+◌, ◌++◌, ◌-◌, ◌<◌, ◌^◌, ◌||◌, ◌≡◌, ◌≢◌, ◌≤◌};
 ghost use Rattle.std.specs.Option.{option_to_list};
 ghost use Rattle.cat_desk.specs.Pass.{CarriesOn, HasNumber, Keeps, Remembers, number_of, spare_of, stands_for};
 ghost use Rattle.cat_io.specs.Causes.{Rose};
@@ -67,7 +67,8 @@ pub fn serve_all<R: Threads + Wait + Sync, K0: Keeper, L: Listener, C: Clock + D
         × (IsTrue (L.tells listener.old)
         → (L.waiting listener.new ≡ L.waiting listener.old)
         × (L.returned listener.new ≡ L.returned listener.old)
-        × ComesBack (L.dealt listener.old) (L.rejoined listener.old) (L.rejoined listener.new)) }
+        × ComesBack (L.dealt listener.old) (L.dealt listener.new) (L.rejoined listener.old)
+        (L.rejoined listener.new)) }
     ensures ready { IsReady desk.now pass.new }
     ensures kept { (number_of pass.new ≡ number_of pass.old)
         × (stands_for pass.new + spare_of pass.new ≡ stands_for pass.old + spare_of pass.old) }
@@ -145,8 +146,7 @@ fn hire_all<K0: Keeper, L: Listener, C: Clock>(
         → L.twins listener.new ≡ L.twins listener.old + vec_len others.new }
     ensures dealt { AreDealt L.waiting (L.tells listener.old) (L.dealt listener.old)
         others.new.items }
-    ensures rest { result ≡ true
-        → IsTrue (L.tells listener.old)
+    ensures rest { IsTrue (L.tells listener.old)
         → L.dealt listener.new ≡ drop (vec_len others.new) (L.dealt listener.old) }
 {
     'hiring: while others.len() < count {
@@ -187,6 +187,7 @@ fn hire<K0: Keeper, L: Listener, C: Clock>(
     ensures deals { IfSome result
         (λ worker. IsTrue (L.tells listener.old)
         → Deals L.waiting (L.dealt listener.old) (L.dealt listener.new) worker.listener) }
+    ensures stays { result ≡ None → L.dealt listener.new ≡ L.dealt listener.old }
 {
     let Ok(twin) = listener.twin() else {
         return None;
@@ -310,7 +311,8 @@ fn dismiss<K0: Keeper, L: Listener, C: Drop>(
         → All (HasNone L.returned) others.items
         → AreDealt L.waiting (L.tells listener.old) dealt others.items
         → IsTrue (L.tells listener.old)
-        → ComesBack dealt (L.rejoined listener.old) (L.rejoined listener.new) }
+        → ComesBack dealt (drop (vec_len others) dealt) (L.rejoined listener.old)
+        (L.rejoined listener.new) }
     ensures back { (attempts number : ℕ) (ahead : Option Readings) (p : Pass)
         (dealt : List (List (L.In × L.Out)))
         → AreDone (ends_of L.In.left L.In.faults L.Out.held L.Out.faults) desk.now attempts

@@ -30,11 +30,11 @@ module _ {K : Type 0} (members : Ghosts K)
     (only_now : (k : K) (c : Option (List (List ℕ))) → members.left_since k (members.moment k) c → members.may_leave k c) where
   -- nothing was done
   pub stays : (k : K) → Stayed members k k
-  stays k = record { payloads = refl; number = refl; first = refl; format = refl; fallen = refl; flies = refl; later = omega arith; crash = started members.moment members.left_since k (members.may_leave k) (only_now k) }
+  stays k = record { payloads = refl; number = refl; first = refl; format = refl; fallen = refl; flies = refl; level = refl; crash = started members.moment members.left_since k (members.may_leave k) (only_now k) }
 
   -- nothing was done, and nothing was to be logged
   pub grows_none : (k : K) → members.down k ≡ None → Grew members k k []
-  grows_none k up = record { payloads = none_more (members.told k); read = tt; number = omega arith; first = refl; format = refl; up = up; later = omega arith; crash = started members.moment members.left_since k (members.may_leave k) (only_now k) }
+  grows_none k up = record { payloads = none_more (members.told k); read = tt; number = omega arith; first = refl; format = refl; up = up; level = refl; crash = started members.moment members.left_since k (members.may_leave k) (only_now k) }
 
   -- what one might have left before is one of the payloads without more
   without : (k : K) (entries : List LogEntry) (c : Option (List (List ℕ))) → members.down k ≡ None → members.may_leave k c → WithOrWithoutAll (members.told k) entries c
@@ -60,21 +60,21 @@ module _ {K : Type 0} (members : Ghosts K)
   told_same old mid new same now = subst (λ (t : Option (List (List ℕ))). crashes.Told t (members.told new) (λ before now. now ≡ before)) same now
 
   pub appended_ok : (old mid new : K) (entry : LogEntry) (bytes : List ℕ) → members.down old ≡ None → Stayed members old mid → bytes ≡ spelling entry → whole (log_entry_code sha256) bytes ≡ Ok (of_nobody entry) → crashes.Told (members.told mid) (members.told new) (λ before now. now ≡ before ++ bytes ∷ [])
-      → members.kept new ≡ members.kept mid + 1 → members.start new ≡ members.start mid → members.form new ≡ members.form mid → members.down new ≡ None → members.faults mid ≤ members.faults new → LeavesOnly members.moment members.left_since mid new (λ c. IfSome (members.told mid) (λ ps. WithOrWithout ps bytes c)) → Grew members old new (entry ∷ [])
-  appended_ok old mid new entry bytes up room spelled again payloads number first format is_up later run = record {
+      → members.kept new ≡ members.kept mid + 1 → members.start new ≡ members.start mid → members.form new ≡ members.form mid → members.down new ≡ None → members.faults new ≡ members.faults mid → LeavesOnly members.moment members.left_since mid new (λ c. IfSome (members.told mid) (λ ps. WithOrWithout ps bytes c)) → Grew members old new (entry ∷ [])
+  appended_ok old mid new entry bytes up room spelled again payloads number first format is_up level run = record {
     payloads = told_more old mid new entry bytes room.payloads spelled payloads;
     read = (ap (whole (log_entry_code sha256)) (sym spelled) ∙ again, tt);
     number = number ∙ ap (λ (k : ℕ). k + 1) room.number;
     first = first ∙ room.first;
     format = format ∙ room.format;
     up = is_up;
-    later = omega (arith, room.later, later);
+    level = level ∙ room.level;
     crash = appended old mid new entry bytes up room.payloads spelled room.crash run;
   }
 
-  pub append_failed : (old mid new : K) (entry : LogEntry) (bytes : List ℕ) → members.down old ≡ None → Stayed members old mid → members.faults mid ≡ members.faults old → bytes ≡ spelling entry → whole (log_entry_code sha256) bytes ≡ Ok (of_nobody entry) → crashes.Told (members.told mid) (members.told new) (λ before now. now ≡ before)
+  pub append_failed : (old mid new : K) (entry : LogEntry) (bytes : List ℕ) → members.down old ≡ None → Stayed members old mid → bytes ≡ spelling entry → whole (log_entry_code sha256) bytes ≡ Ok (of_nobody entry) → crashes.Told (members.told mid) (members.told new) (λ before now. now ≡ before)
       → members.kept new ≡ members.kept mid → members.start new ≡ members.start mid → members.form new ≡ members.form mid → members.down new ≡ Some (members.faults new) → members.in_flight new ≡ Some bytes → HasKeepCause {T = Unit {0}} (members.faults mid) (members.faults new) (Err KeepFault.Fault) → LeavesOnly members.moment members.left_since mid new (λ c. IfSome (members.told mid) (λ ps. WithOrWithout ps bytes c)) → Fell members old new (entry ∷ [])
-  append_failed old mid new entry bytes up room count spelled again payloads number first format fallen flies cause run = record {
+  append_failed old mid new entry bytes up room spelled again payloads number first format fallen flies cause run = record {
     entry = entry;
     one = refl;
     flies = flies ∙ ap (λ (b : List ℕ). Some b) spelled;
@@ -84,8 +84,8 @@ module _ {K : Type 0} (members : Ghosts K)
     first = first ∙ room.first;
     format = format ∙ room.format;
     fallen = fallen;
-    later = omega (arith, room.later, cause.0);
-    rose = subst (λ (n : ℕ). Rose n (members.faults new)) count cause.1;
+    later = subst (λ (n : ℕ). n ≤ members.faults new) room.level cause.0;
+    rose = subst (λ (n : ℕ). Rose n (members.faults new)) room.level cause.1;
     crash = appended old mid new entry bytes up room.payloads spelled room.crash run;
   }
 
@@ -107,28 +107,28 @@ module _ {K : Type 0} (members : Ghosts K)
       (λ c now. subst (λ (t : Option (List (List ℕ))). IfSome t (λ ps. WithOrWithout ps bytes c)) same now)
 
   pub rebased_ok : (old mid new : K) (place : ℕ) (bytes : List ℕ) → members.down old ≡ None → Stayed members old mid → crashes.Told (members.told mid) (members.told new) (λ before now. now ≡ before ++ bytes ∷ [])
-      → members.kept new ≡ 0 → members.start new ≡ place → members.form new ≡ members.form mid → members.down new ≡ None → members.faults mid ≤ members.faults new → LeavesOnly members.moment members.left_since mid new (λ c. IfSome (members.told mid) (λ ps. WithOrWithout ps bytes c)) → Rebased members old new place bytes
-  rebased_ok old mid new place bytes up room payloads number first format is_up later run = record {
+      → members.kept new ≡ 0 → members.start new ≡ place → members.form new ≡ members.form mid → members.down new ≡ None → members.faults new ≡ members.faults mid → LeavesOnly members.moment members.left_since mid new (λ c. IfSome (members.told mid) (λ ps. WithOrWithout ps bytes c)) → Rebased members old new place bytes
+  rebased_ok old mid new place bytes up room payloads number first format is_up level run = record {
     payloads = subst (λ (t : Option (List (List ℕ))). crashes.Told t (members.told new) (λ before now. now ≡ before ++ bytes ∷ [])) room.payloads payloads;
     number = number;
     first = first;
     format = format ∙ room.format;
     up = is_up;
-    later = omega (arith, room.later, later);
+    level = level ∙ room.level;
     crash = rebased old mid new bytes up room.payloads room.crash run;
   }
 
-  pub rebase_failed : (old mid new : K) (bytes : List ℕ) → members.down old ≡ None → Stayed members old mid → members.faults mid ≡ members.faults old → crashes.Told (members.told mid) (members.told new) (λ before now. now ≡ before)
+  pub rebase_failed : (old mid new : K) (bytes : List ℕ) → members.down old ≡ None → Stayed members old mid → crashes.Told (members.told mid) (members.told new) (λ before now. now ≡ before)
       → members.kept new ≡ members.kept mid → members.start new ≡ members.start mid → members.form new ≡ members.form mid → members.down new ≡ Some (members.faults new) → members.in_flight new ≡ Some bytes → HasKeepCause {T = Unit {0}} (members.faults mid) (members.faults new) (Err KeepFault.Fault)
       → LeavesOnly members.moment members.left_since mid new (λ c. IfSome (members.told mid) (λ ps. WithOrWithout ps bytes c)) → NotRebased members old new bytes
-  rebase_failed old mid new bytes up room count payloads number first format fallen flies cause run = record {
+  rebase_failed old mid new bytes up room payloads number first format fallen flies cause run = record {
     flies = flies;
     payloads = told_same old mid new room.payloads payloads;
     number = number ∙ room.number;
     first = first ∙ room.first;
     format = format ∙ room.format;
     fallen = fallen;
-    later = omega (arith, room.later, cause.0);
-    rose = subst (λ (n : ℕ). Rose n (members.faults new)) count cause.1;
+    later = subst (λ (n : ℕ). n ≤ members.faults new) room.level cause.0;
+    rose = subst (λ (n : ℕ). Rose n (members.faults new)) room.level cause.1;
     crash = rebased old mid new bytes up room.payloads room.crash run;
   }

@@ -42,7 +42,7 @@ abbrev pub Leaves : {K : Type 0} → Ghosts K → K → K → List LogEntry → 
 Leaves members old new [] = LeavesOnly members.moment members.left_since old new (members.may_leave old)
 Leaves members old new (entry ∷ entries) = LeavesOnly members.moment members.left_since old new (WithOrWithoutAll (members.told old) (entry ∷ entries))
 
--- the entries are behind those before, each acknowledged, and to be read back
+-- the entries are behind those before, each acknowledged, and to be read back, and no call failed
 pub record Grew {K : Type 0} (members : Ghosts K) (old new : K) (logged : List LogEntry) : Type 0 where
   pub payloads : crashes.Told (members.told old) (members.told new) (λ before now. now ≡ before ++ spellings logged)
   pub read : AreReadBack logged
@@ -50,7 +50,7 @@ pub record Grew {K : Type 0} (members : Ghosts K) (old new : K) (logged : List L
   pub first : members.start new ≡ members.start old
   pub format : members.form new ≡ members.form old
   pub up : members.down new ≡ None
-  pub later : members.faults old ≤ members.faults new
+  pub level : members.faults new ≡ members.faults old
   pub crash : Leaves members old new logged
 
 -- the append of the one entry failed: it is in flight, to be read back, and the keeper is down from this count of faults on
@@ -68,7 +68,7 @@ pub record Fell {K : Type 0} (members : Ghosts K) (old new : K) (logged : List L
   pub rose : Rose (members.faults old) (members.faults new)
   pub crash : Leaves members old new logged
 
--- nothing was appended
+-- nothing was appended, and no call failed
 pub record Stayed {K : Type 0} (members : Ghosts K) (old new : K) : Type 0 where
   pub payloads : members.told new ≡ members.told old
   pub number : members.kept new ≡ members.kept old
@@ -76,7 +76,7 @@ pub record Stayed {K : Type 0} (members : Ghosts K) (old new : K) : Type 0 where
   pub format : members.form new ≡ members.form old
   pub fallen : members.down new ≡ members.down old
   pub flies : members.in_flight new ≡ members.in_flight old
-  pub later : members.faults old ≤ members.faults new
+  pub level : members.faults new ≡ members.faults old
   pub crash : LeavesOnly members.moment members.left_since old new (members.may_leave old)
 
 -- ---- checkpoints
@@ -85,14 +85,14 @@ pub record Stayed {K : Type 0} (members : Ghosts K) (old new : K) : Type 0 where
 abbrev pub LeavesBase : {K : Type 0} → Ghosts K → K → K → List ℕ → Type 0
 LeavesBase members old new payload = LeavesOnly members.moment members.left_since old new (λ c. IfSome (members.told old) (λ ps. WithOrWithout ps payload c))
 
--- a checkpoint's payload is behind those before, acknowledged: it is the base, of this place, and no entry stands behind it
+-- a checkpoint's payload is behind those before, acknowledged: it is the base, of this place, and no entry stands behind it; and no call failed
 pub record Rebased {K : Type 0} (members : Ghosts K) (old new : K) (place : ℕ) (payload : List ℕ) : Type 0 where
   pub payloads : crashes.Told (members.told old) (members.told new) (λ before now. now ≡ before ++ payload ∷ [])
   pub number : members.kept new ≡ 0
   pub first : members.start new ≡ place
   pub format : members.form new ≡ members.form old
   pub up : members.down new ≡ None
-  pub later : members.faults old ≤ members.faults new
+  pub level : members.faults new ≡ members.faults old
   pub crash : LeavesBase members old new payload
 
 -- it wasn't kept: it is in flight, and the keeper is down from this count of faults on

@@ -51,7 +51,6 @@ impl Catalogue {
     /// The catalogue after a sweep, at the next place: without the contents of these hashes. It
     /// shares with this one all else.
     pub fn swept(&self, alloc: Global, hashes: &[Hash]) -> Result<Catalogue, NoMemory>
-        requires place { self.now.place < 4294967295 }
         requires log { self.now.place < self.now.limits.log }
         requires spared { IsTrue
             (heads_pass (spares_at self.now.commits hashes.now) self.now.references) }

@@ -164,7 +164,6 @@ impl SharedCatalogue {
 
     /// The catalogue after a sweep, in memory that can be shared.
     fn next_swept(&self, alloc: Global, hashes: &[Hash]) -> Result<Arc<Catalogue>, NoMemory>
-        requires place { self.now.place < 4294967295 }
         requires log { self.now.place < self.now.limits.log }
         requires spared { IsTrue
             (heads_pass (spares_at self.now.commits hashes.now) self.now.references) }
@@ -184,7 +183,6 @@ impl SharedCatalogue {
         entry: &LogEntry,
         hashes: &[Hash],
     ) -> Result<(), Unmade>
-        requires place { self.old.place < 4294967295 }
         requires log { self.old.place < self.old.limits.log }
         requires spared { IsTrue
             (heads_pass (spares_at self.old.commits hashes.now) self.old.references) }
@@ -206,7 +204,6 @@ impl SharedCatalogue {
     /// Puts the catalogue after a sweep in the place of the old one: without the contents of these
     /// hashes; or changes nothing. Views keep the old one.
     pub fn apply_sweep(&mut self, alloc: Global, hashes: &[Hash]) -> Result<(), NoMemory>
-        requires place { self.old.place < 4294967295 }
         requires log { self.old.place < self.old.limits.log }
         requires spared { IsTrue
             (heads_pass (spares_at self.old.commits hashes.now) self.old.references) }

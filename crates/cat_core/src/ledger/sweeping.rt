@@ -20,7 +20,6 @@ impl Ledger {
         entry: LogEntry,
         hashes: &[Hash],
     ) -> Result<(), NoMemory>
-        requires place { self.old.state.place < 4294967295 }
         requires log { self.old.state.place < self.old.state.limits.log }
         requires spared { IsTrue
             (heads_pass (spares_at self.old.state.commits hashes.now) self.old.state.references) }

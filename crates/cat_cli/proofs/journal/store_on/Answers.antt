@@ -10,10 +10,11 @@ use Rattle.cat_keeper.specs.KeeperLaws.{none_flies}
 use Rattle.cat_model.specs.Mark.{Mark}
 use Rattle.cat_cli.specs.declared.unopened.Unopened.{Unopened}
 use Rattle.cat_cli.specs.Opening.{IsReason}
+use Rattle.cat_cli.specs.Surviving.{images_of}
 use Rattle.cat_cli.specs.Unadded.{IsStillSo}
 use Rattle.cat_cli.proofs.Opened.{journal_spared, reason_of_entries, store_spared, stored}
 use Rattle.cat_cli.proofs.Surviving.{spared_keeper, spared_opening}
-use Rattle.cat_cli.proofs.Unspoiled.{are_opened, let_go, shaped, stands_still, unspoiled_unopened}
+use Rattle.cat_cli.proofs.Unspoiled.{are_opened, let_go, shaped, stands_still, unspoiled_unopened, unwritten_of, unwritten_unopened}
 use Rattle.cat_cli.proofs.journal.store_on.Goals as goal
 
 pub returns-in-Err-open-clause-reason : goal.returns-in-Err-open-clause-reason
@@ -94,3 +95,23 @@ returns-in-Err-open-clause-unspoiled g c other =
     let_go g.D.Disk.told g.D.Disk.may_leave g.D.Disk.moment g.D.Disk.left_since g.T.Stood.since g.T.Stood.count g.T.Stood.past g.T.Stood.began g.T.Stood.shape c.args.disk c.requires.stood met.only_now (λ d b told. met.reads_as_image d b told) again (kept_of watched) (flying_of watched) (flies ∙ none_flies _ _ c.in-Ok.ensures.up)
     (are_opened (g.D.Disk.told c.args.disk) (g.D.Disk.told again) (kept_of watched) (rw (sym same) at c.in-Ok.ensures.payloads))
     (subst (λ (d : g.row.D.Denot). IfSome (kept_of watched) (IsStillSo g.T.Stood.since g.T.Stood.count g.T.Stood.past g.T.Stood.began (flying_of watched) (g.D.Disk.moment d) (g.D.Disk.may_leave d) (g.D.Disk.left_since d))) (sym back) c.into_inner-watched.ensures.still)
+
+-- nor was anything where a call of the disk failed, but maybe a part of a new journal where there were no bytes
+pub returns-in-Err-clause-unwritten : goal.returns-in-Err-clause-unwritten
+returns-in-Err-clause-unwritten g c =
+    unwritten_unopened g.D.Disk.told g.D.Disk.may_leave g.D.Disk.moment g.D.Disk.left_since c.args.disk c.in-Err.disk c.in-Err.ensures.unwritten c.in-Err.ensures.empty c.in-Err.ensures.images
+
+pub returns-in-Err-open-clause-unwritten : goal.returns-in-Err-open-clause-unwritten
+returns-in-Err-open-clause-unwritten g c =
+    let met = g.met.D.Disk g.world.𝓛 g.world.𝓜 g.world.𝓡 ((λ s x. x), (λ x. x), (λ x. x), λ x. x) in
+    let kept_of : Journal g.row.D.Denot g.D.Disk → Option (List (List ℕ)) = λ j. option_map (first_payloads (held_count j.points)) (g.D.Disk.told j.disk) in
+    let flying_of : Journal g.row.D.Denot g.D.Disk → Option (List ℕ) = λ j. option_map (λ _. payload_of j.frame.items) j.down in
+    let watched = c.into_inner-watched.result in
+    let again = c.into_disk.result in
+    let same = ap kept_of c.into_inner-watched.ensures.keeper ∙ c.in-Err-open.ensures.stays.payloads ∙ ap kept_of (c.new-still.ensures ∙ c.new-watched.ensures) in
+    let flies = ap flying_of c.into_inner-watched.ensures.keeper ∙ c.in-Err-open.ensures.stays.flies ∙ ap flying_of (c.new-still.ensures ∙ c.new-watched.ensures) in
+    let back = c.into_disk.ensures.disk ∙ ap journal_disk c.into_inner-journal.ensures.keeper in
+    unwritten_of (g.D.Disk.told c.args.disk) (g.D.Disk.told again) (images_of g.D.Disk.may_leave g.D.Disk.moment g.D.Disk.left_since c.args.disk again)
+    (let_go g.D.Disk.told g.D.Disk.may_leave g.D.Disk.moment g.D.Disk.left_since g.T.Stood.since g.T.Stood.count g.T.Stood.past g.T.Stood.began g.T.Stood.shape c.args.disk c.requires.stood met.only_now (λ d b told. met.reads_as_image d b told) again (kept_of watched) (flying_of watched) (flies ∙ none_flies _ _ c.in-Ok.ensures.up)
+    (are_opened (g.D.Disk.told c.args.disk) (g.D.Disk.told again) (kept_of watched) (rw (sym same) at c.in-Ok.ensures.payloads))
+    (subst (λ (d : g.row.D.Denot). IfSome (kept_of watched) (IsStillSo g.T.Stood.since g.T.Stood.count g.T.Stood.past g.T.Stood.began (flying_of watched) (g.D.Disk.moment d) (g.D.Disk.may_leave d) (g.D.Disk.left_since d))) (sym back) c.into_inner-watched.ensures.still))

@@ -1,10 +1,10 @@
-use Rattle.std.proofs.Common.{ℕ, ◌≤◌, refl, sym, subst, ◌∙◌, arith}
+use Rattle.std.proofs.Common.{◌≡◌, ℕ, refl, sym, subst, ◌∙◌, arith}
 use Rattle.cat_io.specs.Causes.{Rose}
 use Rattle.cat_core.specs.Stored.{opened_of}
 use Rattle.cat_cli.specs.Runs.{start}
 use Rattle.cat_serve.specs.Sessions.{journal_by}
 use Rattle.cat_serve.specs.ReadingLaws.{reads_on, some_readings}
-use Rattle.cat_cli.proofs.Left.{began_on, fallen_at, left_so}
+use Rattle.cat_cli.proofs.Left.{began_on, counted_at, fallen_at, left_so, level_at, none_told}
 use Rattle.cat_cli.proofs.Starting.{started}
 use Rattle.cat_cli.proofs.scripting.hold_session.Goals as goal
 
@@ -29,18 +29,19 @@ returns-in-Ok-clause-ends g c b w e f =
       reads_on ends.0 _ _ x.2.session.readings ends.1 x.5,
     )
 
-pub returns-in-Ok-clause-later : goal.returns-in-Ok-clause-later
-returns-in-Ok-clause-later g c =
+pub returns-in-Ok-clause-level : goal.returns-in-Ok-clause-level
+returns-in-Ok-clause-level g c up =
     let store = c.release-store.result in
     let began = began_on c.args.store store _ c.in-Ok.ensures.opened c.release-store.ensures.opened in
-    subst (λ (n : ℕ). n ≤ g.K0.Keeper.faults store.keeper) began c.log_is_kept.ensures.later
+    level_at store.mark.fault (g.K0.Keeper.faults store.keeper) store.opened.faults c.log_is_kept.ensures.level (none_told (g.K0.Keeper.down store.keeper) store.mark.fault c.log_is_kept.ensures.fallen up) ∙ began
 
 pub returns-in-Ok-clause-rose : goal.returns-in-Ok-clause-rose
 returns-in-Ok-clause-rose g c count fell =
     let store = c.release-store.result in
     let began = began_on c.args.store store _ c.in-Ok.ensures.opened c.release-store.ensures.opened in
-    subst (λ (n : ℕ). Rose n count × (count ≤ g.K0.Keeper.faults store.keeper)) began
-    (fallen_at (λ (n : ℕ). Rose store.opened.faults n × (n ≤ g.K0.Keeper.faults store.keeper)) (g.K0.Keeper.down store.keeper) store.mark.fault c.log_is_kept.ensures.fallen c.log_is_kept.ensures.counted count fell)
+    subst (λ (n : ℕ). Rose n count × (count ≡ g.K0.Keeper.faults store.keeper)) began
+    (fallen_at (λ (n : ℕ). Rose store.opened.faults n × (n ≡ g.K0.Keeper.faults store.keeper)) (g.K0.Keeper.down store.keeper) store.mark.fault c.log_is_kept.ensures.fallen
+    (λ x is. ((c.log_is_kept.ensures.rose x is).1, counted_at store.mark.fault (g.K0.Keeper.faults store.keeper) store.opened.faults x c.log_is_kept.ensures.level is)) count fell)
 
 -- the last checkpoint's place is told by what the keeper has
 pub returns-in-Ok-clause-based : goal.returns-in-Ok-clause-based

@@ -13,7 +13,7 @@ returns-in-Ok-ended-clause-served g c =
     _ _ _ _ _ _ (DisksFell (g.O.Disks.refuses c.args.disks.now c.args.path.now) g.O.D.Disk.faults (g.O.Disks.at_path c.back.new.self c.args.path.now) (g.O.Disks.faults c.args.disks.now) (g.O.Disks.faults c.back.new.self))
     (RoseBy (g.O.Disks.faults c.args.disks.now) (g.O.Disks.faults c.back.new.self)) _ _ _ _ (g.O.D.Disk.faults c.serve_on-disk.result.0) c.in-Ok-ended.end _ told.0 c.tell_end.result
     (of_ok _ _ _ _ c.in-Ok-ended.is c.serve_on-disk.ensures.comes) (λ count counted. rose_there _ _ _ _ count c.in-Ok.ensures.cause.stays c.back.ensures.faults counted)
-    (search rules) (λ none. c.back.ensures.level none ∙ c.in-Ok.ensures.cause.stays) told.1 told.2
+    (search rules) (search rules) (λ none. c.back.ensures.level none ∙ c.in-Ok.ensures.cause.stays) told.1 told.2
 
 pub returns-in-Err-clause-served : goal.returns-in-Err-clause-served
 returns-in-Err-clause-served g c =
@@ -21,12 +21,13 @@ returns-in-Err-clause-served g c =
     let stands_is = of_err _ _ _ _ c.in-Err.is c.serve_on-disk.ensures.stands in
     let spared_is = of_err _ _ _ _ c.in-Err.is c.serve_on-disk.ensures.spared in
     let unspoiled_is = of_err _ _ _ _ c.in-Err.is c.serve_on-disk.ensures.unspoiled in
+    let unwritten_is = of_err _ _ _ _ c.in-Err.is c.serve_on-disk.ensures.unwritten in
     let cause_is = of_err _ _ _ _ c.in-Err.is c.serve_on-disk.ensures.cause in
     let level_is = of_err _ _ _ _ c.in-Err.is c.serve_on-disk.ensures.level in
     let untouched_is = of_err _ _ _ _ c.in-Err.is c.serve_on-disk.ensures.untouched in
     inr (refused_back g.O.D.Disk.told g.O.D.Disk.may_leave g.O.D.Disk.moment g.O.D.Disk.left_since (g.O.Disks.at_path c.args.disks.now c.args.path.now) _ (g.O.Disks.at_path c.back.new.self c.args.path.now) c.in-Ok.disk c.serve_on-disk.result.0 (stands_as g.O.D.Disk.told g.O.D.Disk.may_leave g.O.D.Disk.moment g.O.D.Disk.left_since g.O.Disks.handed g.met.O.Disks.handed_tells g.met.O.Disks.handed_leaves g.met.O.Disks.handed_moment (g.O.Disks.at_path c.args.disks.now c.args.path.now) c.in-Ok.disk c.in-Ok.ensures.given) c.in-Ok.ensures.taken c.back.ensures.stands
     (DisksFell (g.O.Disks.refuses c.args.disks.now c.args.path.now) g.O.D.Disk.faults (g.O.Disks.at_path c.back.new.self c.args.path.now) (g.O.Disks.faults c.args.disks.now) (g.O.Disks.faults c.back.new.self)) (g.O.Disks.faults c.back.new.self ≡ g.O.Disks.faults c.args.disks.now) _ _ c.in-Err.why c.refuse-in-Err.result
-    reason_is stands_is spared_is unspoiled_is
+    reason_is stands_is spared_is unspoiled_is unwritten_is
     (λ is. disk_fell _ g.O.D.Disk.faults (g.O.Disks.at_path c.args.disks.now c.args.path.now) _ (g.O.Disks.at_path c.back.new.self c.args.path.now) c.serve_on-disk.result.0 _ _ _ _ c.in-Ok.ensures.taken c.back.ensures.stands refl c.in-Ok.ensures.cause.stays c.back.ensures.faults (rose_first 0 _ refl (cause_is is)))
     (λ other. c.back.ensures.level (level_is other) ∙ c.in-Ok.ensures.cause.stays) untouched_is c.refuse-in-Err.ensures.ends c.refuse-in-Err.ensures.reason c.refuse-in-Err.ensures.told)
 

@@ -1,6 +1,5 @@
 use Rattle.std.specs.Prelude.{◌≡◌}
-use Rattle.cat_state.specs.Kept.{Stayed}
-use Rattle.cat_core.specs.Opening.{IsLedSoFar}
+use Rattle.cat_core.specs.Opening.{IsLedSoFar, WasRead}
 use Rattle.cat_core.specs.Replays.{replayed_from}
 use Rattle.cat_core.specs.Sweeping.{IsFollowed}
 use Rattle.cat_core.proofs.Led.{StartsAt}
@@ -13,6 +12,6 @@ invariant-loop-i g l = record {
   followed : IsFollowed l.replay.drafts.keys l.replay.taken.items l.replay.ledger;
   began : l.replay.start.faults ≡ g.K.Keeper.faults l.keeper;
   first : l.replay.ledger.base.place ≡ g.K.Keeper.start l.fn.keeper;
-  stays : Stayed g.K.Keeper l.fn.keeper l.keeper;
+  stays : WasRead g.K.Keeper l.fn.keeper l.keeper;
   level : g.K.Keeper.faults l.keeper ≡ g.K.Keeper.faults l.fn.keeper;
 }

@@ -68,7 +68,7 @@ loop-worker-preserved g c =
           let d =
           popped_at (λ (k : ℕ) (v : Worker g.row.L.Denot g.row.C.Denot). IsTrue (g.L.Listener.tells c.args.listener.now) → g.L.Listener.waiting v.listener ≡ first_of (drop k dealt)) _ _ _ w
           c.pop.ensures.items is r.2 in (
-            λ x. comes_back_more _ _ _ dealt _ _ _ _ (r.0 x) n.1 (d.1 x ∙ ap (λ (k : ℕ). first_of (drop k dealt)) long) less (t.rejoined (here x) (some x)),
+            λ x. comes_back_more _ _ _ dealt _ _ _ _ _ (r.0 x) n.1 (d.1 x ∙ ap (λ (k : ℕ). first_of (drop k dealt)) long) less (t.rejoined (here x) (some x)),
             n.0,
             d.0,
           );
@@ -99,7 +99,7 @@ loop-worker-preserved g c =
 pub returns-clause-unserved : goal.returns-clause-unserved
 returns-clause-unserved g c dealt none waits t =
     let all : vec_len c.loop-worker.others ≡ 0 = search rules in
-    subst (λ (k : ℕ). ComesBack (drop k dealt) (g.L.Listener.rejoined c.args.listener.now) (g.L.Listener.rejoined c.loop-worker.listener)) all ((c.loop-worker.invariant.unserved dealt none waits).0 t)
+    subst (λ (k : ℕ). ComesBack (drop k dealt) (drop (vec_len c.args.others) dealt) (g.L.Listener.rejoined c.args.listener.now) (g.L.Listener.rejoined c.loop-worker.listener)) all ((c.loop-worker.invariant.unserved dealt none waits).0 t)
 
 pub returns-clause-grows : goal.returns-clause-grows
 returns-clause-grows g c = c.loop-worker.invariant.grows

@@ -20,7 +20,7 @@ invariant-loop-worker g l = record {
   taken : (number : ℕ) → HasNumber number l.fn.pass → TakenIn number l.fn.pass l.pass;
   idle : (p : Pass) → Remembers p l.fn.pass → All (IsIdle {L = g.row.L.Denot} {C = g.row.C.Denot} p) l.fn.others.items → Remembers p l.pass × (l.failed ≡ false) × All (IsIdle {L = g.row.L.Denot} {C = g.row.C.Denot} p) l.others.items;
   unserved : (dealt : List (List _)) → All (HasNone g.L.Listener.returned) l.fn.others.items → AreDealt g.L.Listener.waiting (g.L.Listener.tells l.fn.listener) dealt l.fn.others.items
-      → (IsTrue (g.L.Listener.tells l.fn.listener) → ComesBack (drop (vec_len l.others) dealt) (g.L.Listener.rejoined l.fn.listener) (g.L.Listener.rejoined l.listener))
+      → (IsTrue (g.L.Listener.tells l.fn.listener) → ComesBack (drop (vec_len l.others) dealt) (drop (vec_len l.fn.others) dealt) (g.L.Listener.rejoined l.fn.listener) (g.L.Listener.rejoined l.listener))
       × All (HasNone g.L.Listener.returned) l.others.items × AreDealt g.L.Listener.waiting (g.L.Listener.tells l.fn.listener) dealt l.others.items;
   back : (attempts number : ℕ) (ahead : Option Readings) (p : Pass) (dealt : List (List _))
       → AreDone (ends_of g.L.In.Source.left g.L.In.Source.faults g.L.Out.Sink.held g.L.Out.Sink.faults) l.fn.desk attempts g.L.Listener.waiting g.L.Listener.returned g.L.Listener.faults (g.L.Listener.tells l.fn.listener) ahead p dealt

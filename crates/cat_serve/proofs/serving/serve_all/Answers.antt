@@ -17,8 +17,9 @@ returns-then-not-hire_all-clause-none g c is =
       λ t. (
         c.dismiss.ensures.own.waiting ∙ c.hire_all.ensures.own.waiting,
         c.dismiss.ensures.own.returned ∙ c.hire_all.ensures.own.returned,
-        subst (λ (groups : List (List _)). ComesBack (g.L.Listener.dealt c.args.listener.now) groups (g.L.Listener.rejoined c.dismiss.new.listener)) c.hire_all.ensures.rejoined
-            (back (subst (λ (b : Bool). IsTrue b) (sym tells) t)),
+        subst (λ (left : List (List _)). ComesBack (g.L.Listener.dealt c.args.listener.now) left (g.L.Listener.rejoined c.args.listener.now) (g.L.Listener.rejoined c.dismiss.new.listener)) (sym (c.dismiss.ensures.dealt ∙ c.hire_all.ensures.rest t))
+            (subst (λ (groups : List (List _)). ComesBack (g.L.Listener.dealt c.args.listener.now) (drop (vec_len c.hire_all.new.others) (g.L.Listener.dealt c.args.listener.now)) groups (g.L.Listener.rejoined c.dismiss.new.listener)) c.hire_all.ensures.rejoined
+            (back (subst (λ (b : Bool). IsTrue b) (sym tells) t))),
       ),
     )
 
@@ -51,5 +52,5 @@ returns-clause-serves g c some =
     (w.done (g.L.Listener.tells c.work-own_failed.new.listener) (g.C.Clock.ahead c.args.clock.now) c.args.pass.now (g.L.Listener.dealt c.args.listener.now) hired dealt)
     (w.numbered (first_split c.args.pass.now) c.hire_all.ensures.numbered))
     (rose_of _ _ _ _ _ (subst (λ (n : ℕ). Counts c.work-own_failed.result n (g.L.Listener.faults c.work-own_failed.new.listener)) c.hire_all.ensures.faults w.counts) d.counts)
-    (λ t. d.dealt ∙ w.others.dealt ∙ c.hire_all.ensures.rest all t ∙ ap (λ (n : ℕ). drop n (g.L.Listener.dealt c.args.listener.now)) (sym w.len)) count
+    (λ t. d.dealt ∙ w.others.dealt ∙ c.hire_all.ensures.rest t ∙ ap (λ (n : ℕ). drop n (g.L.Listener.dealt c.args.listener.now)) (sym w.len)) count
     c.hire_all.ensures.stands.tells tells c.hire_all.ensures.own.waiting d.own.waiting c.hire_all.ensures.own.returned d.own.returned (w.others.rejoined ∙ c.hire_all.ensures.rejoined)

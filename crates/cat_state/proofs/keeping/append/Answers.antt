@@ -1,4 +1,4 @@
-use Rattle.std.proofs.Common.{Err, sym, ap, ◌∙◌, arith}
+use Rattle.std.proofs.Common.{Err, sym, ap, ◌∙◌}
 use Rattle.std.proofs.lemmas.Result.{err_from_is_err_and}
 use Rattle.cat_io.specs.Crashes.{none_is_not_some}
 use Rattle.cat_state.proofs.Appended.{append_failed, appended_ok, stays}
@@ -14,18 +14,18 @@ returns-in_err-bytes-clause-keeps g c = let p = err_from_is_err_and c.from_resid
 pub returns-in_err-reserve-clause-keeps : goal.returns-in_err-reserve-clause-keeps
 returns-in_err-reserve-clause-keeps g c =
     let p = err_from_is_err_and c.from_residual-in_err-reserve.result c.from_residual-in_err-reserve.ensures.1 in
-    rw (p.1, p.2) (record { payloads = c.in_err-reserve.ensures.told; number = c.in_err-reserve.ensures.kept; first = c.in_err-reserve.ensures.first; format = c.in_err-reserve.ensures.format; fallen = c.in_err-reserve.ensures.down; flies = c.in_err-reserve.ensures.in_flight; later = omega (arith, c.in_err-reserve.ensures.faults); crash = c.in_err-reserve.ensures.time })
+    rw (p.1, p.2) (record { payloads = c.in_err-reserve.ensures.told; number = c.in_err-reserve.ensures.kept; first = c.in_err-reserve.ensures.first; format = c.in_err-reserve.ensures.format; fallen = c.in_err-reserve.ensures.down; flies = c.in_err-reserve.ensures.in_flight; level = c.in_err-reserve.ensures.faults; crash = c.in_err-reserve.ensures.time })
 
 pub returns-in-Ok-clause-keeps : goal.returns-in-Ok-clause-keeps
 returns-in-Ok-clause-keeps g c =
     appended_ok g.K.Keeper (g.met.K.Keeper g.world.𝓛 g.world.𝓜 g.world.𝓡 ((λ s x. x), (λ x. x), (λ x. x), λ x. x)).safe (g.met.K.Keeper g.world.𝓛 g.world.𝓜 g.world.𝓡 ((λ s x. x), (λ x. x), (λ x. x), λ x. x)).only_now c.args.keeper.now c.reserve.new.self c.append.new.self c.args.entry.now c.in_ok-bytes.bytes c.requires.up
-    (record { payloads = c.in_ok-reserve.ensures.told; number = c.in_ok-reserve.ensures.kept; first = c.in_ok-reserve.ensures.first; format = c.in_ok-reserve.ensures.format; fallen = c.in_ok-reserve.ensures.down; flies = c.in_ok-reserve.ensures.in_flight; later = omega (arith, c.in_ok-reserve.ensures.faults); crash = c.in_ok-reserve.ensures.time })
-    c.in_ok-bytes.ensures.spelled c.in_ok-bytes.ensures.again (rw c.as_slice-payload.ensures at c.in-Ok.ensures.added) c.in-Ok.ensures.kept c.in-Ok.ensures.first c.in-Ok.ensures.format c.in-Ok.ensures.up (omega (arith, c.in-Ok.ensures.cause)) (rw c.as_slice-payload.ensures at c.in-Ok.ensures.any_moment (c.in_ok-reserve.ensures.down ∙ c.requires.up))
+    (record { payloads = c.in_ok-reserve.ensures.told; number = c.in_ok-reserve.ensures.kept; first = c.in_ok-reserve.ensures.first; format = c.in_ok-reserve.ensures.format; fallen = c.in_ok-reserve.ensures.down; flies = c.in_ok-reserve.ensures.in_flight; level = c.in_ok-reserve.ensures.faults; crash = c.in_ok-reserve.ensures.time })
+    c.in_ok-bytes.ensures.spelled c.in_ok-bytes.ensures.again (rw c.as_slice-payload.ensures at c.in-Ok.ensures.added) c.in-Ok.ensures.kept c.in-Ok.ensures.first c.in-Ok.ensures.format c.in-Ok.ensures.up c.in-Ok.ensures.cause (rw c.as_slice-payload.ensures at c.in-Ok.ensures.any_moment (c.in_ok-reserve.ensures.down ∙ c.requires.up))
 
 pub returns-in-Err-Fault-clause-keeps : goal.returns-in-Err-Fault-clause-keeps
 returns-in-Err-Fault-clause-keeps g c =
     let failed = c.in-Err-Fault.ensures.failed (ap Err c.in-Err-Fault.field-0-is) in
     append_failed g.K.Keeper (g.met.K.Keeper g.world.𝓛 g.world.𝓜 g.world.𝓡 ((λ s x. x), (λ x. x), (λ x. x), λ x. x)).safe (g.met.K.Keeper g.world.𝓛 g.world.𝓜 g.world.𝓡 ((λ s x. x), (λ x. x), (λ x. x), λ x. x)).only_now c.args.keeper.now c.reserve.new.self c.append.new.self c.args.entry.now c.in_ok-bytes.bytes c.requires.up
-    (record { payloads = c.in_ok-reserve.ensures.told; number = c.in_ok-reserve.ensures.kept; first = c.in_ok-reserve.ensures.first; format = c.in_ok-reserve.ensures.format; fallen = c.in_ok-reserve.ensures.down; flies = c.in_ok-reserve.ensures.in_flight; later = omega (arith, c.in_ok-reserve.ensures.faults); crash = c.in_ok-reserve.ensures.time })
-    c.in_ok-reserve.ensures.faults c.in_ok-bytes.ensures.spelled c.in_ok-bytes.ensures.again c.in-Err-Fault.ensures.not_added c.in-Err-Fault.ensures.not_kept c.in-Err-Fault.ensures.first c.in-Err-Fault.ensures.format failed.1 (rw c.as_slice-payload.ensures at failed.2)
+    (record { payloads = c.in_ok-reserve.ensures.told; number = c.in_ok-reserve.ensures.kept; first = c.in_ok-reserve.ensures.first; format = c.in_ok-reserve.ensures.format; fallen = c.in_ok-reserve.ensures.down; flies = c.in_ok-reserve.ensures.in_flight; level = c.in_ok-reserve.ensures.faults; crash = c.in_ok-reserve.ensures.time })
+    c.in_ok-bytes.ensures.spelled c.in_ok-bytes.ensures.again c.in-Err-Fault.ensures.not_added c.in-Err-Fault.ensures.not_kept c.in-Err-Fault.ensures.first c.in-Err-Fault.ensures.format failed.1 (rw c.as_slice-payload.ensures at failed.2)
     (rw c.in-Err-Fault.field-0-is at c.in-Err-Fault.ensures.cause) (rw c.as_slice-payload.ensures at c.in-Err-Fault.ensures.any_moment (c.in_ok-reserve.ensures.down ∙ c.requires.up))

@@ -7,10 +7,6 @@ overflow_add-place c =
     let below : c.args.self.now.ledger.state.place < 4294967295 = place_below c.args.self.now.ledger c.args.entry c.args.hashes.items c.requires.removes c.limits.result (rw c.catalogue-catalogue.ensures at c.limits.ensures.value) c.limits.ensures.log in
     rw (c.place-place.ensures, c.catalogue-catalogue.ensures) (omega (arith, below))
 
-pub sweep_again-requires-clause-place : goal.sweep_again-requires-clause-place
-sweep_again-requires-clause-place c =
-    place_below c.args.self.now.ledger c.args.entry c.args.hashes.items c.requires.removes c.limits.result (rw c.catalogue-catalogue.ensures at c.limits.ensures.value) c.limits.ensures.log
-
 pub sweep_again-requires-clause-log : goal.sweep_again-requires-clause-log
 sweep_again-requires-clause-log c = has_place c.args.self.now.ledger.state c.requires.removes.sweep c.requires.removes.room
 

@@ -30,7 +30,7 @@ returns-in-Ok g c =
     let laws = g.met.K.Keeper g.world.𝓛 g.world.𝓜 g.world.𝓡 ((λ s x. x), (λ x. x), (λ x. x), λ x. x) in
     settled_done g.K.Keeper laws.safe laws.only_now
     c.args.self.now _ c.args.draft c.args.built c.args.moment (up_seen g.K.Keeper.down g.K.Keeper.in_flight laws.flies laws.waits c.self.inside.fallen _ _ c.self.view_is c.self.invariant.0.fallen refl)
-    c.close-call.new.self (search rules) (search rules) c.in-Ok.told (search rules)
+    (search rules) c.close-call.new.self (search rules) (search rules) c.in-Ok.told (search rules)
 
 pub returns-after-is_expired : goal.returns-after-is_expired
 returns-after-is_expired g c =
@@ -39,9 +39,9 @@ returns-after-is_expired g c =
       | then-is_expired w ↦
           settled_expired g.K.Keeper laws.safe laws.only_now
           c.args.self.now c.if-is_expired.self c.args.draft c.args.built c.args.moment (up_seen g.K.Keeper.down g.K.Keeper.in_flight laws.flies laws.waits c.self.inside.fallen _ _ c.self.view_is c.self.invariant.0.fallen refl)
-          c.close-call.new.self c.is_built_now.ensures.on (search rules) c.in-Err-make.refused c.make.new.self (sym c.is_expired.ensures ∙ w.if-is_expired.true) (search rules) (search rules)
+          (search rules) c.close-call.new.self c.is_built_now.ensures.on (search rules) c.in-Err-make.refused c.make.new.self (sym c.is_expired.ensures ∙ w.if-is_expired.true) (search rules) (search rules)
       | else-is_expired w ↦
           settled_unmade g.K.Keeper laws.safe laws.only_now
           c.args.self.now c.if-is_expired.self c.args.draft c.args.built c.args.moment (up_seen g.K.Keeper.down g.K.Keeper.in_flight laws.flies laws.waits c.self.inside.fallen _ _ c.self.view_is c.self.invariant.0.fallen refl)
-          c.close-call.new.self c.is_built_now.ensures.on (search rules) c.in-Err-make.refused (sym c.is_expired.ensures ∙ w.if-is_expired.false) (search rules)
+          (search rules) c.close-call.new.self c.is_built_now.ensures.on (search rules) c.in-Err-make.refused (sym c.is_expired.ensures ∙ w.if-is_expired.false) (search rules)
     ]

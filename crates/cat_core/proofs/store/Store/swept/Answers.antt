@@ -16,7 +16,7 @@ returns-in-Ok g c = λ o is.
     let laws = g.met.K.Keeper g.world.𝓛 g.world.𝓜 g.world.𝓡 ((λ s x. x), (λ x. x), (λ x. x), λ x. x) in
     ended_made g.K.Keeper laws.safe laws.only_now c.args.self.now c.collect.new.self o c.args.moment
     (up_seen g.K.Keeper.down g.K.Keeper.in_flight laws.flies laws.waits c.self.inside.fallen _ _ c.self.view_is c.self.invariant.0.fallen refl)
-    c.shut-closing.new.self c.shut-closing.result c.collect.result (drops_it c.args.self.now c.shut-closing.new.self _ o is c.shut-closing.ensures.shut) (closes_it _ o c.shut-closing.result is c.shut-closing.ensures.closing) c.collect.ensures
+    (search rules) c.shut-closing.new.self c.shut-closing.result c.collect.result (drops_it c.args.self.now c.shut-closing.new.self _ o is c.shut-closing.ensures.shut) (closes_it _ o c.shut-closing.result is c.shut-closing.ensures.closing) c.collect.ensures
 
 pub returns-in-Err : goal.returns-in-Err
 returns-in-Err g c = λ o is.

@@ -1,9 +1,14 @@
-use Rattle.std.proofs.Common.{◌<◌, IsTrue, sym, subst}
+use Rattle.std.proofs.Common.{◌<◌, IsTrue, sym, subst, arith}
 use Rattle.cat_tables.specs.References.{heads_pass}
 use Rattle.cat_model.specs.State.{State}
 use Rattle.cat_state.specs.Sweeping.{spares_at}
 use Rattle.cat_state.proofs.Made.{catalogue_swept}
 use Rattle.cat_state.proofs.catalogue.Catalogue.swept.Goals as goal
+
+pub overflow_add-result : goal.overflow_add-result
+overflow_add-result c =
+    let log : c.self.inside.place < c.self.inside.limits.log = subst (λ (s : State). s.place < s.limits.log) (sym c.self.view_is) c.requires.log in
+    omega (arith, log, c.self.invariant.log_bound)
 
 pub invariant_of-result : goal.invariant_of-result
 invariant_of-result c =
